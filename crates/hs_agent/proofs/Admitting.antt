@@ -1,21 +1,15 @@
 -- The bucket of a trigger's id admits what the model admits, and the trigger is noted.
 use Rattle.std.proofs.Common.{◌≡◌, ℕ, ◌+◌, Bool, true, false, cond, ◌∷◌, Option, Some, None, nat_le, refl, sym, ap, subst, ◌∙◌, true≢false}
-use Rattle.std.specs.Option.{option_map, option_map_or}
+use Rattle.hs_agent.proofs.Prelude.{option_map, option_map_or, Trigger, PlainSettings, Remembered, Pinning, Remembers, AgentState, admits, note_trigger, count_admitted, ArrivalPlace, Kept, Holds, Point, RemembersAs, with_state}
 use Rattle.hs_base.specs.declared.limits.TheConstants.{TOKEN}
 use Rattle.hs_base.specs.declared.settings.TriggerRule.{TriggerRule}
-use Rattle.hs_base.specs.declared.told.Trigger.{Trigger}
-use Rattle.hs_records.specs.Plain.{PlainSettings}
 use Rattle.hs_pins.specs.declared.claim.Admitted.{Admitted}
 use Rattle.hs_pins.specs.declared.claim.Admitted.TheVariants as admissions
 use Rattle.hs_pins.specs.declared.bucket.Attempt.TheVariants as attempts
 use Rattle.hs_pins.specs.Buckets.{level_found, attempted}
-use Rattle.hs_pins.specs.Remembered.{Remembered, admission, answered, tried_at, admitted_after}
+use Rattle.hs_pins.specs.Remembered.{admission, answered, tried_at, admitted_after}
 use Rattle.hs_pins.specs.Remembered as pins
-use Rattle.hs_pins.specs.PinsLayout.{Pinning, Remembers}
-use Rattle.hs_law_agent.specs.State.{AgentState}
-use Rattle.hs_law_agent.specs.Stepping.{rule_of, admits, note_trigger, count_admitted}
-use Rattle.hs_agent.specs.declared.placed.ArrivalPlace.{ArrivalPlace}
-use Rattle.hs_agent.specs.Keeping.{Kept, Holds, Point, RemembersAs, with_state}
+use Rattle.hs_law_agent.specs.Stepping.{rule_of}
 
 -- whether the bucket admitted
 abbrev pub is_admitted : Admitted → Bool

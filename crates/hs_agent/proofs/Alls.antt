@@ -1,6 +1,6 @@
 -- What holds of each item of a list.
 use Rattle.std.proofs.Common.{◌≡◌, Bool, true, false, cond, List, [], ◌∷◌, filter, refl}
-use Rattle.std.specs.List.{AllByRecursion}
+use Rattle.hs_agent.proofs.Prelude.{AllByRecursion}
 
 module _ {X : Type 0} where
   -- what a test keeps

@@ -1,11 +1,9 @@
 -- The sheets that an input brings.
 use Rattle.std.proofs.Common.{◌≡◌, map, refl}
+use Rattle.hs_agent.proofs.Prelude.{Took, Input, sheet_in, input_of}
 use Rattle.hs_law_agent.specs.Laws.{brought_by}
-use Rattle.hs_law_agent.specs.Stepping.{Took}
-use Rattle.hs_agent.specs.declared.input.Input.{Input}
 use Rattle.hs_agent.specs.declared.input.Input.TheVariants as inputs
-use Rattle.hs_agent.specs.Points.{sheet_in}
-use Rattle.hs_agent.specs.Runs.{buffers_in, input_of}
+use Rattle.hs_agent.specs.Runs.{buffers_in}
 
 -- the pages that an input brings
 pub sheets_brought : {g : _} (input : Input (Unit {0}) g) → map sheet_in (buffers_in input) ≡ brought_by (Took (input_of input))

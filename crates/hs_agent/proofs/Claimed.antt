@@ -1,25 +1,7 @@
 -- What is kept after a trace was claimed is what the model says then.
 use Rattle.std.proofs.Common.{◌≡◌, ℕ, ◌+◌, ◌≤◌, ◌<◌, Bool, true, false, cond, not, ◌||◌, List, [], ◌∷◌, ◌++◌, length, map, Option, Some, None, refl, sym, ap, subst, ◌∙◌, arith}
-use Rattle.std.specs.Prelude.{filter_map, find}
-use Rattle.std.specs.List.{AllByRecursion}
-use Rattle.std.specs.Option.{option_map_or}
-use Rattle.std.proofs.lemmas.List.{map-append, length-map, length-append}
-use Rattle.std.proofs.lemmas.Simd.{map-map}
-use Rattle.hs_lists.proofs.Alls.{all_weaker, all_append, all_front, all_back, all_map, all_unmap}
-use Rattle.hs_base.specs.declared.ids.TraceId.{TraceId}
-use Rattle.hs_base.specs.declared.told.Ask.{Ask}
-use Rattle.hs_base.specs.declared.told.Group.{Group}
-use Rattle.hs_pins.specs.Remembered.{Claim, Pin, Remembered, claim_of, is_claim_of, claimed, pin_for}
-use Rattle.hs_pins.specs.PinsLayout.{Pinning, Remembers}
-use Rattle.hs_index.specs.Index.{Indexed, Noted, is_of, nothing, noted_of, others, chunks_left, count_chunks}
+use Rattle.hs_agent.proofs.Prelude.{filter_map, find, AllByRecursion, option_map_or, map-append, length-map, length-append, map-map, all_weaker, all_append, all_front, all_back, all_map, all_unmap, TraceId, Ask, Group, Claim, Pin, Remembered, claim_of, is_claim_of, claimed, pin_for, Pinning, Remembers, Indexed, Noted, is_of, nothing, noted_of, others, chunks_left, count_chunks, AgentState, ClaimedTrace, is_claimed, Pinned, moved, indexed_places, pinned_for, Taken, page_standing, claim_note, bytes_at, claim_trace, claim_unclaimed, ArrivalPlace, Placed, place_of, Kept, Holds, HasPage, IsKept, RemembersAs, Point, with_state, pinned_place, plain_claim, waiting_chunks, all_held}
 use Rattle.hs_index.specs.Index as index
-use Rattle.hs_law_agent.specs.State.{AgentState, ClaimedTrace, is_claimed}
-use Rattle.hs_law_agent.specs.Standings.{Pinned, moved, indexed_places, pinned_for, Taken}
-use Rattle.hs_law_agent.specs.Books.{page_standing, claim_note, bytes_at}
-use Rattle.hs_law_agent.specs.Claiming.{claim_trace, claim_unclaimed}
-use Rattle.hs_agent.specs.declared.placed.ArrivalPlace.{ArrivalPlace}
-use Rattle.hs_agent.specs.Placing.{Placed, place_of}
-use Rattle.hs_agent.specs.Keeping.{Kept, Holds, HasPage, IsKept, RemembersAs, Point, with_state, pinned_place, plain_claim, waiting_chunks, all_held}
 use Rattle.hs_agent.proofs.Indexing.{indexed-claimed, count-others}
 use Rattle.hs_agent.proofs.Moved.{sheets, sheets-moved, length-same, pages-same, has_page-same}
 use Rattle.hs_agent.proofs.Moving.{pinned_for-leaving, pinned_for-taken, standings-taken}

@@ -1,26 +1,8 @@
 -- After a group has claimed, its lead and its laterals are claimed.
 use Rattle.std.proofs.Common.{◌≡◌, ◌≤◌, ℕ, suc, zero, length, take, slice_get, Bool, true, false, cond, ◌||◌, List, [], ◌∷◌, map, fold, Option, Some, None, IsSome, refl, sym, ap, subst, ◌∙◌}
-use Rattle.std.specs.Prelude.{find}
-use Rattle.std.specs.List.{AllByRecursion, list_any}
-use Rattle.std.specs.Option.{option_map_or}
+use Rattle.hs_agent.proofs.Prelude.{find, AllByRecursion, list_any, option_map_or, all_weaker, TraceId, Ask, same_trace, PlainSettings, Claim, Remembered, claim_of, Remembers, drops, relieved, ArrivalPlace, let_go_all, abandoned_going, claimed_for, AgentState, ClaimedTrace, is_claimed, claim_trace, claim_unclaimed, claim_each, traces_of, claim_for, same_trace-refl, Kept, Holds, Point, with_state, plain_claim}
 use Rattle.std.proofs.lemmas.List.Folds.{list_any-append}
-use Rattle.hs_lists.proofs.Alls.{all_weaker}
 use Rattle.hs_lists.proofs.Parts.{take_whole}
-use Rattle.hs_base.specs.declared.ids.TraceId.{TraceId}
-use Rattle.hs_base.specs.declared.told.Ask.{Ask}
-use Rattle.hs_base.specs.Ids.{same_trace}
-use Rattle.hs_records.specs.Plain.{PlainSettings}
-use Rattle.hs_pins.specs.Remembered.{Claim, Remembered, claim_of}
-use Rattle.hs_pins.specs.PinsLayout.{Remembers}
-use Rattle.hs_pins.specs.Abandoning.{drops, relieved}
-use Rattle.hs_agent.specs.declared.placed.ArrivalPlace.{ArrivalPlace}
-use Rattle.hs_agent.specs.LettingGo.{let_go_all, abandoned_going}
-use Rattle.hs_agent.specs.Points.{claimed_for}
-use Rattle.hs_law_agent.specs.State.{AgentState, ClaimedTrace, is_claimed}
-use Rattle.hs_law_agent.specs.Claiming.{claim_trace, claim_unclaimed, claim_each, traces_of}
-use Rattle.hs_law_agent.specs.Stepping.{claim_for}
-use Rattle.hs_law_agent.proofs.Traces.{same_trace-refl}
-use Rattle.hs_agent.specs.Keeping.{Kept, Holds, Point, with_state, plain_claim}
 use Rattle.hs_agent.proofs.Claimed.{claimed-plain}
 use Rattle.hs_agent.proofs.Unchanged.{abandon-keeps}
 use Rattle.hs_agent.proofs.Relieving.{holds-abandoned}

@@ -1,23 +1,9 @@
 -- The nodes that a message names are those to which a crumb of one of its traces leads.
 use Rattle.std.proofs.Common.{◌≡◌, ℕ, Bool, true, false, cond, ◌||◌, ◌&&◌, List, [], ◌∷◌, filter, fold, Option, Some, None, nat_eq, eq-eqb, refl, sym, ap, ◌∙◌, true≢false}
-use Rattle.std.specs.List.{list_any, AllByRecursion}
-use Rattle.std.specs.Option.{option_map, option_map_or, IsSome}
-use Rattle.std.proofs.Math.Bool.{or-true, or-false, and-false}
-use Rattle.std.proofs.lemmas.Bool.{eqb-true}
-use borrow.Author.Tests.{ne_eqb}
+use Rattle.hs_agent.proofs.Prelude.{list_any, AllByRecursion, option_map, option_map_or, IsSome, or-true, or-false, eqb-true, ne_eqb, TraceId, NodeSet, Crumb, has_node, no_nodes, with_node, has-no_nodes, has-with_node, same_trace, Claim, claim_of, Indexed, noted_of, same_crumb, has_crumb, crumb_nodes, ArrivalPlace, crumbs_known}
+use Rattle.std.proofs.Math.Bool.{and-false}
 use Rattle.hs_lists.proofs.Bools.{or_assoc}
-use Rattle.hs_base.specs.declared.ids.TraceId.{TraceId}
-use Rattle.hs_base.specs.declared.node_set.NodeSet.{NodeSet}
-use Rattle.hs_base.specs.declared.told.Crumb.{Crumb}
-use Rattle.hs_base.specs.NodeSets.{has_node, no_nodes, with_node}
-use Rattle.hs_base.specs.NodeSetLaws.{has-no_nodes, has-with_node}
-use Rattle.hs_base.specs.Ids.{same_trace}
-use Rattle.hs_pins.specs.Remembered.{Claim, claim_of}
 use Rattle.hs_pins.specs.Remembered as pins
-use Rattle.hs_index.specs.Index.{Indexed, noted_of}
-use Rattle.hs_law_agent.specs.Messages.{same_crumb, has_crumb, crumb_nodes}
-use Rattle.hs_agent.specs.declared.placed.ArrivalPlace.{ArrivalPlace}
-use Rattle.hs_agent.specs.Keeping.{crumbs_known}
 
 abbrev crumb_to : TraceId → ℕ → Crumb
 crumb_to trace node = record { trace = trace; node = record { 0 = node } }

@@ -1,36 +1,11 @@
 -- What is kept after a crumb came is what the model says then, before anything has to give way.
 use Rattle.std.proofs.Common.{◌≡◌, ℕ, ◌+◌, ◌≤◌, ◌<◌, Bool, true, false, cond, not, ◌||◌, ◌&&◌, List, [], ◌∷◌, ◌++◌, length, map, Option, Some, None, nat_eq, refl, sym, ap, subst, ◌∙◌, arith}
-use Rattle.std.specs.Prelude.{find}
-use Rattle.std.specs.List.{AllByRecursion}
-use Rattle.std.specs.Option.{option_map, option_map_or, option_and_then, is_some}
-use Rattle.std.proofs.Math.Bool.{or-false}
-use Rattle.std.proofs.lemmas.Bool.{true≢false}
-use Rattle.hs_lists.proofs.Bools.{by_answer}
-use Rattle.hs_lists.proofs.Alls.{all_weaker, all_append, all_front, all_back}
-use Rattle.hs_base.specs.declared.ids.TraceId.{TraceId}
-use Rattle.hs_base.specs.declared.ids.NodeId.{NodeId}
-use Rattle.hs_base.specs.declared.node_set.NodeSet.{NodeSet}
-use Rattle.hs_base.specs.declared.told.Crumb.{Crumb}
-use Rattle.hs_base.specs.declared.told.Told.{Told}
-use Rattle.hs_base.specs.NodeSets.{has_node, with_node}
-use Rattle.hs_base.specs.NodeSetLaws.{has-with_node}
-use Rattle.hs_base.specs.Ids.{same_trace}
-use Rattle.hs_pins.specs.Remembered.{Claim, Pin, Remembered, claim_of, is_claim_of, crumbed}
+use Rattle.hs_agent.proofs.Prelude.{find, AllByRecursion, option_map, option_map_or, option_and_then, is_some, or-false, true≢false, by_answer, all_weaker, all_append, all_front, all_back, TraceId, NodeId, NodeSet, Crumb, Told, has_node, with_node, has-with_node, same_trace, Claim, Pin, Remembered, claim_of, is_claim_of, crumbed, Pinning, Remembers, Index, Indexed, Noted, noted_of, touch, chunks_left, AgentState, ClaimedTrace, indexed_places, indexed_count, has_crumb, same_crumb, with_crumb, late_of, with_touched, late_crumb, tell_late, take_crumb, evict, same_trace-true, same_trace-refl, ArrivalPlace, Placed, Kept, Holds, IsKept, HasPage, IsIndexed, Point, with_state, plain_claim, waiting_chunks, crumbs_known, crumb_taken}
 use Rattle.hs_pins.specs.Remembered as pins
-use Rattle.hs_pins.specs.PinsLayout.{Pinning, Remembers}
-use Rattle.hs_index.specs.Index.{Index, Indexed, Noted, noted_of, touch, chunks_left}
 use Rattle.hs_index.specs.Index as index
-use Rattle.hs_law_agent.specs.State.{AgentState, ClaimedTrace}
 use Rattle.hs_law_agent.specs.State as model
-use Rattle.hs_law_agent.specs.Standings.{indexed_places, indexed_count}
-use Rattle.hs_law_agent.specs.Messages.{has_crumb, same_crumb, with_crumb, late_of, say}
-use Rattle.hs_law_agent.specs.Stepping.{with_touched, late_crumb, tell_late, remember, take_crumb}
-use Rattle.hs_law_agent.specs.Evicting.{evict}
-use Rattle.hs_law_agent.proofs.Traces.{same_trace-true, same_trace-refl}
-use Rattle.hs_agent.specs.declared.placed.ArrivalPlace.{ArrivalPlace}
-use Rattle.hs_agent.specs.Placing.{Placed}
-use Rattle.hs_agent.specs.Keeping.{Kept, Holds, IsKept, HasPage, IsIndexed, Point, with_state, plain_claim, waiting_chunks, crumbs_known}
-use Rattle.hs_agent.specs.Points.{crumb_taken}
+use Rattle.hs_law_agent.specs.Messages.{say}
+use Rattle.hs_law_agent.specs.Stepping.{remember}
 use Rattle.hs_agent.proofs.Arrived.{all-touched}
 use Rattle.hs_agent.proofs.Claimed.{all-noted}
 use Rattle.hs_agent.proofs.CrumbSets.{known-claimed}

@@ -1,28 +1,9 @@
 -- That what the index lets go, and what it keeps, is what the model does.
 use Rattle.std.proofs.Common.{◌≡◌, ℕ, ◌+◌, ◌≤◌, Bool, true, false, cond, ◌||◌, List, [], ◌∷◌, ◌++◌, length, map, fold, Option, Some, None, nat_lt, refl, sym, ap, subst, ◌∙◌, arith, append-nil}
-use Rattle.std.specs.Prelude.{find}
-use Rattle.std.specs.List.{AllByRecursion}
-use Rattle.std.specs.Option.{option_map_or}
-use Rattle.std.proofs.lemmas.List.{append_assoc, map-append, length-map}
-use Rattle.std.proofs.lemmas.List.Sums.{fold-append, sum_by-cons}
-use Rattle.std.proofs.lemmas.Simd.{map-map}
-use Rattle.hs_lists.proofs.Alls.{all_append, all_front, all_back}
+use Rattle.hs_agent.proofs.Prelude.{find, AllByRecursion, option_map_or, append_assoc, map-append, length-map, fold-append, sum_by-cons, map-map, all_append, all_front, all_back, TraceId, Group, Standing, PlainSettings, Indexed, Leaving, chunk_count, count_chunks, chunks_left, kept, evicted, is_of, nothing, Claim, moved, indexed_places, indexed_count, pinned_for, Evicted, AgentState, page_standing, fate_of, same_trace-refl, ArrivalPlace, Placed, place_of, IsIndexed, with_fate}
 use Rattle.hs_base.specs.declared.told.Fate.TheVariants as fates
-use Rattle.hs_base.specs.declared.ids.TraceId.{TraceId}
-use Rattle.hs_base.specs.declared.told.Group.{Group}
-use Rattle.hs_journal.specs.declared.books.Standing.{Standing}
-use Rattle.hs_records.specs.Plain.{PlainSettings}
-use Rattle.hs_index.specs.Index.{Indexed, Leaving, leaving, chunk_count, count_chunks, chunks_left, kept, evicted, is_over, is_of, nothing}
-use Rattle.hs_pins.specs.Remembered.{Claim}
-use Rattle.hs_law_agent.specs.Standings.{moved, indexed_places, indexed_count, pinned_for, Evicted}
-use Rattle.hs_law_agent.specs.State.{AgentState}
-use Rattle.hs_law_agent.specs.Books.{page_standing, fate_of}
+use Rattle.hs_index.specs.Index.{leaving, is_over}
 use Rattle.hs_law_agent.specs.Evicting as model
-use Rattle.hs_law_agent.proofs.Traces.{same_trace-refl}
-use Rattle.hs_agent.specs.declared.placed.ArrivalPlace.{ArrivalPlace}
-use Rattle.hs_agent.specs.Placing.{Placed, place_of}
-use Rattle.hs_agent.specs.Keeping.{IsIndexed}
-use Rattle.hs_agent.specs.LettingGo.{with_fate}
 use Rattle.hs_agent.proofs.Indexing.{indexed-evicted}
 use Rattle.hs_agent.proofs.Moved.{sheets, sheets-moved}
 use Rattle.hs_agent.proofs.Moving.{pinned_for-leaving}

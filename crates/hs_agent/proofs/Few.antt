@@ -1,18 +1,8 @@
 -- An event admits one trigger at most.
 use Rattle.std.proofs.Common.{◌≡◌, ℕ, ◌+◌, ◌≤◌, suc, Bool, true, false, cond, List, [], ◌∷◌, ◌++◌, length, Option, Some, None, refl, sym, ap, ◌∙◌, arith}
-use Rattle.std.specs.Option.{option_map_or}
-use Rattle.hs_base.specs.declared.told.Ask.{Ask}
-use Rattle.hs_base.specs.declared.told.Crumb.{Crumb}
-use Rattle.hs_base.specs.declared.told.Group.{Group}
-use Rattle.hs_base.specs.declared.told.Trigger.{Trigger}
-use Rattle.hs_records.specs.Plain.{PlainSettings}
-use Rattle.hs_words.specs.Pages.{Sheet}
-use Rattle.hs_law_agent.specs.State.{AgentState, ClaimedTrace, claim_of, is_abandoned}
-use Rattle.hs_law_agent.specs.Evicting.{evict}
-use Rattle.hs_law_agent.specs.Claiming.{claim_each, traces_of}
-use Rattle.hs_law_agent.specs.Abandoning.{abandon}
-use Rattle.hs_law_agent.specs.Messages.{has_crumb}
-use Rattle.hs_law_agent.specs.Stepping.{Input, Chunk, Crumbed, Triggered, Asked, Turn, Answered, Given, Missed, Unread, AgentEvent, Took, Gave, take_input, take_answer, give_back, take_chunk, take_crumb, take_trigger, pin_chunk, late_crumb, tell_late, claim_for, admits, admit, note_trigger, count_admitted, group_of, with_indexed, with_touched, with_pinned, with_abandoned, after, after_from, after_event}
+use Rattle.hs_agent.proofs.Prelude.{option_map_or, Ask, Crumb, Group, Trigger, PlainSettings, Sheet, AgentState, ClaimedTrace, is_abandoned, evict, claim_each, traces_of, abandon, has_crumb, Chunk, Crumbed, Triggered, Asked, Turn, Answered, Given, Missed, Unread, AgentEvent, Took, Gave, take_input, take_answer, give_back, take_chunk, take_crumb, take_trigger, pin_chunk, late_crumb, tell_late, claim_for, admits, admit, note_trigger, count_admitted, group_of, with_indexed, with_touched, with_pinned, with_abandoned, after, after_from, after_event}
+use Rattle.hs_law_agent.specs.State.{claim_of}
+use Rattle.hs_law_agent.specs.Stepping.{Input}
 use Rattle.hs_agent.specs.Calls.{FewAreAdmitted}
 use Rattle.hs_agent.proofs.Unchanged.{evict-keeps, abandon-keeps, claims-keep, visits-keep}
 

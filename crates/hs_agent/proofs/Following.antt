@@ -1,23 +1,12 @@
 -- An agent follows its run from call to call.
 use Rattle.std.proofs.Common.{◌≡◌, ◌<◌, ◌≤◌, append-nil, ℕ, List, [], ◌∷◌, ◌++◌, length, slice_set, Some, None, IsSome, refl, sym, ap, subst, ◌∙◌}
-use Rattle.std.specs.Prelude.{IfOk, IfSome}
-use Rattle.std.specs.Option.{option_map_or}
-use Rattle.hs_journal.specs.declared.journal.Step.{Step}
+use Rattle.hs_agent.proofs.Prelude.{IfOk, IfSome, option_map_or, Step, PlainSettings, Schedule, IsSchedule, Buffer, buffer_of, IsInOnePlace, EventsGoOn, AgentState, Answered, Given, Missed, Unread, Took, Gave, note, step_of, take_input, step_of_answer, give_back, take_answer, after_gave, Kept, PlainAgent, Holds, Point, answered, Run, input_of, taken_in, Follows, StandsAt, point_of, state_of, after_offer, Input}
 use Rattle.hs_lists.proofs.Options.{some_item}
 use Rattle.hs_base.specs.declared.limits.TheConstants.{MAX_NODES}
-use Rattle.hs_records.specs.Plain.{PlainSettings}
-use Rattle.hs_sched.specs.Turns.{Schedule, IsSchedule}
-use Rattle.hs_words.specs.Buffers.{Buffer, buffer_of}
 use Rattle.hs_words.specs.declared.token.Given.{Given as Answer}
 use Rattle.hs_words.specs.declared.token.Given.TheVariants as given
-use Rattle.hs_law_agent.specs.Laws.{IsInOnePlace, EventsGoOn}
-use Rattle.hs_law_agent.specs.State.{AgentState}
-use Rattle.hs_law_agent.specs.Stepping.{Answered, Given, Missed, Unread, Took, Gave, note, step_of, take_input, step_of_answer, give_back, take_answer, after_gave}
 use Rattle.hs_law_agent.proofs.Bearing.{answer_shares}
-use Rattle.hs_agent.specs.Keeping.{Kept, PlainAgent, Holds, Point}
-use Rattle.hs_agent.specs.Offering.{answered}
-use Rattle.hs_agent.specs.Runs.{Run, input_of, taken_in, after_input, Follows, StandsAt, point_of, state_of, after_offer, answer_of, back_in, with_back, after_answer}
-use Rattle.hs_agent.specs.declared.input.Input.{Input}
+use Rattle.hs_agent.specs.Runs.{after_input, answer_of, back_in, with_back, after_answer}
 use Rattle.hs_agent.proofs.Unchanged.{input-log}
 use Rattle.hs_agent.proofs.Offered.{below, holds-rest, holds-given, holds-back}
 

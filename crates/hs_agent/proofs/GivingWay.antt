@@ -1,26 +1,11 @@
 -- That the groups which give way are the model's.
 use Rattle.std.proofs.Common.{◌≡◌, ℕ, Bool, true, false, cond, not, List, [], ◌∷◌, ◌++◌, length, map, filter, Option, Some, None, slice_get, refl, sym, ap, ◌∙◌, true≢false, ◌||◌, fold, ◌+◌, suc, zero, nat_eq, subst, nat_lt, append-nil, arith}
-use Rattle.std.specs.Prelude.{filter_map}
-use Rattle.std.specs.List.{AllByRecursion, cons_option, list_any}
-use Rattle.std.specs.Option.{option_and_then, option_map_or}
-use Rattle.hs_base.specs.declared.told.Group.{Group}
-use Rattle.hs_pins.specs.Remembered.{Pin, pins_for, without_group, is_for}
+use Rattle.hs_agent.proofs.Prelude.{filter_map, AllByRecursion, cons_option, list_any, option_and_then, option_map_or, Group, Pin, pins_for, without_group, is_for, same_group-true, eqb-true, append_assoc, map-append, length-map, PlainSettings, AgentState, moved_from, moved, is_among, Taken, ChunkStanding, Pinned, Reported, Evicted, Abandoned, pinning_group, pinned_for, indexed_places, indexed_count, is_indexed, stands, page_standing, fate_of, Standing, TraceId, fold-append, with_fate, abandoned_fate}
 use Rattle.hs_pins.specs.Abandoning.{groups_of}
 use Rattle.hs_pins.specs.Abandoning as pins
-use Rattle.hs_pins.proofs.Order.{same_group-true}
-use Rattle.std.proofs.lemmas.Bool.{eqb-true}
-use Rattle.std.proofs.lemmas.List.{append_assoc, map-append, length-map}
-use Rattle.hs_records.specs.Plain.{PlainSettings}
-use Rattle.hs_law_agent.specs.State.{AgentState}
-use Rattle.hs_law_agent.specs.Standings.{moved_from, moved, is_among, Taken, ChunkStanding, Indexed, Pinned, Reported, Evicted, Abandoned, pinning_group, pinned_for, is_pinned_for, is_pinned_to, same_group}
+use Rattle.hs_law_agent.specs.Standings.{Indexed, is_pinned_for, is_pinned_to, same_group}
 use Rattle.hs_law_agent.specs.Abandoning as model
-use Rattle.hs_law_agent.specs.Standings.{indexed_places, indexed_count, is_indexed, stands}
-use Rattle.hs_law_agent.specs.Books.{page_standing, fate_of}
 use Rattle.hs_law_agent.proofs.Limits.{pinned_to}
-use Rattle.hs_journal.specs.declared.books.Standing.{Standing}
-use Rattle.hs_base.specs.declared.ids.TraceId.{TraceId}
-use Rattle.std.proofs.lemmas.List.Sums.{fold-append}
-use Rattle.hs_agent.specs.LettingGo.{with_fate, abandoned_fate}
 use Rattle.hs_agent.proofs.NotedFates.{fates-moved}
 use Rattle.hs_agent.proofs.Moved.{sheets, sheets-moved, MovesUnindexed, indexed-moved, count-moved}
 

@@ -1,20 +1,7 @@
 -- What stays where a chunk more was taken.
 use Rattle.std.proofs.Common.{◌≡◌, ℕ, ◌<◌, ◌≤◌, List, [], ◌∷◌, ◌++◌, length, map, Option, Some, None, slice_get, slice_set, refl, sym, ap, ◌∙◌}
-use Rattle.std.specs.Prelude.{filter_map}
-use Rattle.std.specs.List.{AllByRecursion, cons_option}
-use Rattle.std.specs.Option.{option_map, option_and_then, option_map_or}
+use Rattle.hs_agent.proofs.Prelude.{filter_map, AllByRecursion, cons_option, option_map, option_and_then, option_map_or, Fate, Group, Standing, PlainSettings, page_bytes, Buffer, Taken, pinning_group, pinned_for, bytes_at, Placed, Pledged, place_of, IsKept, HasPage, with_fate}
 use Rattle.hs_lists.proofs.Places.{get_front, get_front_same}
-use Rattle.hs_base.specs.declared.told.Fate.{Fate}
-use Rattle.hs_base.specs.declared.told.Group.{Group}
-use Rattle.hs_journal.specs.declared.books.Standing.{Standing}
-use Rattle.hs_records.specs.Plain.{PlainSettings}
-use Rattle.hs_words.specs.Pages.{page_bytes}
-use Rattle.hs_words.specs.Buffers.{Buffer}
-use Rattle.hs_law_agent.specs.Standings.{Taken, pinning_group, pinned_for}
-use Rattle.hs_law_agent.specs.Books.{bytes_at}
-use Rattle.hs_agent.specs.Placing.{Placed, Pledged, place_of}
-use Rattle.hs_agent.specs.Keeping.{IsKept, HasPage}
-use Rattle.hs_agent.specs.LettingGo.{with_fate}
 use Rattle.hs_agent.proofs.NotedFates.{with_fate-later}
 
 module _ {L : Type 0} where

@@ -1,45 +1,20 @@
 -- What the index keeps is what the model has indexed: where a trace is touched, where it leaves, and where it is claimed.
 use Rattle.std.proofs.Common.{◌≡◌, ℕ, ◌+◌, ◌<◌, ◌≤◌, zero, suc, Bool, true, false, cond, not, ◌||◌, ◌&&◌, List, [], ◌∷◌, ◌++◌, length, map, filter, Some, None, nat_eq, eq-eqb, refl, sym, ap, subst, ◌∙◌, arith, append-nil}
-use Rattle.std.specs.Prelude.{find, sum_by}
-use Rattle.std.specs.List.{AllByRecursion, list_any}
-use Rattle.std.specs.Option.{option_map_or, option_or}
-use Rattle.std.proofs.Math.Bool.{or-true}
-use Rattle.std.proofs.lemmas.Bool.{eqb-true, true≢false, not-true}
-use Rattle.std.proofs.lemmas.List.{map-append, length-map, length-append}
+use Rattle.hs_agent.proofs.Prelude.{find, AllByRecursion, list_any, option_map_or, or-true, eqb-true, true≢false, map-append, length-map, length-append, sum_by-cons, ne_eqb, by_answer, all_weaker, all_append, TraceId, NodeId, NodeSet, Ask, Crumb, Group, has_node, no_nodes, with_node, has-no_nodes, has-with_node, same_trace, Buffer, Sheet, Noted, Indexed, is_of, nothing, noted_of, others, touch, with_chunk, chunk_count, count_chunks, Claim, claim_of, is_claim_of, moved, places_from, indexed_places, indexed_count, is_indexed, is_indexed_of, trace_of, Taken, ChunkStanding, Pinned, Reported, Evicted, Abandoned, PlainSettings, AgentState, start, evict_trace, claim_trace, has_crumb, same_crumb, with_crumb, with_indexed, with_touched, same_trace-true, same_trace-refl, ArrivalPlace, Placed, place_of, AreApart, IsIndexed, crumbs_known}
+use Rattle.std.specs.Prelude.{sum_by}
+use Rattle.std.specs.Option.{option_or}
+use Rattle.std.proofs.lemmas.Bool.{not-true}
 use Rattle.std.proofs.lemmas.List.Elements.{filter-append}
 use Rattle.std.proofs.lemmas.List.Folds.{find-append}
-use Rattle.std.proofs.lemmas.List.Sums.{sum_by-cons, sum_by_push}
-use borrow.Author.Tests.{ne_eqb}
-use Rattle.hs_lists.proofs.Bools.{by_answer}
-use Rattle.hs_lists.proofs.Alls.{all_weaker, all_append}
+use Rattle.std.proofs.lemmas.List.Sums.{sum_by_push}
 use Rattle.hs_lists.proofs.Options.{option_or_none}
-use Rattle.hs_base.specs.declared.ids.TraceId.{TraceId}
-use Rattle.hs_base.specs.declared.ids.NodeId.{NodeId}
-use Rattle.hs_base.specs.declared.node_set.NodeSet.{NodeSet}
-use Rattle.hs_base.specs.declared.told.Ask.{Ask}
-use Rattle.hs_base.specs.declared.told.Crumb.{Crumb}
-use Rattle.hs_base.specs.declared.told.Group.{Group}
-use Rattle.hs_base.specs.NodeSets.{has_node, no_nodes, with_node}
-use Rattle.hs_base.specs.NodeSetLaws.{has-no_nodes, has-with_node}
-use Rattle.hs_base.specs.Ids.{same_trace}
-use Rattle.hs_words.specs.Buffers.{Buffer}
-use Rattle.hs_words.specs.Pages.{Sheet}
-use Rattle.hs_index.specs.Index.{Noted, Indexed, is_of, is_other, nothing, noted_of, others, touch, with_chunk, chunk_count, count_chunks}
+use Rattle.hs_index.specs.Index.{is_other}
 use Rattle.hs_index.specs.Index as index
-use Rattle.hs_pins.specs.Remembered.{Claim, claim_of, is_claim_of}
 use Rattle.hs_pins.specs.Remembered as pins
-use Rattle.hs_law_agent.specs.Standings.{moved, places_from, indexed_places, indexed_count, is_indexed, is_indexed_of, trace_of, Taken, ChunkStanding, Indexed as IsIn, Pinned, Reported, Evicted, Abandoned}
-use Rattle.hs_records.specs.Plain.{PlainSettings}
-use Rattle.hs_law_agent.specs.State.{AgentState, start, without_trace, without_crumbs}
-use Rattle.hs_law_agent.specs.Evicting.{evict_trace}
+use Rattle.hs_law_agent.specs.Standings.{Indexed as IsIn}
+use Rattle.hs_law_agent.specs.State.{without_trace, without_crumbs}
 use Rattle.hs_law_agent.specs.Evicting as model
-use Rattle.hs_law_agent.specs.Claiming.{claim_trace}
-use Rattle.hs_law_agent.specs.Messages.{has_crumb, same_crumb, with_crumb}
-use Rattle.hs_law_agent.specs.Stepping.{with_indexed, with_touched, next_place}
-use Rattle.hs_law_agent.proofs.Traces.{same_trace-true, same_trace-refl}
-use Rattle.hs_agent.specs.declared.placed.ArrivalPlace.{ArrivalPlace}
-use Rattle.hs_agent.specs.Placing.{Placed, place_of}
-use Rattle.hs_agent.specs.Keeping.{AreApart, IsIndexed, crumbs_known}
+use Rattle.hs_law_agent.specs.Stepping.{next_place}
 use Rattle.hs_agent.proofs.Alls.{all-passing, all-filter}
 use Rattle.hs_agent.proofs.Moving.{places-other, places-gone, count-left}
 

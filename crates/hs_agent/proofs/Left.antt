@@ -1,19 +1,6 @@
 -- What is left at the end, with the leases that are kept, is what the model has left, each chunk as it came last.
 use Rattle.std.proofs.Common.{◌≡◌, ℕ, List, [], ◌∷◌, ◌++◌, map, Option, Some, None, option_map, slice_get, refl, sym, ap, subst, ◌∙◌}
-use Rattle.std.specs.Prelude.{Result, Ok, Err, IfOk, filter_map, flat_map}
-use Rattle.std.specs.List.{AllByRecursion, cons_option}
-use Rattle.std.specs.Option.{option_and_then, option_to_list}
-use Rattle.std.proofs.lemmas.List.{append_assoc, map-append}
-use Rattle.hs_lists.proofs.Alls.{all_weaker, all_append, all_front, all_back}
-use Rattle.hs_index.specs.Index.{chunks_left}
-use Rattle.hs_words.specs.Buffers.{Buffer}
-use Rattle.hs_journal.specs.Books.{PlainAgentBook}
-use Rattle.hs_journal.specs.declared.journal.Step.{Step}
-use Rattle.hs_law_agent.specs.Books.{book_of}
-use Rattle.hs_law_agent.specs.Standings.{Taken, indexed_places}
-use Rattle.hs_law_agent.specs.State.{AgentState}
-use Rattle.hs_agent.specs.Placing.{Placed, Pledged, place_of, leased, lent, IsPledged}
-use Rattle.hs_agent.specs.Keeping.{Kept, Holds, Point, IsKept, waiting_chunks}
+use Rattle.hs_agent.proofs.Prelude.{Result, Ok, Err, IfOk, filter_map, flat_map, AllByRecursion, cons_option, option_and_then, option_to_list, append_assoc, map-append, all_weaker, all_append, all_front, all_back, chunks_left, Buffer, PlainAgentBook, Step, book_of, Taken, indexed_places, AgentState, Placed, Pledged, place_of, leased, lent, IsPledged, Kept, Holds, Point, IsKept, waiting_chunks}
 use Rattle.hs_agent.specs.Points.{places_left, buffers_left}
 use Rattle.hs_agent.proofs.OwnPlaces.{Traced, HasPlaces, have_places}
 

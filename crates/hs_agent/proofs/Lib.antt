@@ -1,3 +1,4 @@
+mod Prelude
 pub mod Writing
 pub mod Alls
 pub mod Outcomes

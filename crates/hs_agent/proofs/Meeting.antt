@@ -1,13 +1,9 @@
 -- Over any calls the run of an agent is the model's.
 use Rattle.std.proofs.Common.{◌≡◌, ℕ, List, [], ◌∷◌, ◌++◌, map, fold, None, refl, sym, ap, ◌∙◌, append-nil}
-use Rattle.std.specs.Option.{option_to_list}
-use Rattle.std.proofs.lemmas.List.{append_assoc}
-use Rattle.hs_journal.specs.declared.journal.Step.{Step}
-use Rattle.hs_records.specs.Plain.{PlainSettings}
-use Rattle.hs_law_agent.specs.Laws.{EventsGoOn, StepsSayWhatTheyTell, noted_as}
-use Rattle.hs_law_agent.specs.State.{AgentState}
-use Rattle.hs_law_agent.specs.Stepping.{AgentEvent, Took, Gave, step_of, step_of_answer, told_by, after, after_from, after_event, take_input, take_answer}
-use Rattle.hs_agent.specs.Runs.{Run, new_run, state_of}
+use Rattle.hs_agent.proofs.Prelude.{option_to_list, append_assoc, Step, PlainSettings, EventsGoOn, AgentState, AgentEvent, Took, Gave, step_of, step_of_answer, after, after_from, after_event, take_input, take_answer, Run, state_of}
+use Rattle.hs_law_agent.specs.Laws.{StepsSayWhatTheyTell, noted_as}
+use Rattle.hs_law_agent.specs.Stepping.{told_by}
+use Rattle.hs_agent.specs.Runs.{new_run}
 use Rattle.hs_agent.specs.Calls.{Call, Takes, Offers, Answers, after_call, run_after, events_in, events_of, told_at, told_from, MeetsModel}
 use Rattle.hs_agent.proofs.Following.{answer-log}
 use Rattle.hs_agent.proofs.Unchanged.{input-log}

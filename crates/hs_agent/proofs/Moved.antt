@@ -1,19 +1,6 @@
 -- What stays of chunks of which some stand anew: their pages, and where they do not care how these stand, what passes a test.
 use Rattle.std.proofs.Common.{◌≡◌, ℕ, ◌+◌, ◌≤◌, suc, zero, Bool, true, false, cond, ◌&&◌, List, [], ◌∷◌, length, map, filter, Option, Some, None, slice_get, refl, sym, ap, subst, ◌∙◌, arith}
-use Rattle.std.specs.Prelude.{filter_map}
-use Rattle.std.specs.List.{cons_option}
-use Rattle.std.specs.Option.{option_map}
-use Rattle.std.proofs.lemmas.List.{length-map}
-use Rattle.std.proofs.lemmas.Option.{slice_get-map}
-use Rattle.hs_base.specs.declared.ids.TraceId.{TraceId}
-use Rattle.hs_base.specs.Ids.{same_trace}
-use Rattle.hs_records.specs.Plain.{PlainSettings}
-use Rattle.hs_words.specs.Pages.{Sheet, page_bytes}
-use Rattle.hs_words.specs.Chunks.{used_of}
-use Rattle.hs_law_agent.specs.Standings.{moved_from, moved, is_among, places_from, indexed_places, indexed_count, is_indexed, is_indexed_of, trace_of, Taken, ChunkStanding}
-use Rattle.hs_law_agent.specs.Books.{bytes_at}
-use Rattle.hs_agent.specs.Keeping.{HasPage}
-use Rattle.hs_agent.specs.Placing.{Placed, place_of}
+use Rattle.hs_agent.proofs.Prelude.{filter_map, cons_option, option_map, length-map, slice_get-map, TraceId, same_trace, PlainSettings, Sheet, page_bytes, used_of, moved_from, moved, is_among, places_from, indexed_places, indexed_count, is_indexed, is_indexed_of, trace_of, Taken, ChunkStanding, bytes_at, HasPage, Placed, place_of}
 
 abbrev pub sheets : List Taken → List Sheet
 sheets taken = map (λ (t : Taken). t.sheet) taken

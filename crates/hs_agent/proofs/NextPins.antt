@@ -1,21 +1,13 @@
 -- Which chunk is the next one to be reported of a trigger id: the first that is pinned for its group.
 use Rattle.std.proofs.Common.{◌≡◌, ℕ, Bool, true, false, cond, not, ◌||◌, List, [], ◌∷◌, ◌++◌, map, filter, Option, Some, None, slice_get, nat_eq, ◌+◌, ◌≤◌, eq-eqb, refl, sym, ap, subst, ◌∙◌, arith}
-use Rattle.std.specs.List.{AllByRecursion, list_any}
-use Rattle.std.specs.Option.{option_map_or}
+use Rattle.hs_agent.proofs.Prelude.{AllByRecursion, list_any, option_map_or, true≢false, eqb-true, by_answer, TriggerId, Group, put_by, ordered_by, is_no_greater, Pin, Remembered, is_for, is_under, pins_under, goes_behind, same_group-true, is_among, count_of}
 use Rattle.std.specs.Ordering.{nat_cmp, ordering_then, is_le}
 use Rattle.std.specs.declared.cmp.Ordering.TheVariants.{Equal, Less, Greater}
-use Rattle.std.proofs.lemmas.Bool.{true≢false, le-ltb, eqb-true, or_parts}
-use Rattle.hs_lists.proofs.Bools.{by_answer}
-use Rattle.hs_base.specs.declared.ids.TriggerId.{TriggerId}
-use Rattle.hs_base.specs.declared.told.Group.{Group}
+use Rattle.std.proofs.lemmas.Bool.{le-ltb, or_parts}
 use Rattle.hs_base.specs.Ranks.{trace_rank}
-use Rattle.hs_pins.specs.Choosing.{put_by, ordered_by}
-use Rattle.hs_pins.specs.Priorities.{is_no_greater}
-use Rattle.hs_pins.specs.Remembered.{Pin, Remembered, is_for, is_under, pins_under, without_first}
-use Rattle.hs_pins.specs.Waiting.{goes_behind, order_of, next_of, without_next}
-use Rattle.hs_pins.proofs.Order.{same_group-true, same_group-refl}
-use Rattle.hs_law_agent.specs.Standings.{is_among}
-use Rattle.hs_law_agent.specs.Laws.{count_of}
+use Rattle.hs_pins.specs.Remembered.{without_first}
+use Rattle.hs_pins.specs.Waiting.{order_of, next_of, without_next}
+use Rattle.hs_pins.proofs.Order.{same_group-refl}
 
 -- ---- one group
 

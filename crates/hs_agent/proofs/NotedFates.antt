@@ -1,12 +1,6 @@
 -- That noting the fates of chunks one after another is standing them anew.
 use Rattle.std.proofs.Common.{◌≡◌, ℕ, ◌+◌, ◌<◌, zero, suc, Bool, true, false, cond, ◌||◌, List, [], ◌∷◌, map, fold, Option, Some, None, slice_get, slice_set, nat_eq, eq-eqb, refl, sym, ap, ◌∙◌, arith}
-use Rattle.std.specs.Option.{option_map_or}
-use borrow.Author.Tests.{ne_eqb}
-use Rattle.hs_base.specs.declared.told.Fate.{Fate}
-use Rattle.hs_journal.specs.declared.books.Standing.{Standing}
-use Rattle.hs_law_agent.specs.Standings.{moved_from, moved, is_among, Taken, ChunkStanding}
-use Rattle.hs_law_agent.specs.Books.{page_standing, fate_of}
-use Rattle.hs_agent.specs.LettingGo.{with_fate}
+use Rattle.hs_agent.proofs.Prelude.{option_map_or, ne_eqb, Fate, Standing, moved_from, moved, is_among, Taken, ChunkStanding, page_standing, fate_of, with_fate}
 
 -- the first standing stays where a later one changes
 pub with_fate-later : (place : ℕ) (fate : Fate) (first : Standing) (standings : List Standing) → with_fate (suc place) fate (first ∷ standings) ≡ first ∷ with_fate place fate standings

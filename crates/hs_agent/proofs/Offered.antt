@@ -1,26 +1,11 @@
 -- What is kept when the first of the hand was offered, and when the pool answered, is what the model says then.
 use Rattle.std.proofs.Common.{◌≡◌, ◌≢◌, ℕ, ◌+◌, ◌<◌, suc, zero, eq-eqb, Bool, true, false, List, [], ◌∷◌, ◌++◌, length, map, set, Option, Some, None, slice_get, slice_set, refl, sym, ap, subst, ◌∙◌, arith}
-use Rattle.std.specs.List.{AllByRecursion}
-use Rattle.std.specs.Option.{option_map_or, option_and_then, option_to_list}
-use Rattle.std.proofs.lemmas.List.{length-map, length-set}
-use Rattle.std.proofs.lemmas.Option.{slice_get_within}
-use Rattle.hs_base.specs.declared.told.Told.{Told}
-use Rattle.hs_journal.specs.declared.journal.Step.{Step}
-use Rattle.std.specs.Prelude.{Result, Ok, Err, IfOk, OnOk, IfSome, IfNone}
-use Rattle.hs_lists.proofs.Alls.{all_weaker, all_append, all_front, all_back, all_and}
-use Rattle.hs_lists.proofs.Counts.{one_if}
-use Rattle.hs_words.specs.Buffers.{Buffer, buffer_of, buffer_in}
+use Rattle.hs_agent.proofs.Prelude.{AllByRecursion, option_map_or, option_and_then, option_to_list, length-map, slice_get_within, Told, Step, Result, Ok, Err, IfOk, OnOk, IfSome, all_weaker, all_append, all_front, all_back, all_and, one_if, Buffer, buffer_of, buffer_in, Share, Pin, AgentState, Taken, count_of, IsInOnePlace, Given, note, step_of_answer, give_back, after_gave, ArrivalPlace, Placed, Pledged, place_of, placed_at, leased, HandsOut, Kept, Holds, Point, IsKept, with_state, waiting_chunks, all_held, back_at, answered}
+use Rattle.std.proofs.lemmas.List.{length-set}
+use Rattle.std.specs.Prelude.{IfNone}
 use Rattle.hs_words.specs.declared.token.Held.{Held}
-use Rattle.hs_sched.specs.declared.share.Share.{Share}
-use Rattle.hs_pins.specs.Remembered.{Pin}
-use Rattle.hs_law_agent.specs.State.{AgentState, GivenPlace}
-use Rattle.hs_law_agent.specs.Standings.{Taken}
-use Rattle.hs_law_agent.specs.Laws.{count_of, IsInOnePlace}
-use Rattle.hs_law_agent.specs.Stepping.{Given, note, step_of_answer, give_back, after_gave}
-use Rattle.hs_agent.specs.declared.placed.ArrivalPlace.{ArrivalPlace}
-use Rattle.hs_agent.specs.Placing.{Placed, Pledged, place_of, placed_at, leased, HandsOut}
-use Rattle.hs_agent.specs.Keeping.{Kept, Holds, Point, IsKept, with_state, waiting_chunks, all_held}
-use Rattle.hs_agent.specs.Offering.{Offers, back_at, answered}
+use Rattle.hs_law_agent.specs.State.{GivenPlace}
+use Rattle.hs_agent.specs.Offering.{Offers}
 use Rattle.hs_agent.proofs.OwnPlaces.{apart_from_offered, apart_from_first}
 
 -- ---- a write in a list

@@ -1,16 +1,8 @@
 -- That what waits for a trigger id stands in the order of the model.
 use Rattle.std.proofs.Common.{◌≡◌, ℕ, Bool, true, false, cond, List, [], ◌∷◌, map, filter, Option, Some, None, slice_get, nat_eq, refl, sym, ap, ◌∙◌}
-use Rattle.std.specs.List.{AllByRecursion}
-use Rattle.std.specs.Option.{option_and_then, option_map_or}
-use Rattle.hs_base.specs.declared.told.Group.{Group}
-use Rattle.hs_base.specs.declared.ids.TriggerId.{TriggerId}
-use Rattle.hs_pins.specs.Choosing.{ordered_by, put_by}
-use Rattle.hs_pins.specs.Remembered.{Pin, pins_under, is_under}
-use Rattle.hs_pins.specs.Waiting.{goes_behind}
+use Rattle.hs_agent.proofs.Prelude.{AllByRecursion, option_and_then, option_map_or, Group, TriggerId, ordered_by, put_by, Pin, pins_under, is_under, goes_behind, is_no_greater, Taken, ChunkStanding, Pinned, Reported, Evicted, Abandoned, pinning_group, pinned_for, stands, AgentState}
 use Rattle.hs_pins.specs.Waiting as pins
-use Rattle.hs_pins.specs.Priorities.{is_no_greater}
-use Rattle.hs_law_agent.specs.Standings.{Taken, ChunkStanding, Indexed, Pinned, Reported, Evicted, Abandoned, pinning_group, pinned_for, stands}
-use Rattle.hs_law_agent.specs.State.{AgentState}
+use Rattle.hs_law_agent.specs.Standings.{Indexed}
 use Rattle.hs_law_agent.specs.Abandoning as model_order
 use Rattle.hs_law_agent.specs.Turning.{is_pinned_under, place_is_no_greater, put_before, by_priority}
 use Rattle.hs_law_agent.specs.Turning as model

@@ -1,8 +1,6 @@
 -- What is known of an outcome.
 use Rattle.std.proofs.Common.{◌≡◌, Bool, true, false, not, Option, Some, None, refl, sym, ap, ◌∙◌}
-use Rattle.std.specs.Prelude.{Result, Ok, Err, OnOk}
-use Rattle.std.specs.Option.{option_map, is_some}
-use Rattle.std.proofs.lemmas.Bool.{true≢false}
+use Rattle.hs_agent.proofs.Prelude.{Result, Ok, Err, OnOk, option_map, is_some, true≢false}
 
 -- what was looked up
 pub none_mapped : {A B : Type 0} (f : A → B) (o : Option A) (r : Option B) → r ≡ option_map f o → is_some r ≡ false → o ≡ None

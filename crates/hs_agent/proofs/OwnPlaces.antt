@@ -1,25 +1,9 @@
 -- No two chunks that are kept have one place, and none has the place of the chunk that was offered.
 use Rattle.std.proofs.Common.{◌≡◌, ◌≢◌, ℕ, ◌+◌, ◌≤◌, ◌<◌, suc, zero, Bool, true, false, cond, ◌&&◌, List, [], ◌∷◌, ◌++◌, map, Option, Some, None, slice_get, find, nat_eq, eq-eqb, refl, sym, ap, subst, ◌∙◌, arith, true≢false}
-use Rattle.std.specs.List.{AllByRecursion}
-use Rattle.std.specs.Option.{option_map_or, option_to_list}
-use borrow.Author.Tests.{ne_eqb}
-use Rattle.std.proofs.lemmas.List.{map-append}
-use Rattle.std.proofs.lemmas.Simd.{map-map}
-use Rattle.hs_lists.proofs.Bools.{by_answer}
-use Rattle.hs_lists.proofs.Alls.{all_weaker}
-use Rattle.hs_lists.proofs.Counts.{one_if}
-use Rattle.hs_base.specs.declared.ids.TraceId.{TraceId}
-use Rattle.hs_base.specs.Ids.{same_trace}
-use Rattle.hs_index.specs.Index.{Indexed, Noted, noted_of, is_of, nothing, chunks_left}
-use Rattle.hs_pins.specs.Remembered.{Pin}
-use Rattle.hs_law_agent.specs.Standings.{Taken, trace_of, is_indexed, is_indexed_of, is_pinned, indexed_places, places_from, passes, stands}
-use Rattle.hs_law_agent.specs.State.{AgentState}
-use Rattle.hs_law_agent.specs.Laws.{count_of, given_places, IsInOnePlace}
+use Rattle.hs_agent.proofs.Prelude.{AllByRecursion, option_map_or, option_to_list, ne_eqb, map-append, map-map, by_answer, all_weaker, one_if, TraceId, same_trace, Indexed, Noted, noted_of, is_of, nothing, chunks_left, Pin, Taken, trace_of, is_indexed, is_indexed_of, indexed_places, places_from, stands, AgentState, count_of, IsInOnePlace, same_trace-true, same_trace-refl, ArrivalPlace, Placed, place_of, HaveOwnPlaces, Kept, Holds, Point, AreApart, IsIndexed, pinned_place, waiting_chunks, all_held}
+use Rattle.hs_law_agent.specs.Standings.{is_pinned, passes}
+use Rattle.hs_law_agent.specs.Laws.{given_places}
 use Rattle.hs_law_agent.proofs.Counts.{count-append}
-use Rattle.hs_law_agent.proofs.Traces.{same_trace-true, same_trace-refl}
-use Rattle.hs_agent.specs.declared.placed.ArrivalPlace.{ArrivalPlace}
-use Rattle.hs_agent.specs.Placing.{Placed, place_of, HaveOwnPlaces}
-use Rattle.hs_agent.specs.Keeping.{Kept, Holds, Point, AreApart, IsIndexed, pinned_place, waiting_chunks, all_held}
 use Rattle.hs_agent.proofs.Indexing.{same_swap}
 
 -- ---- the places of an indexed trace

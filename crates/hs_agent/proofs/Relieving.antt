@@ -1,27 +1,9 @@
 -- What is kept after an abandonment is what the model says then.
 use Rattle.std.proofs.Common.{◌≡◌, ℕ, ◌+◌, ◌≤◌, ◌<◌, ◌^◌, Bool, true, false, cond, not, List, [], ◌∷◌, ◌++◌, length, map, filter, fold, refl, sym, ap, subst, ◌∙◌, arith, append-nil}
-use Rattle.std.specs.Prelude.{filter_map}
-use Rattle.std.specs.List.{AllByRecursion}
-use Rattle.std.specs.Option.{option_to_list}
-use Rattle.std.proofs.lemmas.List.{append_assoc, map-append}
-use Rattle.std.proofs.lemmas.Simd.{map-map}
-use Rattle.hs_lists.proofs.Alls.{all_weaker, all_append, all_front, all_back}
-use Rattle.hs_base.specs.declared.told.Group.{Group}
-use Rattle.hs_journal.specs.declared.books.Standing.{Standing}
-use Rattle.hs_pins.specs.Remembered.{Pin, Remembered, pins_for, without_group, is_for}
-use Rattle.hs_pins.specs.Abandoning.{leaving, staying, going, drops, relieved}
-use Rattle.hs_pins.specs.PinsLayout.{Pinning, Remembers}
-use Rattle.hs_pins.proofs.Sound.{staying_few}
-use Rattle.hs_index.specs.Index.{Indexed, chunks_left, count_chunks}
-use Rattle.hs_law_agent.specs.State.{AgentState}
-use Rattle.hs_law_agent.specs.Standings.{Taken}
-use Rattle.hs_law_agent.specs.Books.{page_standing, claim_note, bytes_at}
-use Rattle.hs_law_agent.specs.Messages.{has_crumb}
+use Rattle.hs_agent.proofs.Prelude.{filter_map, AllByRecursion, option_to_list, append_assoc, map-append, map-map, all_weaker, all_append, all_front, all_back, Group, Standing, Pin, Remembered, pins_for, without_group, is_for, leaving, drops, relieved, Pinning, Remembers, staying_few, Indexed, chunks_left, count_chunks, AgentState, Taken, page_standing, claim_note, bytes_at, has_crumb, ArrivalPlace, Placed, Pledged, place_of, Kept, Holds, HasPage, IsKept, IsIndexed, RemembersAs, Point, with_state, pinned_place, waiting_chunks, all_held, Going, with_fate, let_go, let_go_all, abandoned_going}
+use Rattle.hs_pins.specs.Abandoning.{staying, going}
 use Rattle.hs_law_agent.specs.Abandoning as model
-use Rattle.hs_agent.specs.declared.placed.ArrivalPlace.{ArrivalPlace}
-use Rattle.hs_agent.specs.Placing.{Placed, Pledged, place_of}
-use Rattle.hs_agent.specs.Keeping.{Kept, Holds, HasPage, IsKept, IsIndexed, IsIndexOf, RemembersAs, Point, with_state, pinned_place, waiting_chunks, all_held}
-use Rattle.hs_agent.specs.LettingGo.{Going, with_fate, let_go, let_go_all, abandoned_going}
+use Rattle.hs_agent.specs.Keeping.{IsIndexOf}
 use Rattle.hs_agent.proofs.GivingWay.{HasAbandoned, same_go, note_abandoned}
 use Rattle.hs_agent.proofs.Moved.{length-same, pages-same, has_page-same}
 

@@ -1,11 +1,7 @@
 -- What the model reports at once, it reports one by one.
 use Rattle.std.proofs.Common.{◌≡◌, ℕ, ◌+◌, ◌<◌, zero, suc, Bool, true, false, cond, not, ◌||◌, ◌&&◌, List, [], ◌∷◌, ◌++◌, map, filter, fold, Option, Some, None, slice_get, nat_eq, eq-eqb, refl, sym, ap, ◌∙◌, arith, append-nil}
-use Rattle.std.specs.List.{list_any}
-use Rattle.std.proofs.lemmas.List.{append_assoc}
-use borrow.Author.Tests.{ne_eqb}
-use Rattle.hs_law_agent.specs.Standings.{Taken, ChunkStanding, Indexed, Pinned, Reported, Evicted, Abandoned, is_among, is_indexed, moved_from, moved}
-use Rattle.hs_law_agent.specs.State.{AgentState}
-use Rattle.hs_law_agent.specs.Turning.{report, reported_standing}
+use Rattle.hs_agent.proofs.Prelude.{list_any, append_assoc, ne_eqb, Taken, ChunkStanding, Pinned, Reported, Evicted, Abandoned, is_among, is_indexed, moved_from, moved, AgentState, report, reported_standing}
+use Rattle.hs_law_agent.specs.Standings.{Indexed}
 use Rattle.hs_agent.proofs.Moved.{MovesUnindexed}
 
 abbrev pub report_one : AgentState → ℕ → AgentState

@@ -1,9 +1,7 @@
 -- Whether a chunk of a claimed trace comes back, and what the pins remember where it does or does not.
 use Rattle.std.proofs.Common.{◌≡◌, ℕ, ◌+◌, ◌≤◌, Bool, true, false, cond, [], ◌∷◌, length, map, Option, Some, None, refl, sym, ap, ◌∙◌, arith}
-use Rattle.std.specs.Option.{option_map, option_map_or}
-use Rattle.std.proofs.lemmas.List.{length-append}
-use Rattle.hs_words.specs.Buffers.{Buffer}
-use Rattle.hs_pins.specs.Remembered.{Claim, Remembered, claim_for, comes_back, handed_back, arrived, with_pin, pin_for, is_abandoned}
+use Rattle.hs_agent.proofs.Prelude.{option_map, option_map_or, length-append, Buffer, Claim, Remembered, comes_back, arrived, with_pin, pin_for}
+use Rattle.hs_pins.specs.Remembered.{claim_for, handed_back, is_abandoned}
 
 module _ {L : Type 0} (memory : Remembered L) (chunk : Buffer L) where
   pub length-arrived : length (arrived memory chunk).pinned ≤ length memory.pinned + 1

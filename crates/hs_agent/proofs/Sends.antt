@@ -1,35 +1,14 @@
 -- What is kept while a turn sends: the model has reported what was sent so far.
 use Rattle.std.proofs.Common.{◌≡◌, ℕ, ◌+◌, ◌<◌, ◌≤◌, zero, suc, Bool, true, false, cond, not, List, [], ◌∷◌, ◌++◌, length, map, filter, fold, take, Option, Some, None, slice_get, refl, sym, ap, subst, ◌∙◌, arith, append-nil}
-use Rattle.std.specs.Prelude.{filter_map, flat_map, replicate, ◌≢◌}
-use Rattle.std.specs.List.{AllByRecursion}
-use Rattle.std.specs.Option.{option_map, option_map_or, option_and_then}
-use Rattle.std.proofs.lemmas.List.{append_assoc, map-append, length-append}
-use Rattle.std.proofs.lemmas.List.Sums.{fold-append}
-use Rattle.hs_lists.proofs.Alls.{all_weaker, all_append, all_front, all_back, all_map, all_unmap, all_and}
-use Rattle.hs_base.specs.declared.ids.TraceId.{TraceId}
-use Rattle.hs_base.specs.declared.ids.TriggerId.{TriggerId}
-use Rattle.hs_base.specs.declared.told.Group.{Group}
-use Rattle.hs_journal.specs.declared.books.Standing.{Standing}
-use Rattle.hs_records.specs.Plain.{PlainSettings}
-use Rattle.hs_words.specs.Chunks.{used_in, used_of}
-use Rattle.hs_index.specs.Index.{chunks_left}
-use Rattle.hs_pins.specs.Remembered.{Pin, Remembered}
-use Rattle.hs_pins.specs.PinsLayout.{Remembers, waiting}
-use Rattle.hs_pins.specs.Waiting.{taken, used_bytes}
+use Rattle.hs_agent.proofs.Prelude.{filter_map, flat_map, ◌≢◌, AllByRecursion, option_map, option_map_or, option_and_then, append_assoc, map-append, length-append, fold-append, all_weaker, all_append, all_front, all_back, all_map, all_unmap, all_and, TraceId, TriggerId, Group, Standing, PlainSettings, used_in, used_of, chunks_left, Pin, Remembered, Remembers, waiting, used_bytes, Share, SendsEach, Taken, ChunkStanding, Pinned, Reported, Evicted, Abandoned, indexed_places, indexed_count, pinned_for, pinning_group, is_among, moved, AgentState, page_standing, fate_of, reported_standing, visit, report, ArrivalPlace, Placed, place_of, Kept, Point, Holds, IsKept, HasPage, pinned_place, waiting_chunks, with_fate, SendsNext, costs_of, id_of}
+use Rattle.std.specs.Prelude.{replicate}
+use Rattle.hs_pins.specs.Waiting.{taken}
 use Rattle.hs_pins.specs.Waiting as pins
-use Rattle.hs_sched.specs.declared.share.Share.{Share}
 use Rattle.hs_sched.specs.Visits.{count_sent}
-use Rattle.hs_sched.specs.Sending.{SendsEach}
-use Rattle.hs_law_agent.specs.Standings.{Taken, ChunkStanding, Indexed, Pinned, Reported, Evicted, Abandoned, indexed_places, indexed_count, pinned_for, pinning_group, is_among, moved}
-use Rattle.hs_law_agent.specs.State.{AgentState}
-use Rattle.hs_law_agent.specs.Books.{page_standing, fate_of}
-use Rattle.hs_law_agent.specs.Turning.{order_of, used_at, reported_standing, visit, report}
+use Rattle.hs_law_agent.specs.Standings.{Indexed}
+use Rattle.hs_law_agent.specs.Turning.{order_of, used_at}
 use Rattle.hs_law_agent.specs.Turning as model
-use Rattle.hs_agent.specs.declared.placed.ArrivalPlace.{ArrivalPlace}
-use Rattle.hs_agent.specs.Placing.{Placed, place_of}
-use Rattle.hs_agent.specs.Keeping.{Kept, Point, Holds, IsKept, HasPage, pinned_place, waiting_chunks}
-use Rattle.hs_agent.specs.LettingGo.{with_fate, reported_fate}
-use Rattle.hs_agent.specs.Reporting.{SendsNext, costs_of, id_of}
+use Rattle.hs_agent.specs.LettingGo.{reported_fate}
 use Rattle.hs_agent.proofs.GivingWay.{ArePinned, unmoved}
 use Rattle.hs_agent.proofs.Moved.{sheets, sheets-moved, has_page-same, indexed-moved, count-moved}
 use Rattle.hs_agent.proofs.NextPins.{AreDistinct, FirstFor, first-waiting, without-next, all-waiting, differ-from, distinct-without, filter-others}

@@ -1,21 +1,7 @@
 -- What is kept after an eviction is what the model says then.
 use Rattle.std.proofs.Common.{◌≡◌, ℕ, ◌+◌, ◌≤◌, ◌<◌, List, [], ◌∷◌, ◌++◌, length, map, fold, refl, sym, ap, subst, ◌∙◌, arith}
-use Rattle.std.specs.Prelude.{filter_map}
-use Rattle.std.specs.List.{AllByRecursion}
-use Rattle.std.specs.Option.{option_to_list}
-use Rattle.std.proofs.lemmas.List.{append_assoc, map-append}
-use Rattle.std.proofs.lemmas.Simd.{map-map}
-use Rattle.hs_lists.proofs.Alls.{all_weaker, all_append, all_front, all_back}
-use Rattle.hs_journal.specs.declared.books.Standing.{Standing}
-use Rattle.hs_pins.specs.Remembered.{Pin}
-use Rattle.hs_index.specs.Index.{Index, Indexed, Leaving, chunks_left, kept, evicted, settled, going, with_touched}
-use Rattle.hs_law_agent.specs.State.{AgentState}
-use Rattle.hs_law_agent.specs.Books.{page_standing, claim_note, bytes_at}
-use Rattle.hs_law_agent.specs.Evicting.{evict}
-use Rattle.hs_agent.specs.declared.placed.ArrivalPlace.{ArrivalPlace}
-use Rattle.hs_agent.specs.Placing.{Placed, place_of}
-use Rattle.hs_agent.specs.Keeping.{Kept, Holds, HasPage, IsKept, RemembersAs, Point, with_state, pinned_place, waiting_chunks, all_held}
-use Rattle.hs_agent.specs.LettingGo.{Going, let_go_all, evicted_going}
+use Rattle.hs_agent.proofs.Prelude.{filter_map, AllByRecursion, option_to_list, append_assoc, map-append, map-map, all_weaker, all_append, all_front, all_back, Standing, Pin, Index, Indexed, Leaving, chunks_left, kept, evicted, settled, going, AgentState, page_standing, claim_note, bytes_at, evict, ArrivalPlace, Placed, place_of, Kept, Holds, HasPage, IsKept, RemembersAs, Point, with_state, pinned_place, waiting_chunks, all_held, Going, let_go_all, evicted_going}
+use Rattle.hs_index.specs.Index.{with_touched}
 use Rattle.hs_agent.proofs.Evictions.{HasEvicted, same_evicted, note_leaving, all-kept, all-evicted, count-kept}
 use Rattle.hs_agent.proofs.Moved.{length-same, pages-same, has_page-same}
 use Rattle.hs_agent.proofs.Relieving.{let_go_all-is, fold-goings, going_buffer}

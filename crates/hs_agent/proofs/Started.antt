@@ -1,12 +1,8 @@
 -- What is kept at the beginning.
 use Rattle.std.proofs.Common.{◌≡◌, ℕ, [], None, refl, arith}
-use Rattle.hs_records.specs.Plain.{PlainSettings}
+use Rattle.hs_agent.proofs.Prelude.{PlainSettings, Pinning, Remembers, start, ArrivalPlace, Kept, Point, Holds}
 use Rattle.hs_pins.specs.Remembered.{fresh}
-use Rattle.hs_pins.specs.PinsLayout.{Pinning, Remembers}
 use Rattle.hs_index.specs.Index.{new_index}
-use Rattle.hs_law_agent.specs.State.{start}
-use Rattle.hs_agent.specs.declared.placed.ArrivalPlace.{ArrivalPlace}
-use Rattle.hs_agent.specs.Keeping.{Kept, Point, Holds}
 use Rattle.hs_agent.proofs.Indexing.{indexed-start}
 
 module _ {L : Type 0} (settings : PlainSettings) (node : ℕ) (pins : Pinning ArrivalPlace) where

@@ -1,27 +1,11 @@
 -- A chunk that was taken: what is kept then is what the model says.
 use Rattle.std.proofs.Common.{◌≡◌, ℕ, ◌+◌, ◌≤◌, ◌<◌, ◌^◌, Bool, true, false, cond, [], ◌∷◌, ◌++◌, length, map, Option, Some, None, sym, ap, subst, ◌∙◌}
-use Rattle.std.specs.Option.{option_map, option_map_or, option_and_then}
-use Rattle.hs_lists.proofs.Bools.{by_answer}
-use Rattle.hs_base.specs.declared.ids.TraceId.{TraceId}
-use Rattle.hs_words.specs.declared.page.Header.{Header}
-use Rattle.hs_words.specs.Pages.{Sheet}
-use Rattle.hs_words.specs.Chunks.{used_of, header_of, header_in}
-use Rattle.hs_words.specs.Buffers.{Buffer}
+use Rattle.hs_agent.proofs.Prelude.{option_map, option_map_or, option_and_then, by_answer, TraceId, Header, Sheet, used_of, header_of, Buffer, Claim, Remembered, claim_of, arrived, with_pin, Pinning, Remembers, drops, relieved, AgentState, ClaimedTrace, is_abandoned, abandon, evict, with_indexed, with_pinned, with_abandoned, pin_chunk, take_chunk, ArrivalPlace, Placed, placed_at, Kept, Holds, Point, with_state, plain_claim, Going, let_go_all, abandoned_going, abandoned_fate, noted, indexed, ArrivesAtPins, sheet_in, chunk_taken}
+use Rattle.hs_words.specs.Chunks.{header_in}
 use Rattle.hs_index.specs.Index as index
-use Rattle.hs_pins.specs.Remembered.{Claim, Remembered, claim_of, claim_for, arrived, with_pin}
+use Rattle.hs_pins.specs.Remembered.{claim_for}
 use Rattle.hs_pins.specs.Remembered as pins
-use Rattle.hs_pins.specs.PinsLayout.{Pinning, Remembers}
-use Rattle.hs_pins.specs.Abandoning.{drops, relieved}
-use Rattle.hs_law_agent.specs.State.{AgentState, ClaimedTrace, is_abandoned}
-use Rattle.hs_law_agent.specs.Abandoning.{abandon}
-use Rattle.hs_law_agent.specs.Evicting.{evict}
-use Rattle.hs_law_agent.specs.Stepping.{with_indexed, with_pinned, with_abandoned, pin_chunk, take_chunk}
-use Rattle.hs_agent.specs.declared.placed.ArrivalPlace.{ArrivalPlace}
-use Rattle.hs_agent.specs.Placing.{Placed, placed_at}
-use Rattle.hs_agent.specs.Keeping.{Kept, Holds, Point, with_state, plain_claim}
-use Rattle.hs_agent.specs.LettingGo.{Going, let_go_all, abandoned_going, abandoned_fate}
-use Rattle.hs_agent.specs.Arriving.{noted, indexed, goings_with, ArrivesAtPins}
-use Rattle.hs_agent.specs.Points.{sheet_in, chunk_taken}
+use Rattle.hs_agent.specs.Arriving.{goings_with}
 use Rattle.hs_agent.proofs.Arrived.{holds-arrived, holds-pinned, holds-dropped}
 use Rattle.hs_agent.proofs.Crumbed.{claim_known}
 use Rattle.hs_agent.proofs.Relieving.{holds-abandoned}

@@ -1,36 +1,11 @@
 -- What is kept after a turn, and the shares then, are what the model says.
 use Rattle.std.proofs.Common.{◌≡◌, ℕ, ◌+◌, ◌<◌, ◌≤◌, Bool, true, false, cond, List, [], ◌∷◌, ◌++◌, length, map, fold, Option, Some, refl, sym, ap, subst, ◌∙◌, arith, All, get_or}
-use Rattle.std.specs.Prelude.{filter_map, ◌≢◌}
-use Rattle.std.specs.List.{AllByRecursion, AllPairs, cons_option}
-use Rattle.std.specs.Option.{option_map, option_map_or, option_to_list, is_some, IsSome}
-use Rattle.std.proofs.lemmas.List.{append_assoc, map-append}
-use Rattle.std.proofs.lemmas.List.Elements.{All-from_recursion, recursion_from_All, filter_map-append}
-use Rattle.std.proofs.lemmas.Option.{slice_get_within}
-use Rattle.std.proofs.lemmas.Simd.{map-map}
-use Rattle.hs_lists.proofs.Alls.{all_weaker, all_append, all_front, all_back, all_map, all_unmap, all_and, pairs_head, pairs_tail}
-use Rattle.hs_base.specs.declared.ids.TraceId.{TraceId}
-use Rattle.hs_words.specs.Chunks.{used_in, used_of}
-use Rattle.hs_words.specs.Pages.{page_bytes}
-use Rattle.hs_index.specs.Index.{Indexed, chunks_left}
-use Rattle.hs_pins.specs.Remembered.{Claim, Pin, Remembered}
-use Rattle.hs_pins.specs.PinsLayout.{waiting}
-use Rattle.hs_pins.specs.Waiting.{used_bytes}
-use Rattle.hs_sched.specs.declared.share.Share.{Share}
-use Rattle.hs_sched.specs.Sending.{SendsEach}
-use Rattle.hs_sched.specs.Turns.{Schedule, IsSchedule, after_turn}
-use Rattle.hs_sched.specs.Visits.{visited}
-use Rattle.hs_law_agent.specs.Standings.{Taken}
-use Rattle.hs_law_agent.specs.State.{AgentState}
-use Rattle.hs_law_agent.specs.Messages.{has_crumb}
-use Rattle.hs_law_agent.specs.Books.{page_standing, claim_note, bytes_at}
-use Rattle.hs_law_agent.specs.Turning.{visit, turn, shares_after}
+use Rattle.hs_agent.proofs.Prelude.{filter_map, ◌≢◌, AllByRecursion, cons_option, option_map, option_map_or, option_to_list, is_some, IsSome, append_assoc, map-append, All-from_recursion, recursion_from_All, slice_get_within, map-map, all_weaker, all_append, all_front, all_back, all_map, all_unmap, all_and, TraceId, used_in, used_of, page_bytes, Indexed, chunks_left, Claim, Pin, Remembered, waiting, used_bytes, Share, SendsEach, Schedule, IsSchedule, after_turn, visited, Taken, AgentState, has_crumb, page_standing, claim_note, bytes_at, visit, turn, PlacesMatch, count_of, ArrivalPlace, Placed, place_of, Kept, Point, Holds, IsKept, HasPage, IsIndexed, RemembersAs, with_state, pinned_place, plain_claim, waiting_chunks, all_held, Going, let_go_all, reported, reported_going, page_in, SendsNext, costs_of, id_of}
+use Rattle.std.specs.List.{AllPairs}
+use Rattle.std.proofs.lemmas.List.Elements.{filter_map-append}
+use Rattle.hs_lists.proofs.Alls.{pairs_head, pairs_tail}
+use Rattle.hs_law_agent.specs.Turning.{shares_after}
 use Rattle.hs_law_agent.specs.Turning as model
-use Rattle.hs_law_agent.specs.Laws.{PlacesMatch, count_of}
-use Rattle.hs_agent.specs.declared.placed.ArrivalPlace.{ArrivalPlace}
-use Rattle.hs_agent.specs.Placing.{Placed, place_of}
-use Rattle.hs_agent.specs.Keeping.{Kept, Point, Holds, IsKept, HasPage, IsIndexed, RemembersAs, with_state, pinned_place, plain_claim, waiting_chunks, all_held}
-use Rattle.hs_agent.specs.LettingGo.{Going, let_go_all, reported, reported_going, page_in}
-use Rattle.hs_agent.specs.Reporting.{SendsNext, costs_of, id_of}
 use Rattle.hs_agent.proofs.Moved.{length-same, pages-same, has_page-same}
 use Rattle.hs_agent.proofs.NextPins.{AreDistinct, distinct-counted, all-waiting}
 use Rattle.hs_agent.proofs.Relieving.{let_go_all-is, fold-goings, going_buffer}

@@ -1,22 +1,10 @@
 -- What the steps of the model leave as it was: only the note of a step changes the log, and claims change no crumbs.
 use Rattle.std.proofs.Common.{◌≡◌, ℕ, Bool, true, false, cond, List, [], ◌∷◌, ◌++◌, length, fold, nat_lt, Option, Some, None, refl, sym, ap, ◌∙◌}
-use Rattle.std.specs.Option.{option_map_or}
-use Rattle.hs_base.specs.declared.ids.TraceId.{TraceId}
-use Rattle.hs_base.specs.declared.told.Ask.{Ask}
-use Rattle.hs_base.specs.declared.told.Crumb.{Crumb}
-use Rattle.hs_base.specs.declared.told.Group.{Group}
-use Rattle.hs_base.specs.declared.told.Trigger.{Trigger}
-use Rattle.hs_journal.specs.declared.journal.Step.{Step}
-use Rattle.hs_records.specs.Plain.{PlainSettings}
-use Rattle.hs_sched.specs.declared.share.Share.{Share}
-use Rattle.hs_words.specs.Pages.{Sheet}
-use Rattle.hs_law_agent.specs.State.{AgentState, ClaimedTrace, claim_of, is_claimed, is_abandoned}
-use Rattle.hs_law_agent.specs.Evicting.{is_over, evict_trace, evict_from, evict}
-use Rattle.hs_law_agent.specs.Claiming.{claim_trace, claim_unclaimed, claim_each, traces_of}
-use Rattle.hs_law_agent.specs.Abandoning.{abandon_group, abandon_within, abandon, next_to_go, pinned_groups}
-use Rattle.hs_law_agent.specs.Turning.{report, visit, turn}
-use Rattle.hs_law_agent.specs.Messages.{has_crumb}
-use Rattle.hs_law_agent.specs.Stepping.{Input, Chunk, Crumbed, Triggered, Asked, Turn, take_input, take_chunk, take_crumb, take_trigger, take_ask, pin_chunk, late_crumb, tell_late, claim_for, admits, admit, note_trigger, count_admitted, group_of, with_indexed, with_touched, with_pinned, with_abandoned}
+use Rattle.hs_agent.proofs.Prelude.{option_map_or, TraceId, Ask, Crumb, Group, Trigger, Step, PlainSettings, Share, Sheet, AgentState, ClaimedTrace, is_claimed, is_abandoned, evict_trace, evict, claim_trace, claim_unclaimed, claim_each, traces_of, abandon, report, visit, turn, has_crumb, Chunk, Crumbed, Triggered, Asked, Turn, take_input, take_chunk, take_crumb, take_trigger, take_ask, pin_chunk, late_crumb, tell_late, claim_for, admits, admit, note_trigger, count_admitted, group_of, with_indexed, with_touched, with_pinned, with_abandoned}
+use Rattle.hs_law_agent.specs.State.{claim_of}
+use Rattle.hs_law_agent.specs.Evicting.{is_over, evict_from}
+use Rattle.hs_law_agent.specs.Abandoning.{abandon_group, abandon_within, next_to_go, pinned_groups}
+use Rattle.hs_law_agent.specs.Stepping.{Input}
 
 module _ {X : Type 0} (f : AgentState → X) (settings : PlainSettings) where
   pub evict-keeps : ((trace : TraceId) (later : List TraceId) (state : AgentState) → f (evict_trace trace later state) ≡ f state) → (traces : List TraceId) (state : AgentState) → f (evict_from settings traces state) ≡ f state

@@ -1,31 +1,14 @@
 -- Agents take enough asks where the counts of asks and of messages say so.
 use Rattle.std.proofs.Common.{◌≡◌, ℕ, zero, suc, ◌+◌, ◌-◌, ◌<◌, ◌≤◌, Bool, true, leb, min, List, [], ◌∷◌, ◌++◌, length, map, take, drop, get_or, refl, sym, ap, ◌∙◌, arith}
-use Rattle.std.specs.Prelude.{count_by, ◌&&◌}
-use Rattle.std.specs.List.{range_with_len, list_all}
-use Rattle.std.proofs.lemmas.List.FromFn.{length-map-range_with_len}
+use Rattle.hs_check.proofs.Prelude.{count_by, ◌&&◌, range_with_len, list_all, length-map-range_with_len, count_cons, NodeId, MAX_TAKEN, NodeSet, Message, Messages, Step, PlainJournal, is_followed, RunsAreOfTheJournal, NodeRun, Run, log_at, followed, FollowingPlaysOut, asks_in_pace, said_in, passes_of, played, PlainSettings, PlainWorkload, FoundNode, AreFound, IsFoundNode, known_at, found_counted, nodes_counted, heard_for, most_passes, asks_behind_each, ask_enough_at, all_ask_enough, one_more, behind_each, is_of}
 use Rattle.std.proofs.Math.Nat.{min_comm}
-use Rattle.hs_lists.proofs.Counts.{count_cons}
-use Rattle.hs_base.specs.declared.ids.NodeId.{NodeId}
-use Rattle.hs_base.specs.declared.limits.TheConstants.{MAX_TAKEN}
-use Rattle.hs_base.specs.declared.node_set.NodeSet.{NodeSet}
 use Rattle.hs_base.specs.NodeSets.{has_node}
-use Rattle.hs_coord.specs.Following.{Message, Messages}
-use Rattle.hs_journal.specs.declared.journal.Step.{Step}
-use Rattle.hs_journal.specs.Views.{PlainJournal}
-use Rattle.hs_law_journal.specs.Ends.{is_followed}
-use Rattle.hs_law_journal.specs.Extending.{RunsAreOfTheJournal}
-use Rattle.hs_law_journal.specs.Following.{Asks, asks_to, NodeRun, Run, log_at, followed}
-use Rattle.hs_law_journal.specs.Orders.{FollowingPlaysOut}
-use Rattle.hs_law_journal.specs.Pace.{asks_in_pace, asks_enough, said_in}
-use Rattle.hs_law_journal.specs.Passes.{passes_of, taken_in}
-use Rattle.hs_law_journal.specs.Played.{played}
-use Rattle.hs_records.specs.Plain.{PlainSettings, PlainWorkload}
+use Rattle.hs_law_journal.specs.Following.{Asks, asks_to}
+use Rattle.hs_law_journal.specs.Pace.{asks_enough}
+use Rattle.hs_law_journal.specs.Passes.{taken_in}
 use Rattle.hs_check_clauses.specs.declared.found.Found.{Found}
-use Rattle.hs_check_clauses.specs.declared.found.FoundNode.{FoundNode}
-use Rattle.hs_check_clauses.specs.Finding.{AreFound, AreAsked, IsFound, IsFoundNode}
-use Rattle.hs_check_clauses.proofs.Knowing.{known_at, asks_counted, found_counted, nodes_counted, heard_is_told}
-use Rattle.hs_check.specs.CountedAsks.{heard_for, most_passes, asks_behind_each, ask_enough_at, all_ask_enough}
-use Rattle.hs_check.specs.Counting.{one_more, behind_each, is_of}
+use Rattle.hs_check_clauses.specs.Finding.{AreAsked, IsFound}
+use Rattle.hs_check_clauses.proofs.Knowing.{asks_counted, heard_is_told}
 use Rattle.hs_check.specs.declared.kinds.Kind.TheVariants as kinds
 use Rattle.hs_check.proofs.Firsts.{first_of, first_le}
 use Rattle.hs_check.proofs.Heard.{heard_is, all_heard, most_is}

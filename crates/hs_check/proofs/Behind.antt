@@ -1,31 +1,17 @@
 -- The state of a followed node's agent behind some steps of its log: it has given back the first buffers that it gives back, as many
 -- as these steps have gives, each with the chunk that lies at its place in the end too.
 use Rattle.std.proofs.Common.{◌≡◌, ℕ, zero, suc, ◌+◌, ◌<◌, ◌≤◌, Bool, false, cond, List, [], ◌∷◌, ◌++◌, length, map, take, drop, Option, Some, None, refl, sym, ap, ◌∙◌, inl, inr, arith}
-use Rattle.std.specs.Prelude.{slice_get, option_map, filter_map, count_by, ◌||◌}
-use Rattle.std.specs.List.{flat_map, list_any}
-use Rattle.std.specs.Option.{option_and_then, option_map_or}
-use Rattle.std.proofs.Math.Seq.{take-append_seam}
-use Rattle.std.proofs.lemmas.Bool.{eq-eqb, cases_lt}
-use Rattle.std.proofs.lemmas.List.{append_assoc, append-nil, length-append, length-map, map-append, take-append-drop, take-map}
-use Rattle.std.proofs.lemmas.List.Sums.{sum_by-cons, sum_by-append}
-use Rattle.std.proofs.lemmas.Option.{slice_get-map}
-use Rattle.hs_lists.proofs.Counts.{one_if}
+use Rattle.hs_check.proofs.Prelude.{slice_get, option_map, count_by, ◌||◌, flat_map, list_any, option_and_then, option_map_or, take-append_seam, eq-eqb, cases_lt, append_assoc, append-nil, length-append, length-map, map-append, take-append-drop, take-map, sum_by-cons, slice_get-map, one_if, Step, EventsAddThis, EventsGoOn, ListsHaveTheirChunks, Taken, AgentState, GivenPlace, PlainSettings, DrawnPage, NodeRun, ComesByEvents, state_behind, page_of, given_page, is_give}
+use Rattle.std.specs.Prelude.{filter_map}
+use Rattle.std.proofs.lemmas.List.Sums.{sum_by-append}
 use Rattle.hs_lists.proofs.Places.{get_front_same}
-use Rattle.hs_journal.specs.declared.journal.Step.{Step}
 use Rattle.hs_journal.specs.declared.journal.Step.TheVariants as steps
-use Rattle.hs_law_agent.specs.Laws.{count_of, given_places, sheets_of, brought_by, noted_as, EventsAddThis, EventsGoOn, ListsHaveTheirChunks}
-use Rattle.hs_law_agent.specs.Standings.{Taken, is_let_go, stands}
-use Rattle.hs_law_agent.specs.State.{AgentState, GivenPlace, start}
+use Rattle.hs_law_agent.specs.Laws.{count_of, given_places, sheets_of, brought_by, noted_as}
+use Rattle.hs_law_agent.specs.Standings.{is_let_go, stands}
+use Rattle.hs_law_agent.specs.State.{start}
 use Rattle.hs_law_agent.specs.Stepping.{Given, Missed, Unread, AgentEvent, Took, Gave, give_back, step_of, after_event, after_from, after}
-use Rattle.hs_records.specs.Plain.{PlainSettings}
-use Rattle.hs_law_sends.specs.Drawn.{DrawnPage}
 use Rattle.hs_words.specs.Pages.{Sheet}
-use Rattle.hs_law_journal.specs.Following.{NodeRun}
 use Rattle.hs_law_journal.specs.Gives.{given_stamp}
-use Rattle.hs_law_journal.specs.Laws.{ComesByEvents}
-use Rattle.hs_law_journal.specs.Played.{state_behind}
-use Rattle.hs_law_journal.specs.Pooled.{page_of, given_page}
-use Rattle.hs_check.specs.Showing.{is_give}
 
 -- ---- counts of gives
 

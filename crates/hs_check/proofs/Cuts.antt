@@ -1,15 +1,15 @@
 -- How far a part goes, line by line.
 use Rattle.std.proofs.Common.{◌≡◌, ◌≢◌, ℕ, ◌+◌, ◌≤◌, Bool, true, false, not, cond, nat_eq, List, [], ◌∷◌, ◌++◌, length, take, add-zero, refl, sym, ap, ◌∙◌, arith, length-append}
+use Rattle.hs_check.proofs.Prelude.{take_all, length_with}
 use Rattle.std.specs.List.{All, take_while}
 use Rattle.std.specs.Str.{bytes_eq}
-use Rattle.std.proofs.lemmas.List.{take_all}
 use Rattle.std.proofs.lemmas.List.Splits.{slice_split_none}
 use Rattle.std.proofs.lemmas.List.Sums.{take_while-cons}
 use Rattle.std.proofs.lemmas.Slice.Eq.{bytes_eq-Decides}
 use Rattle.hs_text.specs.Judging.{parts_of}
 use Rattle.hs_text.specs.Text.{text_of}
 use Rattle.hs_text.specs.JudgingLaws.{no_newline, line_part}
-use Rattle.hs_check.specs.Parts.{length_with, part_through}
+use Rattle.hs_check.specs.Parts.{part_through}
 
 -- whether a line is another one
 abbrev is_other : List ℕ → List ℕ → Bool

@@ -1,13 +1,6 @@
 -- The draws of a client's pages, and those of all clients, one after another.
 use Rattle.std.proofs.Common.{◌≡◌, ℕ, ◌+◌, ◌<◌, ◌≤◌, List, [], ◌∷◌, ◌++◌, length, take, drop, get_or, refl, sym, ap, ◌∙◌, arith}
-use Rattle.std.proofs.lemmas.List.{drop_more, drop_all}
-use Rattle.hs_journal.specs.declared.journal.Draw.{Draw}
-use Rattle.hs_journal.specs.Views.{PlainJournal}
-use Rattle.hs_law_sends.specs.Drawn.{has_buffer, stamp_of}
-use Rattle.hs_law_sends.specs.Sending.{draws_at}
-use Rattle.hs_check_clauses.specs.declared.found.FoundClient.{FoundClient}
-use Rattle.hs_check_clauses.specs.Happening.{drawn_from}
-use Rattle.hs_check.specs.PageDraws.{first_stamp, page_draws, all_page_draws}
+use Rattle.hs_check.proofs.Prelude.{drop_more, drop_all, Draw, PlainJournal, has_buffer, stamp_of, draws_at, FoundClient, drawn_from, first_stamp, page_draws, all_page_draws}
 
 module _ (client : ℕ) (started : List ℕ) (draws : List Draw) (i : ℕ) where
   pub one_draw : (d : Draw) → length draws ≤ length started → i < length draws

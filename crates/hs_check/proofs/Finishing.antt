@@ -1,17 +1,11 @@
 -- The books of agents that follow the runs of their nodes, one after another.
 use Rattle.std.proofs.Common.{◌≡◌, ℕ, ◌+◌, ◌<◌, List, [], ◌∷◌, ◌++◌, length, map, drop, get_or, None, refl, sym, ap, ◌∙◌, arith, append-nil, append_assoc}
-use Rattle.std.proofs.lemmas.List.{map-append, drop_all}
+use Rattle.hs_check.proofs.Prelude.{map-append, drop_all, found_at, found_as_many, agent_book_of, AgentBook, NodeRun, AgentState, PlainSettings, IsAgentOf, AreAgentsOf, book_at}
 use Rattle.hs_agent.specs.Keeping.{PlainAgent}
 use Rattle.hs_agent.specs.Runs as agents
-use Rattle.hs_check_clauses.proofs.Knowing.{found_at, found_as_many}
 use Rattle.hs_check_follow.specs.Nodes.{agent_run}
-use Rattle.hs_journal.specs.Books.{PlainAgentBook, agent_book_of}
-use Rattle.hs_journal.specs.declared.books.AgentBook.{AgentBook}
-use Rattle.hs_law_journal.specs.Following.{NodeRun}
+use Rattle.hs_journal.specs.Books.{PlainAgentBook}
 use Rattle.hs_law_agent.specs.Books.{book_of}
-use Rattle.hs_law_agent.specs.State.{AgentState}
-use Rattle.hs_records.specs.Plain.{PlainSettings}
-use Rattle.hs_check.specs.Leaving.{IsAgentOf, AreAgentsOf, book_at}
 
 -- the books so far, and those of the runs that are left, are those of all
 abbrev pub AreBooksSo : List NodeRun → ℕ → List AgentBook → Type 0

@@ -1,10 +1,8 @@
 -- The first of some clauses that fails, where these are asked one after another.
 use Rattle.std.proofs.Common.{◌≡◌, ℕ, Bool, true, false, not, cond, List, [], ◌∷◌, ◌++◌, Option, Some, None, refl, ap}
-use Rattle.std.specs.Prelude.{option_map, find}
-use Rattle.std.specs.List.{AllByRecursion}
+use Rattle.hs_check.proofs.Prelude.{option_map, AllByRecursion, Played, first_among}
+use Rattle.std.specs.Prelude.{find}
 use Rattle.hs_law_journal.specs.Lawful.{Clause}
-use Rattle.hs_law_journal.specs.Played.{Played}
-use Rattle.hs_check.specs.Asking.{first_among}
 
 -- the number of the clause that was found
 abbrev number_in : Option Clause → Option ℕ

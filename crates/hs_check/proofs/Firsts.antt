@@ -1,9 +1,9 @@
 -- The first number that passes a test: where it stands one test later, and where two tests are passed that stay passed.
 use Rattle.std.proofs.Common.{◌≡◌, ℕ, zero, suc, ◌+◌, ◌≤◌, Bool, true, false, cond, max, Option, Some, refl, sym, ap, ◌∙◌, arith}
-use Rattle.std.specs.Prelude.{unwrap_or, ◌&&◌}
-use Rattle.std.specs.List.{find, range_with_len}
+use Rattle.hs_check.proofs.Prelude.{◌&&◌, range_with_len, and-true}
+use Rattle.std.specs.Prelude.{unwrap_or}
+use Rattle.std.specs.List.{find}
 use Rattle.std.proofs.Math.Nat.{suc-max-suc, max-zero}
-use Rattle.std.proofs.Math.Bool.{and-true}
 
 -- the first number below n that passes, or n
 abbrev pub first_of : (ℕ → Bool) → ℕ → ℕ

@@ -1,33 +1,11 @@
 -- Gives stand beside draws where the stamps of the log, counted pass by pass, say so of each page.
 use Rattle.std.proofs.Common.{◌≡◌, ℕ, ◌+◌, ◌-◌, ◌/◌, ◌<◌, ◌≤◌, Bool, true, false, cond, eqb, ltb, min, List, [], ◌∷◌, ◌++◌, length, map, take, drop, get_or, refl, sym, ap, ◌∙◌, inl, inr, arith}
-use Rattle.std.specs.Prelude.{count_by, zip, ◌&&◌, ◌||◌}
-use Rattle.std.specs.List.{flat_map, range_with_len, list_all}
-use Rattle.std.proofs.Math.Nat.{min-le_right}
-use Rattle.std.proofs.Math.Seq.{take-append_seam, drop-append_seam}
-use Rattle.std.proofs.lemmas.Bool.{cases_lt, and_parts}
+use Rattle.hs_check.proofs.Prelude.{count_by, zip, ◌&&◌, ◌||◌, flat_map, range_with_len, list_all, min-le_right, take-append_seam, cases_lt, and_parts, drop_all, length-append, take-append-drop, take_min, filter_map-append, list_all-append, count_cons, Draw, Step, PlainJournal, NodeRun, log_at, gives_in_pace, ends_between, put_step, passes_of, played, node_pages, step_stamp, log_stamps, rise, has_stamps, node_has_stamps, node_stamps, node_draws, draw_stamps, are_numbered, PlainWorkload, DrawnPage, stamp_of, ClientSends, FoundClient, AreFound, IsFoundClient, starts_of, each_holds, all_beside, clients_beside, behind_each, is_of}
+use Rattle.std.proofs.Math.Seq.{drop-append_seam}
 use Rattle.std.proofs.lemmas.Grind.{flat_map-append}
-use Rattle.std.proofs.lemmas.List.{drop_all, length-append, take-append-drop, take_min}
-use Rattle.std.proofs.lemmas.List.Elements.{filter_map-append}
-use Rattle.std.proofs.lemmas.List.Folds.{list_all-append}
-use Rattle.hs_lists.proofs.Counts.{count_cons}
-use Rattle.hs_journal.specs.declared.journal.Draw.{Draw}
-use Rattle.hs_journal.specs.declared.journal.Step.{Step}
 use Rattle.hs_journal.specs.declared.journal.Step.TheVariants as steps
-use Rattle.hs_journal.specs.Views.{PlainJournal}
-use Rattle.hs_law_journal.specs.Following.{NodeRun, log_at}
-use Rattle.hs_law_journal.specs.Pace.{gives_in_pace, is_beside}
-use Rattle.hs_law_journal.specs.Passes.{ends_between, put_step, passes_of}
-use Rattle.hs_law_journal.specs.Played.{played}
-use Rattle.hs_law_journal.specs.Pooled.{node_pages}
-use Rattle.hs_law_journal.specs.Shape.{step_stamp, log_stamps, rise, has_stamps, node_has_stamps, node_stamps, node_draws, draw_stamps, are_numbered}
-use Rattle.hs_records.specs.Plain.{PlainWorkload}
-use Rattle.hs_law_sends.specs.Drawn.{DrawnPage, stamp_of}
-use Rattle.hs_law_sends.specs.Sending.{ClientSends}
-use Rattle.hs_check_clauses.specs.declared.found.FoundClient.{FoundClient}
-use Rattle.hs_check_clauses.specs.Finding.{AreFound, IsFoundClient, starts_of}
-use Rattle.hs_check_clauses.proofs.Ranges.{each_holds}
-use Rattle.hs_check.specs.Besides.{stamps_behind, stands_beside, all_beside, clients_beside, draws_by}
-use Rattle.hs_check.specs.Counting.{behind_each, is_of}
+use Rattle.hs_law_journal.specs.Pace.{is_beside}
+use Rattle.hs_check.specs.Besides.{stamps_behind, stands_beside, draws_by}
 use Rattle.hs_check.specs.declared.kinds.Kind.TheVariants as kinds
 use Rattle.hs_check.proofs.Passing.{counts_at, counts_many}
 use Rattle.hs_check.proofs.Sides.{all_alike, all_swapped, beside, stamps_of, sides, first_tells, last_tells}

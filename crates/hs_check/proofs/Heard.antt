@@ -1,24 +1,11 @@
 -- How many messages are to be heard by each pass is counted node by node.
 use Rattle.std.proofs.Common.{◌≡◌, ℕ, zero, suc, ◌+◌, ◌-◌, ◌<◌, ◌≤◌, Bool, true, false, cond, eqb, leb, min, max, List, [], ◌∷◌, length, map, take, drop, get_or, refl, sym, ap, ◌∙◌, inl, inr, arith}
-use Rattle.std.specs.Prelude.{count_by}
-use Rattle.std.specs.List.{range_with_len, list_all, flat_map}
-use Rattle.std.proofs.Math.Nat.{min-le_right, le-max_left, le-max_right}
-use Rattle.std.proofs.lemmas.Bool.{leb-true, le-leb, lt-leb, ne_eqb, cases_lt, and_parts, and_from}
-use Rattle.std.proofs.lemmas.List.{length-map, take-map, take_min, drop_more}
-use Rattle.std.proofs.lemmas.List.FromFn.{get_or-map-range_with_len, length-map-range_with_len}
-use Rattle.hs_lists.proofs.Counts.{count_map, one_if, count_cons}
-use Rattle.hs_base.specs.declared.ids.NodeId.{NodeId}
-use Rattle.hs_base.specs.declared.limits.TheConstants.{MAX_TAKEN}
-use Rattle.hs_coord.specs.Following.{Message, Messages}
-use Rattle.hs_law_journal.specs.Following.{NodeRun, is_from}
-use Rattle.hs_law_journal.specs.Pace.{due_of, due_by, said_in}
-use Rattle.hs_law_journal.specs.Passes.{passes_of}
-use Rattle.hs_law_journal.specs.Played.{state_behind}
-use Rattle.hs_journal.specs.declared.journal.Step.{Step}
-use Rattle.hs_records.specs.Plain.{PlainSettings}
-use Rattle.hs_check_clauses.specs.declared.found.FoundNode.{FoundNode}
-use Rattle.hs_check_clauses.specs.Finding.{AreFound, IsFoundNode, behind_passes}
-use Rattle.hs_check.specs.CountedAsks.{said_behind, places_behind, heard_with, heard_until, heard_for, most_passes}
+use Rattle.hs_check.proofs.Prelude.{count_by, range_with_len, list_all, flat_map, min-le_right, le-leb, lt-leb, ne_eqb, cases_lt, and_parts, and_from, length-map, take-map, take_min, drop_more, get_or-map-range_with_len, length-map-range_with_len, count_map, one_if, count_cons, NodeId, MAX_TAKEN, Message, Messages, NodeRun, due_of, said_in, passes_of, state_behind, Step, PlainSettings, FoundNode, AreFound, IsFoundNode, said_behind, places_behind, heard_with, heard_until, heard_for, most_passes}
+use Rattle.std.proofs.Math.Nat.{le-max_left, le-max_right}
+use Rattle.std.proofs.lemmas.Bool.{leb-true}
+use Rattle.hs_law_journal.specs.Following.{is_from}
+use Rattle.hs_law_journal.specs.Pace.{due_by}
+use Rattle.hs_check_clauses.specs.Finding.{behind_passes}
 use Rattle.hs_check.proofs.Firsts.{first_of, first_next, first_congr, first_always, first_both, Rises}
 
 -- ---- counts of a beginning

@@ -1,15 +1,12 @@
 -- What is left at all nodes where a lawful journal was followed: the books of the clients and the agents.
 use Rattle.std.proofs.Common.{◌≡◌, ℕ, zero, suc, ◌+◌, ◌*◌, ◌<◌, List, [], ◌∷◌, ◌++◌, length, map, Some, refl, sym, ap, subst, ◌∙◌, arith, eqb-true}
-use Rattle.std.specs.Prelude.{slice_get, option_map}
-use Rattle.std.specs.List.{flat_map, range_with_len}
-use Rattle.std.proofs.lemmas.Bool.{and_parts}
-use Rattle.std.proofs.lemmas.List.{map-append, nil_from_length}
+use Rattle.hs_check.proofs.Prelude.{slice_get, option_map, flat_map, range_with_len, and_parts, map-append, slice_get-map, AreFound, PlainJournal, RunsAreOfTheJournal, NodeRun, Run, followed, PlainWorkload, IsAgentOf, AreAgentsOf}
+use Rattle.std.proofs.lemmas.List.{nil_from_length}
 use Rattle.std.proofs.lemmas.List.FromFn.{length-range_with_len, get_or-range_with_len}
-use Rattle.std.proofs.lemmas.Option.{slice_get-map, slice_get-get_or, slice_get_within, same_Some}
+use Rattle.std.proofs.lemmas.Option.{slice_get-get_or, slice_get_within, same_Some}
 use Rattle.hs_lists.proofs.Places.{get_there}
 use Rattle.hs_lists.proofs.Tests.{list_all_at}
 use Rattle.hs_lists.proofs.Ranges.{range_append}
-use Rattle.hs_check_clauses.specs.Finding.{AreFound}
 use Rattle.hs_check_follow.specs.Parting.{books_left}
 use Rattle.hs_check_follow.specs.Whole.{AllAt}
 use Rattle.hs_check_follow.specs.declared.coordinator.FollowedCoordinator.{FollowedCoordinator}
@@ -17,14 +14,10 @@ use Rattle.hs_check_follow.specs.declared.parting.FollowedParts.{FollowedParts}
 use Rattle.hs_check_follow.specs.declared.node.FollowedNode.{FollowedNode}
 use Rattle.hs_check_follow.specs.declared.client.FollowedClient.{FollowedClient}
 use Rattle.hs_journal.specs.Books.{client_book_of}
-use Rattle.hs_journal.specs.Views.{PlainJournal}
 use Rattle.hs_law_journal.specs.Ends.{is_left_bare}
-use Rattle.hs_law_journal.specs.Extending.{RunsAreOfTheJournal}
-use Rattle.hs_law_journal.specs.Following.{NodeRun, Run, followed}
 use Rattle.hs_law_journal.specs.Lawful.{IsLawful}
 use Rattle.hs_law_outcome.specs.Outcomes.{client_book}
-use Rattle.hs_records.specs.Plain.{PlainWorkload}
-use Rattle.hs_check.specs.Leaving.{IsAgentOf, AreAgentsOf, AreLeft}
+use Rattle.hs_check.specs.Leaving.{AreLeft}
 
 -- ---- lists
 

@@ -1,3 +1,4 @@
+mod Prelude
 mod Cuts
 mod First
 mod Whole

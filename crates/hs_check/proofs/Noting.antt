@@ -1,22 +1,12 @@
 -- What one step of a log shows more.
 use Rattle.std.proofs.Common.{◌≡◌, ℕ, zero, suc, ◌+◌, ◌<◌, ◌≤◌, Bool, true, false, cond, ltb, List, [], ◌∷◌, ◌++◌, length, take, Option, Some, None, refl, sym, ap, ◌∙◌, inl, inr, arith}
-use Rattle.std.specs.Prelude.{max, ◌||◌}
-use Rattle.std.specs.List.{list_any, cons_option}
-use Rattle.std.specs.Option.{option_map_or}
+use Rattle.hs_check.proofs.Prelude.{◌||◌, list_any, option_map_or, lt-ltb, le-ltb, cases_lt, length-append, length-take-le, filter_map-append, list_any-append, count_by-le-length, one_if, Step, is_turn, step_stamp, log_stamps, FoundPage, Shown, is_give, is_passed, HasGiven, IsShown}
+use Rattle.std.specs.Prelude.{max}
+use Rattle.std.specs.List.{cons_option}
 use Rattle.std.proofs.Math.Bool.{or-false}
-use Rattle.std.proofs.lemmas.Bool.{lt-ltb, le-ltb, cases_lt}
-use Rattle.std.proofs.lemmas.List.{length-append, length-take-le}
-use Rattle.std.proofs.lemmas.List.Elements.{filter_map-append}
-use Rattle.std.proofs.lemmas.List.Folds.{list_any-append}
-use Rattle.std.proofs.lemmas.List.Sums.{count_by-le-length}
-use Rattle.hs_lists.proofs.Counts.{one_if, count_push}
-use Rattle.hs_journal.specs.declared.journal.Step.{Step}
+use Rattle.hs_lists.proofs.Counts.{count_push}
 use Rattle.hs_journal.specs.declared.journal.Step.TheVariants as steps
-use Rattle.hs_law_journal.specs.Passes.{is_turn}
-use Rattle.hs_law_journal.specs.Shape.{step_stamp, log_stamps}
-use Rattle.hs_check_clauses.specs.declared.found.FoundPage.{FoundPage}
-use Rattle.hs_check.specs.declared.shown.Shown.{Shown}
-use Rattle.hs_check.specs.Showing.{is_give, is_passed, HasGiven, IsShown, HasRoom}
+use Rattle.hs_check.specs.Showing.{HasRoom}
 
 -- ---- a step behind others
 

@@ -1,10 +1,6 @@
 -- The pace of all nodes: of gives and items node by node, and of asks.
 use Rattle.std.proofs.Common.{◌≡◌, Bool, true, false, List, [], ◌∷◌, refl, sym, ap, ◌∙◌}
-use Rattle.std.specs.Prelude.{◌&&◌}
-use Rattle.std.specs.List.{list_all}
-use Rattle.hs_law_journal.specs.Following.{NodeRun, Run}
-use Rattle.hs_law_journal.specs.Pace.{gives_in_pace, items_in_pace, asks_in_pace}
-use Rattle.hs_records.specs.Plain.{PlainSettings}
+use Rattle.hs_check.proofs.Prelude.{◌&&◌, list_all, NodeRun, Run, gives_in_pace, items_in_pace, asks_in_pace, PlainSettings}
 
 -- gives and items
 abbrev pub keeps_pace : PlainSettings → NodeRun → Bool

@@ -1,31 +1,14 @@
 -- The pages of a node: each stands at the number of its client and its own, and of the later draws of a client the next one has the
 -- lowest stamp.
 use Rattle.std.proofs.Common.{◌≡◌, ℕ, zero, suc, ◌+◌, ◌-◌, ◌<◌, ◌≤◌, Bool, true, false, eqb, ltb, List, [], ◌∷◌, ◌++◌, map, Option, Some, None, refl, sym, ap, ◌∙◌, inl, inr, arith}
-use Rattle.std.specs.Prelude.{slice_get, option_map, ◌&&◌, ◌||◌}
-use Rattle.std.specs.List.{flat_map, list_any, range_with_len, AllByRecursion}
-use Rattle.std.specs.Option.{option_and_then, option_map_or}
-use Rattle.std.proofs.lemmas.Bool.{and_parts, and_from, and_left, and_right, eqb-true, eq-eqb, ne_eqb, lt-ltb, le-ltb, ltb-true, cases_eq, cases_lt, false_from_ne_true, true≢false}
-use Rattle.std.proofs.lemmas.List.{map-append}
-use Rattle.std.proofs.lemmas.List.Folds.{list_any-append}
+use Rattle.hs_check.proofs.Prelude.{slice_get, option_map, ◌&&◌, ◌||◌, flat_map, list_any, range_with_len, AllByRecursion, option_and_then, option_map_or, and_parts, and_from, and_right, eq-eqb, ne_eqb, lt-ltb, le-ltb, cases_eq, cases_lt, map-append, list_any-append, all_each, all_append, Draw, PlainJournal, PlainWorkload, DrawnPage, has_buffer, stamp_of, ClientSends, draws_at, place_of, draw_stamps, rise, rise_above, same_page, FoundClient, FoundPage, AreFound, IsFoundClient, starts_of, drawn_lists, PageDraw, first_stamp, page_draws, all_page_draws, is_named, is_passed}
+use Rattle.std.proofs.lemmas.Bool.{and_left, eqb-true, ltb-true, false_from_ne_true, true≢false}
 use Rattle.hs_lists.proofs.Tests.{list_any_none}
-use Rattle.hs_lists.proofs.Alls.{all_each, all_append}
 use Rattle.hs_base.specs.declared.ids.ClientId.{ClientId}
-use Rattle.hs_journal.specs.declared.journal.Draw.{Draw}
-use Rattle.hs_journal.specs.Views.{PlainJournal}
-use Rattle.hs_records.specs.Plain.{PlainWorkload}
-use Rattle.hs_law_sends.specs.Drawn.{DrawnPage, has_buffer, stamp_of, drawn_from}
-use Rattle.hs_law_sends.specs.Sending.{ClientSends, draws_at, place_of, operations_at, client_sends}
+use Rattle.hs_law_sends.specs.Drawn.{drawn_from}
+use Rattle.hs_law_sends.specs.Sending.{operations_at, client_sends}
 use Rattle.hs_law_sends.specs.Timing.{TimedPage, timed_pages}
 use Rattle.hs_law_sends.proofs.Order.{page_at as own_at}
-use Rattle.hs_law_journal.specs.Shape.{draw_stamps, rise, rise_above}
-use Rattle.hs_law_journal.specs.Unreads.{same_page}
-use Rattle.hs_check_clauses.specs.declared.found.FoundClient.{FoundClient}
-use Rattle.hs_check_clauses.specs.declared.found.FoundPage.{FoundPage}
-use Rattle.hs_check_clauses.specs.Finding.{AreFound, IsFoundClient, starts_of}
-use Rattle.hs_check_clauses.proofs.NodeEvents.{drawn_lists}
-use Rattle.hs_check.specs.declared.page_draws.PageDraw.{PageDraw}
-use Rattle.hs_check.specs.PageDraws.{first_stamp, page_draws, all_page_draws}
-use Rattle.hs_check.specs.Showing.{is_named, is_passed}
 
 -- the page of a client's number and its own
 abbrev pub page_at : List ClientSends → ℕ → ℕ → Option DrawnPage

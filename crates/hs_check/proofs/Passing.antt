@@ -1,21 +1,12 @@
 -- Counts behind each pass of a log, pass by pass and step by step.
 use Rattle.std.proofs.Common.{◌≡◌, ℕ, zero, suc, ◌+◌, ◌-◌, ◌*◌, ◌<◌, ◌≤◌, Bool, true, false, cond, ltb, leb, min, List, [], ◌∷◌, ◌++◌, length, map, take, get_or, refl, sym, ap, ◌∙◌, arith}
-use Rattle.std.specs.Prelude.{count_by, ◌&&◌}
-use Rattle.std.specs.List.{flat_map, range_with_len, list_all}
-use Rattle.std.proofs.lemmas.List.FromFn.{get_or-map-range_with_len, length-map-range_with_len}
+use Rattle.hs_check.proofs.Prelude.{count_by, ◌&&◌, flat_map, range_with_len, list_all, get_or-map-range_with_len, length-map-range_with_len, count_map, one_if, count_cons, MAX_TAKEN, Step, PlainSettings, ClientSends, Chunks, Crumbs, Triggers, takes, client_in_pace, passes_of, put_step, ends_between, one_more, behind_each, FoundClient, IsFoundClient, sent_in, enough_at, all_enough, numbers_in_pace}
 use Rattle.std.proofs.lemmas.List.Sums.{length-filter}
-use Rattle.hs_lists.proofs.Counts.{count_map, one_if, count_cons}
-use Rattle.hs_base.specs.declared.limits.TheConstants.{MAX_TAKEN}
-use Rattle.hs_journal.specs.declared.journal.Step.{Step}
-use Rattle.hs_records.specs.Plain.{PlainSettings}
-use Rattle.hs_law_sends.specs.Sending.{Sent, ClientSends, sent_within}
-use Rattle.hs_law_journal.specs.Following.{Queue, Chunks, Crumbs, Triggers, takes}
-use Rattle.hs_law_journal.specs.Pace.{takes_enough, queue_in_pace, client_in_pace}
-use Rattle.hs_law_journal.specs.Passes.{passes_of, put_step, ends_between}
-use Rattle.hs_check.specs.Counting.{count_in, one_more, behind_each}
-use Rattle.hs_check_clauses.specs.declared.found.FoundClient.{FoundClient}
-use Rattle.hs_check_clauses.specs.Finding.{IsFoundClient, numbers_of}
-use Rattle.hs_check.specs.Pacing.{sent_in, enough_at, all_enough, numbers_in_pace}
+use Rattle.hs_law_sends.specs.Sending.{Sent, sent_within}
+use Rattle.hs_law_journal.specs.Following.{Queue}
+use Rattle.hs_law_journal.specs.Pace.{takes_enough, queue_in_pace}
+use Rattle.hs_check.specs.Counting.{count_in}
+use Rattle.hs_check_clauses.specs.Finding.{numbers_of}
 use Rattle.hs_check.proofs.Tallied.{sent_by}
 use Rattle.hs_check_clauses.proofs.PassFronts.{begins}
 

@@ -1,15 +1,9 @@
 -- All gives stand beside all draws exactly where each draw stands beside the last stamp before its round and the first behind it.
 use Rattle.std.proofs.Common.{◌≡◌, ℕ, zero, suc, ◌+◌, ◌-◌, ◌<◌, ◌≤◌, Bool, true, false, cond, eqb, ltb, List, [], ◌∷◌, length, take, drop, get_or, refl, sym, ap, ◌∙◌, inl, inr, arith}
-use Rattle.std.specs.Prelude.{zip, ◌&&◌, ◌||◌}
-use Rattle.std.specs.List.{AllByRecursion, flat_map, range_with_len, list_all}
-use Rattle.std.proofs.Math.Bool.{and-true}
-use Rattle.std.proofs.lemmas.Bool.{cases_order, cases_lt, lt-ltb, le-ltb, ne_eqb, and_parts, and_from, and_right}
+use Rattle.hs_check.proofs.Prelude.{zip, ◌&&◌, ◌||◌, AllByRecursion, flat_map, range_with_len, list_all, and-true, cases_lt, lt-ltb, le-ltb, ne_eqb, and_parts, and_from, and_right, list_all-append, all_each, Step, log_stamps, rise, rise_above}
+use Rattle.std.proofs.lemmas.Bool.{cases_order}
 use Rattle.std.proofs.lemmas.Bool.Decides.{nat_tests}
-use Rattle.std.proofs.lemmas.List.Folds.{list_all-append}
-use Rattle.hs_lists.proofs.Alls.{all_each}
 use Rattle.hs_lists.proofs.Bools.{and_assoc}
-use Rattle.hs_journal.specs.declared.journal.Step.{Step}
-use Rattle.hs_law_journal.specs.Shape.{log_stamps, rise, rise_above}
 use Rattle.hs_law_journal.proofs.Logs.{above_all}
 
 -- ---- all of all

@@ -1,12 +1,7 @@
 -- The unread offers of a log, step by step.
 use Rattle.std.proofs.Common.{◌≡◌, ℕ, ◌+◌, ◌<◌, ◌≤◌, Bool, true, false, cond, List, [], ◌∷◌, ◌++◌, length, map, take, drop, get_or, refl, sym, ap, ◌∙◌}
-use Rattle.std.specs.Prelude.{filter, zip, not, ◌&&◌, ◌||◌}
-use Rattle.std.specs.List.{list_all, list_any, range_with_len}
-use Rattle.std.proofs.Math.Seq.{take-append_seam}
-use Rattle.std.proofs.lemmas.List.{append_assoc, length-append, drop_more, drop_all, take_more}
-use Rattle.hs_journal.specs.declared.journal.Step.{Step}
-use Rattle.hs_law_journal.specs.Passes.{is_unread}
-use Rattle.hs_law_journal.specs.Unreads.{before_unreads}
+use Rattle.hs_check.proofs.Prelude.{filter, zip, not, ◌&&◌, ◌||◌, list_all, list_any, range_with_len, take-append_seam, append_assoc, length-append, drop_more, drop_all, Step, is_unread, before_unreads}
+use Rattle.std.proofs.lemmas.List.{take_more}
 
 module _ (f : List Step → Bool) where
   -- whether each unread offer of these later steps passes a test of what came before it

@@ -1,14 +1,9 @@
 -- How many operations are of each round, counted one by one, and how many are of the first rounds together.
 use Rattle.std.proofs.Common.{◌≡◌, ℕ, zero, suc, ◌+◌, ◌-◌, ◌*◌, ◌/◌, ◌<◌, ◌≤◌, Bool, cond, eqb, ltb, leb, min, List, [], ◌∷◌, length, map, take, set, get_or, sum, refl, sym, ap, ◌∙◌, inl, inr, arith}
-use Rattle.std.specs.Prelude.{count_by, ◌&&◌}
-use Rattle.std.specs.List.{range_with_len, list_all}
+use Rattle.hs_check.proofs.Prelude.{count_by, ◌&&◌, range_with_len, list_all, eq-eqb, ne_eqb, cases_eq, cases_lt, lt-ltb, le-ltb, length-take-le, take_all, count_by-le-length, sum_by-cons, count_map, one_if, MAX_TAKEN, sent_in, enough_at}
 use Rattle.std.proofs.Math.Nat.{div-lt_iff_lt-mul}
-use Rattle.std.proofs.lemmas.Bool.{eq-eqb, ne_eqb, cases_eq, cases_lt, lt-ltb, le-ltb}
-use Rattle.std.proofs.lemmas.List.{get_or-set_same, get_or-set_other, get_or_past, length-take-le, take_all}
-use Rattle.std.proofs.lemmas.List.Sums.{count_by_more_yes, count_by_more_no, count_by-le-length, sum_by_more, sum_by-cons}
-use Rattle.hs_lists.proofs.Counts.{count_map, one_if}
-use Rattle.hs_base.specs.declared.limits.TheConstants.{MAX_TAKEN}
-use Rattle.hs_check.specs.Pacing.{sent_in, enough_at}
+use Rattle.std.proofs.lemmas.List.{get_or-set_same, get_or-set_other, get_or_past}
+use Rattle.std.proofs.lemmas.List.Sums.{count_by_more_yes, count_by_more_no, sum_by_more}
 use Rattle.hs_check_clauses.proofs.Numbered.{total, total_is}
 
 -- ---- one more

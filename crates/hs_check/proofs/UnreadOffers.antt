@@ -1,43 +1,19 @@
 -- The unread offers of a followed node could be unread exactly where its log, its draws and the pages that were found say so.
 use Rattle.std.proofs.Common.{◌≡◌, ℕ, zero, suc, ◌+◌, ◌-◌, ◌*◌, ◌<◌, Bool, true, false, eqb, leb, ltb, List, [], ◌∷◌, ◌++◌, length, map, take, Option, Some, None, refl, sym, ap, ◌∙◌, subst, inl, inr, arith}
-use Rattle.std.specs.Prelude.{slice_get, option_map, filter, count_by, not, ◌&&◌, ◌||◌}
-use Rattle.std.specs.List.{flat_map, list_all, list_any, range_with_len, AllByRecursion}
-use Rattle.std.specs.Option.{option_and_then, option_map_or}
-use Rattle.std.proofs.lemmas.Bool.{and_parts, le-leb, lt-leb, cases_lt}
-use Rattle.std.proofs.lemmas.List.{length-map}
-use Rattle.std.proofs.lemmas.Option.{slice_get-map}
+use Rattle.hs_check.proofs.Prelude.{slice_get, option_map, filter, count_by, not, ◌&&◌, ◌||◌, flat_map, list_all, list_any, range_with_len, AllByRecursion, option_and_then, option_map_or, and_parts, le-leb, lt-leb, cases_lt, length-map, slice_get-map, all_append, Draw, Step, PlainJournal, EventsAddThis, EventsGoOn, ListsHaveTheirChunks, Taken, GivenPlace, PlainWorkload, DrawnPage, has_buffer, stamp_of, ClientSends, draws_at, place_of, NodeRun, log_at, followed, ComesByEvents, FollowingPlaysOut, is_turn, played, state_behind, node_pages, page_of, given_page, has_stamps, node_has_stamps, node_stamps, node_draws, draw_stamps, log_stamps, are_numbered, rise, same_page, may_be_unread, before_unreads, FoundNode, FoundPage, AreFound, IsFoundClient, drawn_from, drawn_lists, lists_are, each_holds, PageDraw, all_page_draws, is_named, is_passed}
 use Rattle.hs_lists.proofs.Tests.{list_all_map}
-use Rattle.hs_lists.proofs.Alls.{all_append, all_at, all_filter}
-use Rattle.hs_journal.specs.declared.journal.Draw.{Draw}
-use Rattle.hs_journal.specs.declared.journal.Step.{Step}
-use Rattle.hs_journal.specs.Views.{PlainJournal}
-use Rattle.hs_law_agent.specs.Laws.{EventsAddThis, EventsGoOn, ListsHaveTheirChunks}
-use Rattle.hs_law_agent.specs.Standings.{Taken}
-use Rattle.hs_law_agent.specs.State.{GivenPlace}
-use Rattle.hs_records.specs.Plain.{PlainWorkload}
-use Rattle.hs_law_sends.specs.Drawn.{DrawnPage, has_buffer, stamp_of}
-use Rattle.hs_law_sends.specs.Sending.{ClientSends, draws_at, place_of, node_sends}
-use Rattle.hs_law_journal.specs.Following.{NodeRun, log_at, followed}
+use Rattle.hs_lists.proofs.Alls.{all_at, all_filter}
+use Rattle.hs_law_sends.specs.Sending.{node_sends}
 use Rattle.hs_law_journal.specs.Gives.{GivesAreNoted}
-use Rattle.hs_law_journal.specs.Laws.{ComesByEvents, AgentsComeByEvents}
-use Rattle.hs_law_journal.specs.Orders.{FollowingPlaysOut}
-use Rattle.hs_law_journal.specs.Passes.{is_turn}
-use Rattle.hs_law_journal.specs.Played.{played, state_behind}
-use Rattle.hs_law_journal.specs.Pooled.{by_stamp, node_pages, page_of, given_page, pool_events}
-use Rattle.hs_law_journal.specs.Shape.{has_stamps, node_has_stamps, node_stamps, node_draws, draw_stamps, log_stamps, are_numbered, rise}
-use Rattle.hs_law_journal.specs.Unreads.{round_of, pages_by_stamp, same_page, is_given_in, is_drawn_past, may_be_uncollected, may_be_unread, before_unreads}
-use Rattle.hs_check_clauses.specs.declared.found.FoundNode.{FoundNode}
-use Rattle.hs_check_clauses.specs.declared.found.FoundPage.{FoundPage}
-use Rattle.hs_check_clauses.specs.Finding.{AreFound, IsFoundClient, named, given_name}
-use Rattle.hs_check_clauses.specs.Happening.{pool_event, drawn_from, node_timed}
+use Rattle.hs_law_journal.specs.Laws.{AgentsComeByEvents}
+use Rattle.hs_law_journal.specs.Pooled.{by_stamp, pool_events}
+use Rattle.hs_law_journal.specs.Unreads.{round_of, pages_by_stamp, is_given_in, is_drawn_past, may_be_uncollected}
+use Rattle.hs_check_clauses.specs.Finding.{named, given_name}
+use Rattle.hs_check_clauses.specs.Happening.{pool_event, node_timed}
 use Rattle.hs_check_clauses.proofs.Knowing.{KnownAt}
-use Rattle.hs_check_clauses.proofs.NodeEvents.{drawn_lists, lists_are}
 use Rattle.hs_check_clauses.proofs.Pooling.{noted, told_events}
-use Rattle.hs_check_clauses.proofs.Ranges.{each_holds}
 use Rattle.hs_check_clauses.proofs.Sorting.{buckets-map}
-use Rattle.hs_check.specs.declared.page_draws.PageDraw.{PageDraw}
-use Rattle.hs_check.specs.PageDraws.{all_page_draws}
-use Rattle.hs_check.specs.Showing.{is_named, is_passed, given_by, may_wait}
+use Rattle.hs_check.specs.Showing.{given_by, may_wait}
 use Rattle.hs_check.specs.Showing as showing
 use Rattle.hs_check.proofs.Behind.{given_behind, pages_stay}
 use Rattle.hs_check.proofs.Pages.{page_at, all_pages, Stands, all_stand, client_within, named_is, page_draw, draws_are, past_is}

@@ -1,12 +1,8 @@
 -- The clauses part by part: which of all of them fails first.
 use Rattle.std.proofs.Common.{◌≡◌, ℕ, true, false, ◌++◌, Option, Some, None, sym, ap, ◌∙◌}
-use Rattle.std.specs.Prelude.{option_map}
-use Rattle.hs_law_journal.specs.Ends.{is_followed}
+use Rattle.hs_check.proofs.Prelude.{option_map, is_followed, Played, of_the_journal, first_among, number_of, Clause}
 use Rattle.hs_law_journal.specs.Lawful.{first_failing}
-use Rattle.hs_law_journal.specs.Played.{Played}
-use Rattle.hs_check.specs.Asking.{of_the_journal, of_following, of_the_pools, of_the_end, first_among}
-use Rattle.hs_check.specs.Clauses.{number_of}
-use Rattle.hs_check.specs.declared.clause.Clause.{Clause}
+use Rattle.hs_check.specs.Asking.{of_following, of_the_pools, of_the_end}
 use Rattle.hs_check.proofs.First.{holds_next, fails_here, front_fails, front_holds}
 
 -- what an answer says where it is none, and where it is a clause

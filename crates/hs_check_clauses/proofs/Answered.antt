@@ -1,21 +1,10 @@
 -- Going through the events of a pool in the order of stamps says of each give whether it answers its draw.
 use Rattle.std.proofs.Common.{◌≡◌, ℕ, zero, suc, ◌+◌, ◌<◌, ◌≤◌, Bool, true, false, cond, eqb, ltb, List, [], ◌∷◌, ◌++◌, length, map, Option, Some, None, refl, sym, ap, ◌∙◌, subst, inl, inr, ◌⊎◌, arith}
-use Rattle.std.specs.Prelude.{count_by, not, ◌&&◌, ◌||◌}
-use Rattle.std.specs.List.{AllByRecursion, list_all, list_any}
-use Rattle.std.specs.List.Sorted.{IsPermutation, IsNonDecreasingBy}
-use Rattle.std.specs.Option.{option_map_or}
-use Rattle.std.proofs.lemmas.Bool.{and_parts, and_from, and_left, and_right, eqb-true, eq-eqb, ne_eqb, ltb-true, ltb-false, lt-ltb, le-ltb, cases_Bool, cases_eq, cases_lt, or_cases, true≢false, false_from_ne_true}
+use Rattle.hs_check_clauses.proofs.Prelude.{count_by, not, ◌&&◌, ◌||◌, AllByRecursion, list_all, list_any, IsPermutation, IsNonDecreasingBy, option_map_or, and_parts, and_from, and_left, and_right, eqb-true, eq-eqb, ne_eqb, ltb-true, ltb-false, lt-ltb, le-ltb, cases_Bool, cases_eq, cases_lt, or_cases, true≢false, false_from_ne_true, count_cons, one_if, all_each, PoolEvent, StampedPoolEvent, has_buffer, is_touched, NotedEvent, StampedEvent, event_of, pool_event, answers_last, answers_through}
 use Rattle.std.proofs.lemmas.List.Sorted.{sum_by-IsPermutation}
 use Rattle.hs_lists.proofs.Tests.{list_any_none}
-use Rattle.hs_lists.proofs.Counts.{count_cons, one_if}
-use Rattle.hs_lists.proofs.Alls.{all_each}
-use Rattle.hs_words.specs.PoolHistory.{PoolEvent}
-use Rattle.hs_law_journal.specs.Pooled.{StampedPoolEvent, has_buffer, is_touched}
-use Rattle.hs_check_clauses.specs.declared.happened.NotedEvent.{NotedEvent}
 use Rattle.hs_check_clauses.specs.declared.happened.NotedEvent.TheVariants as happenings
-use Rattle.hs_check_clauses.specs.declared.happened.StampedEvent.{StampedEvent}
-use Rattle.hs_check_clauses.specs.Happening.{event_of, pool_event}
-use Rattle.hs_check_clauses.specs.Answering.{last_at, answers_last, answers_through}
+use Rattle.hs_check_clauses.specs.Answering.{last_at}
 use Rattle.hs_check_clauses.proofs.Sorting.{Sorted, sorted_from}
 
 -- ---- some and all

@@ -1,40 +1,14 @@
 -- The gives of a followed node answer their draws exactly where its events, in the order of stamps, say so.
 use Rattle.std.proofs.Common.{◌≡◌, ℕ, zero, suc, ◌+◌, ◌*◌, ◌<◌, ◌≤◌, Bool, true, false, eqb, ltb, List, [], ◌∷◌, ◌++◌, length, map, take, Option, Some, None, refl, sym, ap, ◌∙◌, subst, arith}
-use Rattle.std.specs.Prelude.{slice_get, option_map, filter_map, count_by, not, ◌&&◌, ◌||◌}
-use Rattle.std.specs.List.{flat_map, range_with_len, list_all, list_any}
-use Rattle.std.specs.List.Sorted.{IsPermutation, IsNonDecreasingBy}
-use Rattle.std.specs.Option.{option_and_then, option_to_list, option_map_or}
-use Rattle.std.proofs.lemmas.Bool.{and_parts, and_from, eq-eqb}
-use Rattle.std.proofs.lemmas.List.{length-map, append_assoc}
+use Rattle.hs_check_clauses.proofs.Prelude.{slice_get, option_map, filter_map, count_by, not, ◌&&◌, ◌||◌, flat_map, range_with_len, list_all, list_any, IsPermutation, IsNonDecreasingBy, option_and_then, option_to_list, option_map_or, and_parts, and_from, eq-eqb, length-map, append_assoc, count_cons, count_append, one_if, Draw, Step, PlainJournal, Taken, GivenPlace, PlainWorkload, DrawnPage, stamp_of, draws_at, place_of, NodeRun, log_at, given_stamp, GivesAreNoted, FollowingPlaysOut, played, nodes_of, StampedPoolEvent, given_page, page_of, has_buffer, gives_answer, pool_events, is_touched, draw_stamps, log_stamps, node_stamps, node_draws, node_has_stamps, has_stamps, are_numbered, rise, FoundClient, FoundNode, FoundPage, NotedEvent, StampedEvent, answers_through, is_got, named, given_name, event_of, pool_event, timed_draw, timed_miss, timed_give, timed_gives, node_timed, draw_at, drawn_from}
 use Rattle.std.proofs.lemmas.List.Folds.{list_all-append, list_any-append}
 use Rattle.std.proofs.lemmas.List.Sorted.{list_any-IsPermutation}
-use Rattle.hs_lists.proofs.Counts.{count_cons, count_append, one_if}
 use Rattle.hs_lists.proofs.Tests.{list_any_map}
-use Rattle.hs_journal.specs.declared.journal.Draw.{Draw}
 use Rattle.hs_journal.specs.declared.journal.Draw.TheVariants as draws
-use Rattle.hs_journal.specs.declared.journal.Step.{Step}
 use Rattle.hs_journal.specs.declared.journal.Step.TheVariants as steps
-use Rattle.hs_journal.specs.Views.{PlainJournal}
-use Rattle.hs_law_agent.specs.Standings.{Taken}
-use Rattle.hs_law_agent.specs.State.{GivenPlace}
-use Rattle.hs_records.specs.Plain.{PlainWorkload}
-use Rattle.hs_law_sends.specs.Drawn.{DrawnPage, stamp_of}
-use Rattle.hs_law_sends.specs.Sending.{draws_at, place_of}
-use Rattle.hs_law_journal.specs.Following.{NodeRun, log_at}
-use Rattle.hs_law_journal.specs.Gives.{given_stamp, GivesAreNoted}
-use Rattle.hs_law_journal.specs.Orders.{FollowingPlaysOut}
-use Rattle.hs_law_journal.specs.Played.{played, nodes_of}
-use Rattle.hs_law_journal.specs.Pooled.{StampedPoolEvent, given_page, page_of, has_buffer, answers_draw, gives_answer, pool_events, is_touched}
-use Rattle.hs_law_journal.specs.Shape.{draw_stamps, log_stamps, step_stamp, node_stamps, node_draws, node_has_stamps, has_stamps, are_numbered, rise}
-use Rattle.hs_check_clauses.specs.declared.found.FoundClient.{FoundClient}
-use Rattle.hs_check_clauses.specs.declared.found.FoundNode.{FoundNode}
-use Rattle.hs_check_clauses.specs.declared.found.FoundPage.{FoundPage}
-use Rattle.hs_check_clauses.specs.declared.happened.NotedEvent.{NotedEvent}
+use Rattle.hs_law_journal.specs.Pooled.{answers_draw}
+use Rattle.hs_law_journal.specs.Shape.{step_stamp}
 use Rattle.hs_check_clauses.specs.declared.happened.NotedEvent.TheVariants as happenings
-use Rattle.hs_check_clauses.specs.declared.happened.StampedEvent.{StampedEvent}
-use Rattle.hs_check_clauses.specs.Answering.{answers_through, is_got}
-use Rattle.hs_check_clauses.specs.Finding.{named, given_name}
-use Rattle.hs_check_clauses.specs.Happening.{event_of, pool_event, timed_draw, timed_miss, timed_give, timed_gives, node_timed, draw_at, drawn_from}
 use Rattle.hs_check_clauses.proofs.Answered.{touches, Before, Rising, rising_from, answers_all, has_draw, through_is, any_weaker, all-permutation, count-permutation}
 use Rattle.hs_check_clauses.proofs.Bared.{clients_counted}
 use Rattle.hs_check_clauses.proofs.Knowing.{KnownAt}

@@ -1,26 +1,7 @@
 -- A node at which nothing is left over, by what was counted at it.
 use Rattle.std.proofs.Common.{◌≡◌, ℕ, ◌+◌, ◌<◌, ◌≤◌, Bool, true, eqb, List, [], length, map, refl, sym, ap, ◌∙◌, arith}
-use Rattle.std.specs.Prelude.{count_by, zip, ◌&&◌}
-use Rattle.std.specs.List.{list_all, range_with_len}
-use Rattle.std.proofs.lemmas.List.{length-map}
-use Rattle.std.proofs.lemmas.List.FromFn.{length-range_with_len}
+use Rattle.hs_check_clauses.proofs.Prelude.{count_by, zip, ◌&&◌, list_all, range_with_len, length-map, length-range_with_len, NodeId, NodeSet, has_node, Message, Step, PlainJournal, is_followed, is_left_bare, took_all, RunsAreOfTheJournal, Asks, taken, asks_to, is_from, log_at, NodeRun, followed, FollowingPlaysOut, played, PlainSettings, PlainWorkload, ClientSends, client_sends, Found, FoundNode, IsFound, IsFoundNode, IsFoundClient}
 use Rattle.hs_lists.proofs.Counts.{count_map}
-use Rattle.hs_base.specs.declared.ids.NodeId.{NodeId}
-use Rattle.hs_base.specs.declared.node_set.NodeSet.{NodeSet}
-use Rattle.hs_base.specs.NodeSets.{has_node}
-use Rattle.hs_coord.specs.Following.{Message}
-use Rattle.hs_journal.specs.declared.journal.Step.{Step}
-use Rattle.hs_journal.specs.Views.{PlainJournal}
-use Rattle.hs_law_journal.specs.Ends.{is_followed, is_left_bare, took_all}
-use Rattle.hs_law_journal.specs.Extending.{RunsAreOfTheJournal}
-use Rattle.hs_law_journal.specs.Following.{Asks, taken, asks_to, is_from, log_at, NodeRun, followed}
-use Rattle.hs_law_journal.specs.Orders.{FollowingPlaysOut}
-use Rattle.hs_law_journal.specs.Played.{played}
-use Rattle.hs_records.specs.Plain.{PlainSettings, PlainWorkload}
-use Rattle.hs_law_sends.specs.Sending.{ClientSends, client_sends}
-use Rattle.hs_check_clauses.specs.declared.found.Found.{Found}
-use Rattle.hs_check_clauses.specs.declared.found.FoundNode.{FoundNode}
-use Rattle.hs_check_clauses.specs.Finding.{IsFound, IsFoundNode, IsFoundClient}
 use Rattle.hs_check_clauses.proofs.Knowing.{KnownAt, found_as_many, heard_is_told, asks_counted}
 
 -- how many clients were found at a node

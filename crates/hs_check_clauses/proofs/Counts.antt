@@ -1,13 +1,7 @@
 -- Whether clients have as many draws as pages, one client after another.
 use Rattle.std.proofs.Common.{◌≡◌, ℕ, zero, suc, ◌+◌, ◌<◌, ◌≤◌, Bool, true, false, eqb, List, [], ◌∷◌, length, map, drop, get_or, refl, sym, ap, ◌∙◌, arith}
-use Rattle.std.specs.Prelude.{◌&&◌}
-use Rattle.std.proofs.lemmas.List.{drop_more, drop_all}
-use Rattle.hs_base.specs.Listing.{Listing}
-use Rattle.hs_journal.specs.declared.journal.Draw.{Draw}
+use Rattle.hs_check_clauses.proofs.Prelude.{◌&&◌, drop_more, drop_all, Listing, Draw, pages_of, Op, operations_of}
 use Rattle.hs_law_journal.specs.Shape.{same_counts}
-use Rattle.hs_records.specs.Pages.{pages_of}
-use Rattle.hs_workload.specs.declared.operation.Op.{Op}
-use Rattle.hs_workload.specs.Views.{operations_of}
 
 -- whether these clients have as many draws as pages
 abbrev pub have_drawn : ℕ → List (Listing Draw) → List (Listing Op) → Bool

@@ -1,20 +1,16 @@
 -- The pages that operations start, counted one by one, are their pages.
 use Rattle.std.proofs.Common.{◌≡◌, ℕ, zero, suc, ◌+◌, ◌-◌, ◌<◌, ◌≤◌, Bool, true, false, cond, leb, List, [], ◌∷◌, ◌++◌, length, map, take, drop, get_or, refl, sym, ap, ◌∙◌, subst, arith, length-take, length-drop, length-append}
-use Rattle.std.proofs.lemmas.Bool.{leb-true, leb-false, le-leb, lt-leb, cases_lt}
-use Rattle.std.proofs.lemmas.List.{drop_more, drop_all}
-use Rattle.std.specs.List.{flat_map, AllByRecursion}
-use Rattle.hs_lists.proofs.Alls.{all_drop, all_append}
+use Rattle.hs_check_clauses.proofs.Prelude.{leb-true, le-leb, lt-leb, cases_lt, drop_more, drop_all, flat_map, AllByRecursion, all_append, Op, operation_of, pages_of, Operation, AreBracketed, piece_limit, client_pieces, opened, room_behind, payload_costs, started_from}
+use Rattle.std.proofs.lemmas.Bool.{leb-false}
+use Rattle.hs_lists.proofs.Alls.{all_drop}
 use Rattle.hs_lists.proofs.Parts.{map_drop, length_map, map_append}
-use Rattle.hs_workload.specs.declared.operation.Op.{Op}
-use Rattle.hs_workload.specs.Views.{operation_of}
 use Rattle.hs_base.specs.declared.limits.TheConstants.{PIECE_COST, MIN_SIZE}
 use Rattle.hs_records.specs.Fronts.{count_beside}
-use Rattle.hs_records.specs.Pages.{cost_of, page_room, fits, runs_within, runs_of, segment_pages, pages_of}
-use Rattle.hs_records.specs.Plain.{Operation, Begin, Point, Crumb, End, Fire, Sample}
-use Rattle.hs_records.specs.Records.{AreBracketed, Piece, Segment, piece_limit, piece_count, cut_within, payload_pieces, record_pieces, pieces_until_end, segments_from}
+use Rattle.hs_records.specs.Pages.{cost_of, page_room, fits, runs_within, runs_of, segment_pages}
+use Rattle.hs_records.specs.Plain.{Begin, Point, Crumb, End, Fire, Sample}
+use Rattle.hs_records.specs.Records.{Piece, Segment, piece_count, cut_within, payload_pieces, record_pieces, pieces_until_end, segments_from}
 use Rattle.hs_workload.specs.LookBack.{operation_pieces}
-use Rattle.hs_workload.specs.Validity.{client_pieces}
-use Rattle.hs_check_clauses.specs.Filling.{opened, room_behind, payload_costs, started_by, room_left, started_from}
+use Rattle.hs_check_clauses.specs.Filling.{started_by, room_left}
 
 -- ---- costs
 

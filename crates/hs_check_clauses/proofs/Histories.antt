@@ -1,13 +1,11 @@
 -- A history, event by event from its front.
 use Rattle.std.proofs.Common.{◌≡◌, ℕ, zero, suc, ◌+◌, ◌<◌, ◌≤◌, Bool, true, false, cond, ltb, List, [], ◌∷◌, ◌++◌, length, map, drop, get_or, reverse, refl, sym, ap, ◌∙◌, arith}
-use Rattle.std.specs.Prelude.{filter, ◌&&◌}
+use Rattle.hs_check_clauses.proofs.Prelude.{filter, ◌&&◌, drop_more, append_assoc, append-nil, PoolEvent, StampedEvent, event_of, pool_event, events_below, earlier_with, StampedPoolEvent, may_follow, is_history}
 use Rattle.std.proofs.Math.Bool.{and-true}
-use Rattle.std.proofs.lemmas.List.{drop_more, reverse-append, append_assoc, append-nil}
+use Rattle.std.proofs.lemmas.List.{reverse-append}
 use Rattle.hs_lists.proofs.Bools.{and_assoc}
-use Rattle.hs_words.specs.PoolHistory.{PoolEvent}
-use Rattle.hs_check_clauses.specs.declared.happened.StampedEvent.{StampedEvent}
-use Rattle.hs_check_clauses.specs.Happening.{event_of, pool_event, events_below, may_come, earlier_with}
-use Rattle.hs_law_journal.specs.Pooled.{StampedPoolEvent, may_follow, is_history_back, is_history}
+use Rattle.hs_check_clauses.specs.Happening.{may_come}
+use Rattle.hs_law_journal.specs.Pooled.{is_history_back}
 
 -- whether these events may come, one after another, behind the earlier ones, of which the last stands first
 abbrev pub history_from : ℕ → List PoolEvent → List PoolEvent → Bool

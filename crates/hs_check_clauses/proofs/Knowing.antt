@@ -1,34 +1,18 @@
 -- What is known of each node of a journal that can be followed: its log and its clients are the journal's, and what was found is its own.
 use Rattle.std.proofs.Common.{◌≡◌, ℕ, zero, suc, ◌+◌, ◌<◌, ◌≤◌, Bool, true, false, cond, eqb, List, [], ◌∷◌, ◌++◌, length, map, drop, get_or, Option, Some, None, refl, sym, ap, ◌∙◌, subst, inl, inr, ◌⊎◌, arith}
-use Rattle.std.specs.Prelude.{slice_get, option_map, count_by, ◌&&◌}
-use Rattle.std.specs.List.{list_all, AllByRecursion}
-use Rattle.std.specs.Option.{option_and_then}
-use Rattle.std.proofs.lemmas.Bool.{and_parts, eqb-true}
-use Rattle.std.proofs.lemmas.List.{append_assoc, append-nil, map-append, length-append, length-map, nil_from_length}
-use Rattle.std.proofs.lemmas.List.FromFn.{length-range_with_len}
+use Rattle.hs_check_clauses.proofs.Prelude.{slice_get, option_map, count_by, ◌&&◌, list_all, AllByRecursion, option_and_then, and_parts, eqb-true, append_assoc, append-nil, map-append, length-map, nil_from_length, length-range_with_len, one_if, all_at, NodeId, NodeSet, has_node, Message, PlainJournal, PlainSettings, PlainWorkload, node_sends, is_followed, RunsAreOfTheJournal, NodeRun, log_at, run_start, followed, is_from, asks_to, FollowingPlaysOut, played, Found, FoundNode, AreFound, IsFoundNode, IsFound}
+use Rattle.std.proofs.lemmas.List.{length-append}
 use Rattle.std.proofs.lemmas.List.Sums.{sum_by-cons}
 use Rattle.hs_lists.proofs.Ranges.{range_found}
 use Rattle.hs_lists.proofs.Places.{get_map}
 use Rattle.hs_lists.proofs.Tests.{list_all_at}
-use Rattle.hs_lists.proofs.Counts.{one_if}
-use Rattle.hs_lists.proofs.Alls.{all_at}
-use Rattle.hs_base.specs.declared.ids.NodeId.{NodeId}
 use Rattle.hs_base.specs.declared.told.Ask.{Ask}
 use Rattle.hs_base.specs.declared.told.Told.{Told}
-use Rattle.hs_base.specs.declared.node_set.NodeSet.{NodeSet}
-use Rattle.hs_base.specs.NodeSets.{has_node}
-use Rattle.hs_coord.specs.Following.{Message, Messages, message, first_of, is_newly_asked}
-use Rattle.hs_journal.specs.Views.{PlainJournal}
-use Rattle.hs_records.specs.Plain.{PlainSettings, PlainWorkload}
-use Rattle.hs_law_sends.specs.Sending.{node_sends}
-use Rattle.hs_law_journal.specs.Ends.{is_followed}
-use Rattle.hs_law_journal.specs.Extending.{IsOfJournal, NodesAreOfJournal, RunsAreOfTheJournal}
-use Rattle.hs_law_journal.specs.Following.{NodeRun, Run, log_at, run_start, message_of, hear, followed, is_from, ask_by, asks_behind, asks_to}
-use Rattle.hs_law_journal.specs.Orders.{Performs, StepsNode, Leads, Stays, Goes, FollowingPlaysOut}
-use Rattle.hs_law_journal.specs.Played.{played}
-use Rattle.hs_check_clauses.specs.declared.found.Found.{Found}
-use Rattle.hs_check_clauses.specs.declared.found.FoundNode.{FoundNode}
-use Rattle.hs_check_clauses.specs.Finding.{AreFound, IsFoundNode, IsFound, AreAsked}
+use Rattle.hs_coord.specs.Following.{Messages, message, first_of, is_newly_asked}
+use Rattle.hs_law_journal.specs.Extending.{IsOfJournal, NodesAreOfJournal}
+use Rattle.hs_law_journal.specs.Following.{Run, message_of, hear, ask_by, asks_behind}
+use Rattle.hs_law_journal.specs.Orders.{Performs, StepsNode, Leads, Stays, Goes}
+use Rattle.hs_check_clauses.specs.Finding.{AreAsked}
 
 -- ---- one for one
 

@@ -1,33 +1,17 @@
 -- The events of a followed node's pool are those that its draws, its log and the pages that were found tell.
 use Rattle.std.proofs.Common.{◌≡◌, ℕ, zero, suc, ◌+◌, ◌*◌, ◌<◌, ◌≤◌, Bool, true, false, cond, List, [], ◌∷◌, ◌++◌, length, map, take, Option, Some, None, refl, sym, ap, ◌∙◌, subst, arith}
-use Rattle.std.specs.Prelude.{slice_get, option_map, filter_map}
-use Rattle.std.specs.List.{flat_map, range_with_len, cons_option}
-use Rattle.std.specs.Option.{option_and_then, option_to_list}
-use Rattle.std.proofs.lemmas.List.{length-map, map-append}
+use Rattle.hs_check_clauses.proofs.Prelude.{slice_get, option_map, filter_map, flat_map, range_with_len, option_and_then, option_to_list, length-map, map-append, Draw, Step, PlainJournal, Taken, GivenPlace, PlainWorkload, DrawnPage, stamp_of, ClientSends, draws_at, place_of, client_sends, node_sends, NodeRun, log_at, given_stamp, StampedPoolEvent, page_of, given_page, pool_events, FoundClient, FoundNode, FoundPage, StampedEvent, AreFound, IsFoundClient, named, given_name, pool_event, timed_draw, timed_miss, timed_give, timed_gives, node_timed, draw_at, drawn_from}
+use Rattle.std.specs.List.{cons_option}
 use Rattle.hs_base.specs.declared.ids.ClientId.{ClientId}
-use Rattle.hs_journal.specs.declared.journal.Draw.{Draw}
 use Rattle.hs_journal.specs.declared.journal.Draw.TheVariants as draws
-use Rattle.hs_journal.specs.declared.journal.Step.{Step}
 use Rattle.hs_journal.specs.declared.journal.Step.TheVariants as steps
-use Rattle.hs_journal.specs.Views.{PlainJournal}
-use Rattle.hs_law_agent.specs.Standings.{Taken}
-use Rattle.hs_law_agent.specs.State.{GivenPlace}
-use Rattle.hs_records.specs.Plain.{PlainWorkload}
-use Rattle.hs_law_sends.specs.Drawn.{DrawnPage, stamp_of, drawn_pages}
+use Rattle.hs_law_sends.specs.Drawn.{drawn_pages}
 use Rattle.hs_law_sends.specs.Drawn as sent
 use Rattle.hs_law_sends.specs.Draws.{event_drawn}
-use Rattle.hs_law_sends.specs.Sending.{ClientSends, draws_at, place_of, client_sends, node_sends}
 use Rattle.hs_law_sends.specs.Timing.{TimedPage}
 use Rattle.hs_words.specs.PoolHistory as events
-use Rattle.hs_law_journal.specs.Following.{NodeRun, log_at}
-use Rattle.hs_law_journal.specs.Gives.{given_stamp}
-use Rattle.hs_law_journal.specs.Pooled.{StampedPoolEvent, drawn_event, node_pages, page_of, given_page, given_buffer, given_event, buffer_of, missed_event, pool_events}
-use Rattle.hs_check_clauses.specs.declared.found.FoundClient.{FoundClient}
-use Rattle.hs_check_clauses.specs.declared.found.FoundNode.{FoundNode}
-use Rattle.hs_check_clauses.specs.declared.found.FoundPage.{FoundPage}
-use Rattle.hs_check_clauses.specs.declared.happened.StampedEvent.{StampedEvent}
-use Rattle.hs_check_clauses.specs.Finding.{AreFound, IsFoundClient, named, given_name, starts_of}
-use Rattle.hs_check_clauses.specs.Happening.{pool_event, timed_draw, timed_miss, timed_give, timed_gives, node_timed, draw_at, drawn_from}
+use Rattle.hs_law_journal.specs.Pooled.{drawn_event, node_pages, given_buffer, given_event, buffer_of, missed_event}
+use Rattle.hs_check_clauses.specs.Finding.{starts_of}
 use Rattle.hs_check_clauses.proofs.Knowing.{KnownAt}
 
 -- ---- draws

@@ -1,14 +1,9 @@
 -- So many numbers are the numbers from 0 on, each once, exactly where all of them are below their count and none comes twice.
 use Rattle.std.proofs.Common.{◌≡◌, ℕ, zero, suc, ◌+◌, ◌<◌, ◌≤◌, Bool, true, false, cond, eqb, ltb, List, [], ◌∷◌, length, get_or, set, take, refl, sym, ap, ◌∙◌, inl, inr, arith}
-use Rattle.std.specs.Prelude.{count_by}
-use Rattle.std.specs.List.{range_with_len, list_all}
-use Rattle.std.proofs.lemmas.Bool.{eqb-true, eq-eqb, ne_eqb, cases_eq, cases_lt, false_from_ne_true, true≢false, lt-ltb, le-ltb}
+use Rattle.hs_check_clauses.proofs.Prelude.{count_by, range_with_len, list_all, eqb-true, eq-eqb, ne_eqb, cases_eq, cases_lt, false_from_ne_true, true≢false, lt-ltb, le-ltb, get_or-set_same, get_or-set_other, count_by_more_yes, count_by-le-length, one_if, count_cons, list_all_range, are_numbered}
 use Rattle.std.proofs.lemmas.Bool.Decides.{nat_tests}
-use Rattle.std.proofs.lemmas.List.{get_or-set_same, get_or-set_other}
-use Rattle.std.proofs.lemmas.List.Sums.{count_by_more_yes, count_by_more_no, sum_by-take-le, count_by-le-length}
-use Rattle.hs_lists.proofs.Counts.{one_if, count_cons, none_below_zero}
-use Rattle.hs_lists.proofs.Ranges.{list_all_range}
-use Rattle.hs_law_journal.specs.Shape.{are_numbered}
+use Rattle.std.proofs.lemmas.List.Sums.{count_by_more_no, sum_by-take-le}
+use Rattle.hs_lists.proofs.Counts.{none_below_zero}
 use Rattle.hs_check_clauses.proofs.Ranges.{one_fails, each_holds}
 
 -- ---- sums below a number

@@ -1,17 +1,9 @@
 -- Going through a log step by step says of each pass whether all of its offers are made.
 use Rattle.std.proofs.Common.{◌≡◌, ℕ, zero, suc, ◌+◌, ◌-◌, ◌<◌, ◌≤◌, Bool, true, false, cond, eqb, List, [], ◌∷◌, length, map, take, drop, get_or, refl, sym, ap, ◌∙◌, arith}
-use Rattle.std.specs.Prelude.{not, zip, ◌&&◌, ◌||◌}
-use Rattle.std.specs.List.{list_all, list_any, range_with_len}
+use Rattle.hs_check_clauses.proofs.Prelude.{not, zip, ◌&&◌, ◌||◌, list_all, list_any, range_with_len, nil_from_length, length-map, drop_more, length-range_with_len, one_if, Step, NodeRun, ends_between, put_step, passes_of, offers_end, PlainSettings, ends_front, ends_through, may_stand}
 use Rattle.std.proofs.Math.Bool.{or-false}
-use Rattle.std.proofs.lemmas.List.{nil_from_length, length-map, drop_more}
-use Rattle.std.proofs.lemmas.List.FromFn.{length-range_with_len}
-use Rattle.hs_lists.proofs.Counts.{one_if}
-use Rattle.hs_journal.specs.declared.journal.Step.{Step}
-use Rattle.hs_law_journal.specs.Following.{NodeRun}
-use Rattle.hs_law_journal.specs.Passes.{is_unread, ends_between, put_step, passes_of, but_last, last_of, offers_end}
-use Rattle.hs_records.specs.Plain.{PlainSettings}
+use Rattle.hs_law_journal.specs.Passes.{is_unread, but_last, last_of}
 use Rattle.hs_check_clauses.specs.Finding.{hand_behind, behind_passes}
-use Rattle.hs_check_clauses.specs.Offering.{ends_front, ends_through, may_stand}
 use Rattle.hs_check_clauses.proofs.PassFronts.{Begins, begins}
 
 -- whether the offers of a pass are made that leaves so many buffers in the hand

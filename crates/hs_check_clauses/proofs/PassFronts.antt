@@ -1,11 +1,6 @@
 -- The passes of a log from its front: the first one has the items up to a turn or an offer, that step, and the offers behind it.
 use Rattle.std.proofs.Common.{◌≡◌, ℕ, zero, suc, ◌+◌, ◌<◌, ◌≤◌, Bool, true, false, cond, List, [], ◌∷◌, ◌++◌, refl, sym, ap, ◌∙◌, subst, inl, inr, arith}
-use Rattle.std.specs.Prelude.{not, ◌&&◌, ◌||◌}
-use Rattle.std.specs.List.{AllByRecursion}
-use Rattle.std.proofs.lemmas.Bool.{cases_Bool, or_cases}
-use Rattle.hs_journal.specs.declared.journal.Step.{Step}
-use Rattle.hs_law_journal.specs.Passes.{is_turn, is_offer, ends_between, put_step, passes_of}
-use Rattle.hs_law_journal.proofs.Logs.{IsTake}
+use Rattle.hs_check_clauses.proofs.Prelude.{not, ◌&&◌, ◌||◌, AllByRecursion, cases_Bool, or_cases, Step, is_turn, is_offer, ends_between, put_step, passes_of, IsTake}
 
 -- the offers at the front of a log, and what stands behind them
 abbrev pub offers_of : List Step → List Step

@@ -1,16 +1,7 @@
 -- What happened at the pool of a followed node, by its draws, its log and the pages that were found.
 use Rattle.std.proofs.Common.{◌≡◌, ℕ, zero, suc, ◌+◌, ◌*◌, ◌<◌, ◌≤◌, Bool, true, false, cond, List, [], ◌∷◌, ◌++◌, length, map, take, drop, get_or, Option, Some, None, refl, sym, ap, ◌∙◌, subst, arith}
-use Rattle.std.specs.Prelude.{slice_get, option_map, filter_map}
-use Rattle.std.specs.List.{flat_map, range_with_len}
-use Rattle.std.specs.Option.{option_and_then, option_to_list}
+use Rattle.hs_check_clauses.proofs.Prelude.{slice_get, option_map, filter_map, flat_map, range_with_len, option_and_then, option_to_list, Draw, Step, PlainJournal, draws_at, FoundClient, FoundPage, drawn_from, draw_at}
 use Rattle.std.proofs.lemmas.Option.{slice_get-get_or, slice_get_past}
-use Rattle.hs_journal.specs.declared.journal.Draw.{Draw}
-use Rattle.hs_journal.specs.declared.journal.Step.{Step}
-use Rattle.hs_journal.specs.Views.{PlainJournal}
-use Rattle.hs_law_sends.specs.Sending.{draws_at}
-use Rattle.hs_check_clauses.specs.declared.found.FoundClient.{FoundClient}
-use Rattle.hs_check_clauses.specs.declared.found.FoundPage.{FoundPage}
-use Rattle.hs_check_clauses.specs.Happening.{drawn_from, draw_at}
 
 -- the draws of a client
 pub drawn_here : (J : PlainJournal) (p : ℕ) (clients : List FoundClient) (i : ℕ) (c : FoundClient) → i < length clients → c ≡ get_or clients i c

@@ -1,18 +1,7 @@
 -- The history of a followed node's pool, from the events that were told of it.
 use Rattle.std.proofs.Common.{◌≡◌, ℕ, ◌*◌, Bool, List, length, map, sym, ap, ◌∙◌}
-use Rattle.std.specs.Prelude.{filter_map}
-use Rattle.std.proofs.lemmas.List.{length-map}
-use Rattle.hs_lists.proofs.Alls.{all_at}
-use Rattle.hs_journal.specs.Views.{PlainJournal}
-use Rattle.hs_law_agent.specs.State.{GivenPlace}
-use Rattle.hs_records.specs.Plain.{PlainWorkload}
-use Rattle.hs_law_journal.specs.Following.{NodeRun, log_at, run_start, followed}
-use Rattle.hs_law_journal.specs.Gives.{given_stamp, GivesAsNoted, GivesAreNoted}
-use Rattle.hs_law_journal.specs.Orders.{FollowingPlaysOut}
-use Rattle.hs_law_journal.specs.Pooled.{StampedPoolEvent, by_stamp, is_history, pool_history, pool_events}
-use Rattle.hs_check_clauses.specs.declared.found.FoundNode.{FoundNode}
-use Rattle.hs_check_clauses.specs.declared.happened.StampedEvent.{StampedEvent}
-use Rattle.hs_check_clauses.specs.Happening.{pool_event, drawn_from, node_timed}
+use Rattle.hs_check_clauses.proofs.Prelude.{filter_map, length-map, all_at, PlainJournal, GivenPlace, PlainWorkload, NodeRun, log_at, run_start, followed, given_stamp, GivesAreNoted, FollowingPlaysOut, StampedPoolEvent, by_stamp, is_history, pool_history, pool_events, FoundNode, StampedEvent, pool_event, drawn_from, node_timed}
+use Rattle.hs_law_journal.specs.Gives.{GivesAsNoted}
 use Rattle.hs_check_clauses.proofs.Knowing.{KnownAt}
 use Rattle.hs_check_clauses.proofs.NodeEvents.{events_are}
 

@@ -1,16 +1,9 @@
 -- The queues of a node by their places: a step takes from the queue at the place that it has.
 use Rattle.std.proofs.Common.{◌≡◌, ℕ, zero, suc, ◌+◌, ◌*◌, ◌<◌, ◌≤◌, Bool, true, false, cond, eqb, leb, ltb, List, [], ◌∷◌, ◌++◌, Option, Some, None, refl, sym, ap, ◌∙◌, subst, inl, inr, arith}
-use Rattle.std.specs.Prelude.{filter, count_by, unwrap_or, ◌&&◌}
-use Rattle.std.specs.List.{range_with_len, flat_map, list_all}
-use Rattle.std.proofs.lemmas.Bool.{ltb-true, ltb-false, eqb-true, ne_eqb, eq-eqb, cases_eq}
-use Rattle.std.proofs.lemmas.List.Elements.{filter_agree}
+use Rattle.hs_check_clauses.proofs.Prelude.{filter, count_by, unwrap_or, ◌&&◌, range_with_len, flat_map, list_all, ltb-true, ltb-false, eqb-true, ne_eqb, eq-eqb, cases_eq, filter_agree, range_append, MAX_TAKEN, Step, Queue, Asks, takes, taken, client_queues}
 use Rattle.hs_lists.proofs.Counts.{count_alike}
-use Rattle.hs_lists.proofs.Ranges.{range_append}
-use Rattle.hs_base.specs.declared.limits.TheConstants.{MAX_TAKEN}
-use Rattle.hs_journal.specs.declared.journal.Step.{Step}
 use Rattle.hs_journal.specs.declared.journal.Step.TheVariants as steps
-use Rattle.hs_law_journal.specs.Following.{Queue, Chunks, Crumbs, Triggers, Asks, takes, taken}
-use Rattle.hs_law_journal.specs.Passes.{client_queues}
+use Rattle.hs_law_journal.specs.Following.{Chunks, Crumbs, Triggers}
 use Rattle.hs_check_clauses.specs.Walking.{place_of}
 
 -- how many queues there are

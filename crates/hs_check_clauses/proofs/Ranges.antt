@@ -1,11 +1,9 @@
 -- A test of each number of a range, or of each item of a list, from its front.
 use Rattle.std.proofs.Common.{◌≡◌, ℕ, ◌+◌, ◌-◌, ◌<◌, ◌≤◌, Bool, true, false, List, [], ◌∷◌, ◌++◌, length, get_or, drop, sym, ap, ◌∙◌, arith}
-use Rattle.std.specs.Prelude.{◌&&◌}
-use Rattle.std.specs.List.{range_with_len, list_all, flat_map}
-use Rattle.std.proofs.lemmas.List.{drop_more, drop_all, append_assoc, append-nil}
-use Rattle.std.proofs.lemmas.List.FromFn.{length-range_with_len, get_or-range_with_len}
+use Rattle.hs_check_clauses.proofs.Prelude.{◌&&◌, range_with_len, list_all, flat_map, drop_more, drop_all, append_assoc, append-nil, length-range_with_len, true≢false}
+use Rattle.std.proofs.lemmas.List.FromFn.{get_or-range_with_len}
 use Rattle.std.proofs.lemmas.List.Folds.{list_all_at}
-use Rattle.std.proofs.lemmas.Bool.{true_from_ne_false, true≢false}
+use Rattle.std.proofs.lemmas.Bool.{true_from_ne_false}
 
 -- what is left of a range
 abbrev pub range_from : ℕ → ℕ → List ℕ

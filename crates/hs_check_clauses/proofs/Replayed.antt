@@ -1,18 +1,8 @@
 -- A replayed pool, one event on.
 use Rattle.std.proofs.Common.{◌≡◌, ℕ, zero, suc, ◌+◌, ◌-◌, ◌<◌, ◌≤◌, true, false, eqb, ltb, List, [], ◌∷◌, ◌++◌, length, drop, set, get_or, replicate, refl, sym, ap, ◌∙◌, inl, inr, arith}
-use Rattle.std.specs.Prelude.{count_by, slice_get}
-use Rattle.std.specs.List.{AllByRecursion, range_with_len}
-use Rattle.std.specs.Option.{option_map_or}
-use Rattle.std.proofs.lemmas.Bool.{eq-eqb, ne_eqb, lt-ltb, le-ltb, cases_eq, and_left, and_from, and_right}
-use Rattle.std.proofs.lemmas.List.{drop_more, drop_all, drop-append-le, length-set, length_push, get_or-set_same, get_or-set_other, get_or-replicate, length-replicate}
-use Rattle.std.proofs.lemmas.List.FromFn.{length-range_with_len}
-use Rattle.std.proofs.lemmas.List.Sums.{count_by-le-length}
-use Rattle.hs_lists.proofs.Counts.{one_if, count_cons}
-use Rattle.hs_lists.proofs.Ranges.{range_append}
-use Rattle.hs_lists.proofs.Alls.{all_append}
-use Rattle.hs_words.specs.PoolHistory.{PoolEvent, Got, Empty, Given, Missed, is_got, is_given, is_empty, is_missed, queue_after}
-use Rattle.hs_law_journal.specs.Pooled.{may_follow}
-use Rattle.hs_check_clauses.specs.Replaying.{ReplayStands}
+use Rattle.hs_check_clauses.proofs.Prelude.{count_by, slice_get, AllByRecursion, range_with_len, option_map_or, eq-eqb, ne_eqb, lt-ltb, le-ltb, cases_eq, and_left, and_from, and_right, drop_more, drop_all, length-set, get_or-set_same, get_or-set_other, length-range_with_len, count_by-le-length, one_if, count_cons, range_append, all_append, PoolEvent, Got, may_follow, ReplayStands}
+use Rattle.std.proofs.lemmas.List.{drop-append-le, length_push, get_or-replicate, length-replicate}
+use Rattle.hs_words.specs.PoolHistory.{Empty, Given, Missed, is_got, is_given, is_empty, is_missed, queue_after}
 
 low_at : (n : ℕ) (xs : List ℕ) (i : ℕ) → AllByRecursion (λ b. b < n) xs → i < length xs → get_or xs i 0 < n
 low_at n [] i all less = absurd (omega arith)

@@ -1,12 +1,8 @@
 -- How many rounds a valid workload takes, at most.
 use Rattle.std.proofs.Common.{◌≡◌, ℕ, zero, suc, ◌+◌, ◌-◌, ◌*◌, ◌/◌, ◌^◌, ◌<◌, ◌≤◌, List, [], ◌∷◌, length, map, sym, subst, max, fold, arith, ◌⊎◌, inl, inr}
+use Rattle.hs_check_clauses.proofs.Prelude.{MAX_OPERATIONS, rounds_for, rounds_of, Operation, PlainWorkload, IsValid, workload_pieces, operations_few}
 use Rattle.std.proofs.Math.Nat.{div-mul-le_self, max-eq_left, max-eq_right}
-use Rattle.hs_base.specs.declared.limits.TheConstants.{MAX_OPERATIONS}
-use Rattle.hs_law_journal.specs.Ends.{rounds_for, rounds_of}
-use Rattle.hs_records.specs.Plain.{Operation, PlainWorkload}
-use Rattle.hs_workload.specs.Validity.{IsValid, workload_pieces}
 use Rattle.hs_workload.specs.declared.word.Setting.TheVariants as settings
-use Rattle.hs_workload.proofs.Sizes.{operations_few}
 
 one_below : (a b : ℕ) → (a ≤ b) ⊎ (b ≤ a)
 one_below zero b = inl (omega arith)

@@ -1,13 +1,7 @@
 -- Items put in order by a number: all of the first number, all of the next, and so on. A list that is in order stays as it is.
 use Rattle.std.proofs.Common.{◌≡◌, ℕ, zero, suc, ◌+◌, ◌<◌, ◌≤◌, Bool, true, false, cond, eqb, ltb, List, [], ◌∷◌, ◌++◌, length, map, get_or, refl, sym, ap, ◌∙◌, subst, inl, inr, arith}
-use Rattle.std.specs.Prelude.{filter}
-use Rattle.std.specs.List.Sorted.{IsNonDecreasingBy}
-use Rattle.std.proofs.lemmas.List.{append-nil, map-append}
-use Rattle.std.specs.List.{AllByRecursion, range_with_len, flat_map}
-use Rattle.std.proofs.lemmas.Bool.{eqb-true, eq-eqb, ne_eqb, cases_eq, cases_Bool, ltb-true, ltb-false}
-use Rattle.std.proofs.lemmas.List.Elements.{filter-append}
-use Rattle.hs_lists.proofs.Alls.{all_each, all_append, all_back}
-use Rattle.hs_lists.proofs.Filters.{filter_none}
+use Rattle.hs_check_clauses.proofs.Prelude.{filter, IsNonDecreasingBy, append-nil, map-append, AllByRecursion, range_with_len, flat_map, eqb-true, eq-eqb, ne_eqb, cases_eq, cases_Bool, ltb-true, ltb-false, filter-append, all_each, all_append, filter_none}
+use Rattle.hs_lists.proofs.Alls.{all_back}
 
 -- ---- in order
 

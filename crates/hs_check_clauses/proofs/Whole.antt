@@ -1,19 +1,10 @@
 -- A pass is whole exactly where its items stand in the order of the queues, at most 64 of each, and a turn and offers behind them.
 use Rattle.std.proofs.Common.{◌≡◌, ℕ, zero, suc, ◌+◌, ◌*◌, ◌<◌, ◌≤◌, Bool, true, false, cond, eqb, leb, List, [], ◌∷◌, ◌++◌, refl, sym, ap, ◌∙◌, subst, inl, inr, ◌⊎◌, arith}
-use Rattle.std.specs.Prelude.{filter, count_by, not, ◌&&◌}
-use Rattle.std.specs.List.{range_with_len, flat_map, list_all, AllByRecursion}
-use Rattle.std.proofs.lemmas.Bool.{and_parts, and_from, and_left, and_right, eqb-true, eq-eqb, ne_eqb, le-leb, lt-leb, leb-true, cases_eq, false_from_ne_true, true≢false}
-use Rattle.std.proofs.lemmas.List.Elements.{filter-append}
-use Rattle.hs_lists.proofs.Counts.{one_if, count_append, count_cons}
-use Rattle.hs_lists.proofs.Ranges.{list_all_range}
-use Rattle.hs_lists.proofs.Alls.{all_each}
-use Rattle.hs_lists.proofs.Filters.{filter_none, filter_all}
-use Rattle.hs_base.specs.declared.limits.TheConstants.{MAX_TAKEN}
-use Rattle.hs_journal.specs.declared.journal.Step.{Step}
+use Rattle.hs_check_clauses.proofs.Prelude.{filter, count_by, not, ◌&&◌, range_with_len, flat_map, list_all, AllByRecursion, and_parts, and_from, and_left, and_right, eqb-true, eq-eqb, ne_eqb, le-leb, lt-leb, leb-true, cases_eq, false_from_ne_true, true≢false, filter-append, one_if, count_append, count_cons, list_all_range, all_each, filter_none, MAX_TAKEN, Step, Queue, takes, taken, is_turn, is_offer, is_whole_pass, IsTake}
+use Rattle.hs_lists.proofs.Filters.{filter_all}
 use Rattle.hs_journal.specs.declared.journal.Step.TheVariants as steps
-use Rattle.hs_law_journal.specs.Following.{Queue, takes, taken}
-use Rattle.hs_law_journal.specs.Passes.{is_turn, is_offer, same_step, same_steps, is_whole_pass}
-use Rattle.hs_law_journal.proofs.Logs.{same_steps_refl, IsTake}
+use Rattle.hs_law_journal.specs.Passes.{same_step, same_steps}
+use Rattle.hs_law_journal.proofs.Logs.{same_steps_refl}
 use Rattle.hs_check_clauses.proofs.Queues.{queue_count, place, Match, taken_in_order, few_of_each}
 use Rattle.hs_check_clauses.proofs.Ranges.{one_fails, each_holds}
 use Rattle.hs_check_clauses.proofs.Sorting.{buckets, Sorted, Sorted-append, before_is_low, same_sorted, sorted_stays, others_add_none, buckets_are_within, buckets_are_sorted}

@@ -1,37 +1,15 @@
 -- Where the parts of the nodes stand before anything was performed.
 use Rattle.std.proofs.Common.{◌≡◌, ◌⊎◌, inl, inr, ℕ, zero, suc, ◌+◌, ◌*◌, ◌/◌, ◌<◌, Bool, true, ◌&&◌, nat_eq, List, [], ◌∷◌, ◌++◌, length, map, drop, Some, None, refl, sym, ap, subst, ◌∙◌, arith, slice_get, eqb-true, length-append, mul-le-mul_right}
-use Rattle.std.proofs.lemmas.Bool.{and_parts}
+use Rattle.hs_check_follow.proofs.Prelude.{and_parts, same_Some, range_with_len, ClientId, AreAsked, note_of, PlainClientBook, PlainJournal, Draw, NodeRun, node_start, run_start, log_at, Stays, pages_of, Operation, PlainWorkload, draws_at, operations_at, place_of, FollowedClient, AreFirst, ClientStands, ends_within, FollowedNodeStands, behind_at, hand_of, said_of, NodeAt, AllAt, FollowedAgent, FollowedCoordinator, FollowedNode}
 use Rattle.std.proofs.lemmas.List.FromFn.{length-map-range_with_len}
 use Rattle.std.proofs.lemmas.Nat.{div-mul-add, mod-mul-add}
-use Rattle.std.proofs.lemmas.Option.{same_Some}
-use Rattle.std.specs.List.{range_with_len}
 use Rattle.hs_agent.specs.Runs as agents
-use Rattle.hs_base.specs.declared.ids.ClientId.{ClientId}
-use Rattle.hs_check_clauses.specs.Finding.{AreAsked}
 use Rattle.hs_check_clauses.specs.Beginning.{MayBegin}
-use Rattle.hs_client.specs.Calls.{note_of}
-use Rattle.hs_journal.specs.Books.{PlainClientBook}
-use Rattle.hs_journal.specs.Views.{PlainJournal}
-use Rattle.hs_journal.specs.declared.journal.Draw.{Draw}
-use Rattle.hs_law_journal.specs.Following.{NodeRun, node_start, run_start, log_at}
-use Rattle.hs_law_journal.specs.Orders.{Stays}
 use Rattle.hs_law_journal.specs.Shape.{same_counts}
 use Rattle.hs_law_outcome.specs.Outcomes.{client_at}
 use Rattle.hs_law_outcome.proofs.Entries.{same_length, same_many}
-use Rattle.hs_records.specs.Pages.{pages_of}
-use Rattle.hs_records.specs.Plain.{Operation, PlainWorkload}
-use Rattle.hs_law_sends.specs.Sending.{draws_at, operations_at, place_of}
 use Rattle.hs_check_follow.specs.Sendings.{IsFollowedClient}
-use Rattle.hs_check_follow.specs.declared.client.FollowedClient.{FollowedClient}
-use Rattle.hs_check_follow.specs.Beginning.{AreFirst, IsNewFollowedCoordinator}
-use Rattle.hs_check_follow.specs.Clients.{ClientStands}
-use Rattle.hs_check_follow.specs.Ends.{ends_within}
-use Rattle.hs_check_follow.specs.Nodes.{FollowedNodeStands}
-use Rattle.hs_check_follow.specs.Noting.{behind_at, hand_of, said_of}
-use Rattle.hs_check_follow.specs.Whole.{NodeAt, AllAt}
-use Rattle.hs_check_follow.specs.declared.agent.FollowedAgent.{FollowedAgent}
-use Rattle.hs_check_follow.specs.declared.coordinator.FollowedCoordinator.{FollowedCoordinator}
-use Rattle.hs_check_follow.specs.declared.node.FollowedNode.{FollowedNode}
+use Rattle.hs_check_follow.specs.Beginning.{IsNewFollowedCoordinator}
 
 -- ---- lists
 

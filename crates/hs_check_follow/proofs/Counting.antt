@@ -1,10 +1,7 @@
 -- What one step more takes from the queues, and what is left of them.
 use Rattle.std.proofs.Common.{◌≡◌, ℕ, zero, suc, ◌+◌, ◌≤◌, true, List, [], ◌∷◌, ◌++◌, map, drop, Some, None, refl, ap, arith}
-use Rattle.std.specs.Prelude.{slice_get}
-use Rattle.std.specs.List.{range_with_len}
+use Rattle.hs_check_follow.proofs.Prelude.{slice_get, range_with_len, Step, Queue, takes, taken}
 use Rattle.hs_lists.proofs.Counts.{one_if}
-use Rattle.hs_journal.specs.declared.journal.Step.{Step}
-use Rattle.hs_law_journal.specs.Following.{Queue, takes, taken}
 use Rattle.hs_law_journal.proofs.Logs.{taken_push}
 
 pub taken_once : (queue : Queue) (log : List Step) (step : Step) → takes queue step ≡ true → taken queue (log ++ step ∷ []) ≡ suc (taken queue log)

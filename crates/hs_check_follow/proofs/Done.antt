@@ -1,18 +1,8 @@
 -- Whether a step is left anywhere.
 use Rattle.std.proofs.Common.{◌≡◌, inl, inr, ℕ, zero, suc, ◌+◌, ◌-◌, ◌<◌, ◌≤◌, Bool, true, false, ◌&&◌, nat_eq, leb, ne_eqb, eq-eqb, leb-true, leb-false, List, [], ◌∷◌, length, drop, Some, None, refl, sym, ap, ◌∙◌, arith, slice_get, unwrap_or, length-drop}
-use Rattle.std.specs.List.{list_all}
+use Rattle.hs_check_follow.proofs.Prelude.{list_all, same_Some, slice_get_within, get_there, PlainJournal, Step, RunsAreOfTheJournal, log_at, NodeRun, Run, is_done, PlainWorkload, AllAt, FollowedCoordinator, FollowedNode}
 use Rattle.std.proofs.Math.Bool.{and-false}
 use Rattle.std.proofs.lemmas.List.{drop_all}
-use Rattle.std.proofs.lemmas.Option.{same_Some, slice_get_within}
-use Rattle.hs_lists.proofs.Places.{get_there}
-use Rattle.hs_journal.specs.Views.{PlainJournal}
-use Rattle.hs_journal.specs.declared.journal.Step.{Step}
-use Rattle.hs_law_journal.specs.Extending.{RunsAreOfTheJournal}
-use Rattle.hs_law_journal.specs.Following.{log_at, NodeRun, Run, is_done}
-use Rattle.hs_records.specs.Plain.{PlainWorkload}
-use Rattle.hs_check_follow.specs.Whole.{AllAt}
-use Rattle.hs_check_follow.specs.declared.coordinator.FollowedCoordinator.{FollowedCoordinator}
-use Rattle.hs_check_follow.specs.declared.node.FollowedNode.{FollowedNode}
 use Rattle.hs_check_follow.proofs.Steps.{number_is, below_last}
 
 module _ {A : Type 0} where

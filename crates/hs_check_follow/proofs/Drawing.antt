@@ -1,26 +1,8 @@
 -- Draws that get a buffer where the given ones do. What is sent is that of the given ones: a front while draws are left, and all in the end.
 use Rattle.std.proofs.Common.{◌≡◌, ℕ, zero, suc, ◌+◌, ◌≤◌, Bool, true, false, cond, List, [], ◌∷◌, ◌++◌, length, map, filter, Some, None, refl, sym, ap, ◌∙◌, arith, append_assoc, length-append}
-use Rattle.std.proofs.lemmas.Bool.{lt-ltb}
-use Rattle.std.proofs.lemmas.List.{append-nil, length-map, map-append, nil_from_length}
-use Rattle.std.specs.Prelude.{slice_get}
-use Rattle.hs_lists.proofs.Places.{get_front}
-use Rattle.hs_base.specs.declared.ids.ClientId.{ClientId}
-use Rattle.hs_journal.specs.declared.journal.Draw.{Draw}
-use Rattle.hs_replay_client.specs.Places.{ReplayClientIsAt}
-use Rattle.hs_replay_client.specs.ReplayClients.{PlainReplayClient}
-use Rattle.hs_replay_client.specs.Wells.{DrawsAll}
-use Rattle.hs_records.specs.Pages.{pages_of}
-use Rattle.hs_records.specs.Plain.{Operation, PlainSettings}
-use Rattle.hs_records.specs.Records.{AreBracketed}
-use Rattle.hs_law_sends.specs.Draws.{count_started}
-use Rattle.hs_law_sends.specs.Drawn.{DrawnPage, has_buffer, drawn_from}
-use Rattle.hs_law_sends.specs.Laws.{IsTimely, TimedPagesAreThePages, TimedPagesAreTimely}
-use Rattle.hs_law_sends.specs.Sending.{Sent, sends_of, sent_chunks, sent_within, sheet_of}
-use Rattle.hs_law_sends.specs.SoFar.{AllChunksAreSent, started_within}
-use Rattle.hs_law_sends.specs.Timing.{TimedPage, timed_pages}
-use Rattle.hs_words.specs.Pages.{Sheet}
-use Rattle.hs_check_follow.specs.declared.script.Script.{Script}
-use Rattle.hs_check_follow.specs.Scripts.{script_way}
+use Rattle.hs_check_follow.proofs.Prelude.{lt-ltb, append-nil, length-map, map-append, nil_from_length, slice_get, get_front, ClientId, Draw, ReplayClientIsAt, PlainReplayClient, DrawsAll, pages_of, Operation, PlainSettings, AreBracketed, count_started, has_buffer, drawn_from, IsTimely, TimedPagesAreThePages, TimedPagesAreTimely, Sent, sends_of, sent_chunks, sent_within, AllChunksAreSent, started_within, TimedPage, timed_pages, Sheet, Script, script_way}
+use Rattle.hs_law_sends.specs.Drawn.{DrawnPage}
+use Rattle.hs_law_sends.specs.Sending.{sheet_of}
 use Rattle.hs_check_follow.proofs.Scripted.{kinds_are}
 use Rattle.hs_check_follow.proofs.Starts.{started_short}
 

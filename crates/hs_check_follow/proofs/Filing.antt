@@ -1,8 +1,6 @@
 -- Noting what is behind a pass.
 use Rattle.std.proofs.Common.{◌≡◌, ℕ, Bool, true, false, List, [], ◌∷◌, ◌++◌, refl, sym, ap, ◌∙◌}
-use Rattle.hs_lists.proofs.Parts.{nil_behind}
-use Rattle.hs_check_follow.specs.Noting.{Notes, noted_if, hand_of, said_of}
-use Rattle.hs_check_follow.specs.declared.node.FollowedNode.{FollowedNode}
+use Rattle.hs_check_follow.proofs.Prelude.{nil_behind, Notes, noted_if, hand_of, said_of, FollowedNode}
 
 pub nothing_noted : (t : FollowedNode) (last : Bool) → last ≡ false → Notes last t t
 nothing_noted t last is =

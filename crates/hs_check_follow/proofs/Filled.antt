@@ -1,21 +1,8 @@
 -- A client goes on until its next chunk is there: it is the next of those that it sends at the given draws.
 use Rattle.std.proofs.Common.{◌≡◌, ℕ, ◌+◌, ◌<◌, ◌≤◌, Bool, true, false, List, ◌++◌, length, Option, Some, None, refl, sym, ap, subst, ◌∙◌, arith}
-use Rattle.std.proofs.lemmas.Bool.{ltb-true, ltb-false}
-use Rattle.std.specs.Prelude.{◌↔◌, IsTrue, nat_lt, slice_get, MatchOption}
-use Rattle.hs_base.specs.declared.ids.ClientId.{ClientId}
-use Rattle.hs_base.specs.declared.told.Crumb.{Crumb}
-use Rattle.hs_base.specs.declared.told.Trigger.{Trigger}
-use Rattle.hs_journal.specs.declared.journal.Draw.{Draw}
-use Rattle.hs_replay_client.specs.Places.{ReplayClientIsAt, IsChunkAt, TakesCrumb, TakesTrigger, WentOn}
-use Rattle.hs_replay_client.specs.ReplayClients.{PlainReplayClient, Unleased}
-use Rattle.hs_records.specs.Plain.{Operation, PlainSettings}
-use Rattle.hs_law_sends.specs.Laws.{TimedPagesAreThePages, TimedPagesAreTimely}
-use Rattle.hs_law_sends.specs.Sending.{sends_of, sent_within}
-use Rattle.hs_law_sends.specs.SoFar.{AllChunksAreSent, done_behind}
-use Rattle.hs_check_follow.specs.declared.filling.Filling.{Filling}
-use Rattle.hs_check_follow.specs.declared.script.Script.{Script}
-use Rattle.hs_check_follow.specs.Fillings.{IsFilling, IsFilled}
-use Rattle.hs_check_follow.specs.Scripts.{script_way}
+use Rattle.hs_check_follow.proofs.Prelude.{ltb-true, ltb-false, IsTrue, nat_lt, slice_get, MatchOption, ClientId, Crumb, Trigger, Draw, ReplayClientIsAt, WentOn, PlainReplayClient, Unleased, Operation, PlainSettings, TimedPagesAreThePages, TimedPagesAreTimely, sends_of, sent_within, AllChunksAreSent, done_behind, Filling, Script, IsFilling, IsFilled, script_way}
+use Rattle.std.specs.Prelude.{◌↔◌}
+use Rattle.hs_replay_client.specs.Places.{IsChunkAt, TakesCrumb, TakesTrigger}
 use Rattle.hs_check_follow.proofs.Drawing.{sent_there, kinds_more, none_there}
 use Rattle.hs_check_follow.proofs.Scripted.{size_stays}
 

@@ -1,32 +1,12 @@
 -- What was found at the nodes is found of their runs.
 use Rattle.std.proofs.Common.{◌≡◌, ℕ, zero, suc, ◌+◌, ◌≤◌, true, nat_eq, List, [], ◌∷◌, ◌++◌, length, map, drop, Option, Some, None, refl, sym, ap, subst, ◌∙◌, arith, slice_get, option_map, eqb-true, append_assoc}
-use Rattle.std.proofs.lemmas.Bool.{and_parts}
-use Rattle.std.proofs.lemmas.List.{map-append, nil_from_length}
-use Rattle.std.proofs.lemmas.Option.{same_Some, slice_get-map}
-use Rattle.std.specs.List.{list_all, range_with_len, flat_map}
-use Rattle.hs_lists.proofs.Parts.{nil_behind}
-use Rattle.hs_lists.proofs.Alls.{all_at}
-use Rattle.hs_check_clauses.specs.Finding.{AreAsked, AreFound, IsFound, IsFoundClient, IsFoundNode, given_name, named}
+use Rattle.hs_check_follow.proofs.Prelude.{and_parts, map-append, nil_from_length, same_Some, slice_get-map, list_all, range_with_len, flat_map, nil_behind, all_at, AreAsked, AreFound, IsFoundClient, FoundPage, Listing, NodeSet, FollowedClient, PlainJournal, Step, RunsAreOfTheJournal, NodeRun, Run, log_at, is_done, AgentState, GivenPlace, PlainWorkload, ClientSends, client_sends, named_at, name_of, hand_of, said_of, IsFoundOf, AllAt, FollowedCoordinator, FollowedNode}
+use Rattle.hs_check_clauses.specs.Finding.{IsFound, IsFoundNode, given_name, named}
 use Rattle.hs_check_clauses.specs.declared.found.Found.{Found}
 use Rattle.hs_check_clauses.specs.declared.found.FoundNode.{FoundNode}
-use Rattle.hs_check_clauses.specs.declared.found.FoundPage.{FoundPage}
-use Rattle.hs_base.specs.Listing.{Listing}
-use Rattle.hs_base.specs.declared.node_set.NodeSet.{NodeSet}
-use Rattle.hs_check_follow.specs.declared.client.FollowedClient.{FollowedClient}
-use Rattle.hs_journal.specs.Views.{PlainJournal}
-use Rattle.hs_journal.specs.declared.journal.Step.{Step}
-use Rattle.hs_law_journal.specs.Extending.{RunsAreOfTheJournal, IsOfJournal}
-use Rattle.hs_law_journal.specs.Following.{NodeRun, Run, log_at, is_done}
-use Rattle.hs_law_agent.specs.State.{AgentState, GivenPlace}
+use Rattle.hs_law_journal.specs.Extending.{IsOfJournal}
 use Rattle.hs_law_agent.specs.Standings.{Taken}
-use Rattle.hs_records.specs.Plain.{PlainWorkload}
-use Rattle.hs_law_sends.specs.Sending.{ClientSends, client_sends}
-use Rattle.hs_check_follow.specs.Nodes.{named_at, name_of}
-use Rattle.hs_check_follow.specs.Noting.{hand_of, said_of}
-use Rattle.hs_check_follow.specs.Parting.{IsFoundOf, found_left}
-use Rattle.hs_check_follow.specs.Whole.{AllAt}
-use Rattle.hs_check_follow.specs.declared.coordinator.FollowedCoordinator.{FollowedCoordinator}
-use Rattle.hs_check_follow.specs.declared.node.FollowedNode.{FollowedNode}
+use Rattle.hs_check_follow.specs.Parting.{found_left}
 use Rattle.hs_check_follow.proofs.PassEnds.{all_noted}
 
 -- ---- lists

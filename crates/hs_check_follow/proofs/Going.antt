@@ -1,28 +1,12 @@
 -- One operation more: where the client stands when it has gone on, and what was taken then.
 use Rattle.std.proofs.Common.{◌≡◌, ℕ, ◌+◌, ◌<◌, ◌≤◌, Bool, false, List, [], ◌++◌, length, map, take, drop, sym, ap, subst, ◌∙◌, arith, length-append}
-use Rattle.std.proofs.lemmas.List.{append-nil, length-map, length-take-le, take-append-drop}
-use Rattle.std.specs.Prelude.{IsTrue, replicate}
-use Rattle.hs_base.specs.declared.ids.ClientId.{ClientId}
-use Rattle.hs_base.specs.declared.told.Crumb.{Crumb}
-use Rattle.hs_base.specs.declared.told.Trigger.{Trigger}
-use Rattle.hs_journal.specs.declared.journal.Draw.{Draw}
-use Rattle.hs_replay_client.specs.Places.{ReplayClientIsAt, TellsBare, WentOn}
-use Rattle.hs_replay_client.specs.ReplayClients.{PlainReplayClient}
-use Rattle.hs_records.specs.Pages.{pages_of}
-use Rattle.hs_records.specs.Plain.{Operation, PlainSettings}
-use Rattle.hs_records.specs.Records.{AreBracketed}
-use Rattle.hs_law_sends.specs.Draws.{count_started}
-use Rattle.hs_law_sends.specs.Drawn.{has_buffer, drawn_from, drawn_pages}
-use Rattle.hs_law_sends.specs.Laws.{TimedPagesAreThePages, TimedPagesAreTimely}
-use Rattle.hs_law_sends.specs.Order.{ChunksAreInOrder, CrumbsAreInOrder, TriggersAreInOrder}
-use Rattle.hs_law_sends.specs.Sending.{ClientSends, Sent, sends_of, sent_chunks, sent_within}
-use Rattle.hs_law_sends.specs.SoFar.{FirstChunksAreSent, FirstOperationsSend, pages_within, done_behind}
-use Rattle.hs_law_sends.specs.Timing.{timed_pages}
-use Rattle.hs_words.specs.Pages.{Sheet}
-use Rattle.hs_check_follow.specs.declared.gathering.Gathering.{Gathering}
-use Rattle.hs_check_follow.specs.declared.script.Script.{Script}
-use Rattle.hs_check_follow.specs.Gathering.{AreNumbers, HasItems, IsSentBy, Where, AtChunk, AtCrumb, AtTrigger, chunks_at, crumbs_at, triggers_at, WereChunks, AreChunks, WereCrumbs, AreCrumbs, WereTriggers, AreTriggers, count_within, starts_within}
-use Rattle.hs_check_follow.specs.Scripts.{script_way}
+use Rattle.hs_check_follow.proofs.Prelude.{append-nil, length-map, IsTrue, replicate, ClientId, Crumb, Trigger, Draw, ReplayClientIsAt, WentOn, PlainReplayClient, pages_of, Operation, PlainSettings, AreBracketed, count_started, has_buffer, drawn_from, TimedPagesAreThePages, TimedPagesAreTimely, ChunksAreInOrder, ClientSends, Sent, sends_of, sent_chunks, sent_within, done_behind, timed_pages, Sheet, Gathering, Script, AreNumbers, HasItems, IsSentBy, Where, AtChunk, AtCrumb, AtTrigger, chunks_at, crumbs_at, triggers_at, WereChunks, WereCrumbs, WereTriggers, count_within, starts_within, script_way}
+use Rattle.std.proofs.lemmas.List.{length-take-le, take-append-drop}
+use Rattle.hs_replay_client.specs.Places.{TellsBare}
+use Rattle.hs_law_sends.specs.Drawn.{drawn_pages}
+use Rattle.hs_law_sends.specs.Order.{CrumbsAreInOrder, TriggersAreInOrder}
+use Rattle.hs_law_sends.specs.SoFar.{FirstChunksAreSent, FirstOperationsSend, pages_within}
+use Rattle.hs_check_follow.specs.Gathering.{AreChunks, AreCrumbs, AreTriggers}
 use Rattle.hs_check_follow.proofs.Drawing.{drawn_more, kinds_left, kinds_more}
 use Rattle.hs_check_follow.proofs.Queues.{none_more}
 use Rattle.hs_check_follow.proofs.Scripted.{size_stays, left_falls}

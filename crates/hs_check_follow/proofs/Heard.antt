@@ -1,28 +1,15 @@
 -- The coordinator hears one message more, and asks what it leads to.
 use Rattle.std.proofs.Common.{◌≡◌, ◌≢◌, inl, inr, ℕ, ◌+◌, ◌<◌, ◌≤◌, Bool, true, false, cond, List, [], ◌∷◌, ◌++◌, length, drop, Option, Some, None, refl, sym, ap, subst, ◌∙◌, arith, option_map, slice_get, count_by, append_assoc, append-nil, length-set, eqb, eqb-true, eq-eqb}
-use Rattle.std.specs.Option.{option_and_then}
-use Rattle.std.proofs.lemmas.Option.{slice_get_past, slice_get_within}
-use Rattle.hs_lists.proofs.Places.{get_there, get_set_cases}
+use Rattle.hs_check_follow.proofs.Prelude.{option_and_then, slice_get_within, get_there, get_set_cases, all_at, NodeId, NodeSet, Ask, Told, ChangesAt, AreAsked, Messages, PlainJournal, asks_to, NodeRun, Run, PlainWorkload, MayHearAt, HasHeard, HasNotHeard, AreSent, sent_by, FollowedCoordinator, FollowedNode}
+use Rattle.std.proofs.lemmas.Option.{slice_get_past}
 use Rattle.hs_lists.proofs.Counts.{count_push}
-use Rattle.hs_lists.proofs.Alls.{all_at}
 use Rattle.hs_base.specs.NodeSets.{has_node}
-use Rattle.hs_base.specs.declared.ids.NodeId.{NodeId}
-use Rattle.hs_base.specs.declared.node_set.NodeSet.{NodeSet}
-use Rattle.hs_base.specs.declared.told.Ask.{Ask}
-use Rattle.hs_base.specs.declared.told.Told.{Told}
-use Rattle.hs_base.specs.Changing.{ChangesAt}
-use Rattle.hs_check_clauses.specs.Finding.{AreAsked}
-use Rattle.hs_coord.specs.Following.{Message, Messages, message, first_of, is_newly_asked, AreAsks}
+use Rattle.hs_coord.specs.Following.{Message, message, first_of, is_newly_asked, AreAsks}
 use Rattle.hs_coord.specs.Kept.{HasTaken}
 use Rattle.hs_coord.specs.declared.asks.Asks.{Asks}
-use Rattle.hs_journal.specs.Views.{PlainJournal}
-use Rattle.hs_law_journal.specs.Following.{asks_to, is_from, NodeRun, Run, message_of, hear}
+use Rattle.hs_law_journal.specs.Following.{is_from, message_of, hear}
 use Rattle.hs_law_journal.specs.Performing.{StepByStep}
 use Rattle.hs_law_agent.specs.Leading.{IsToldBelow}
-use Rattle.hs_records.specs.Plain.{PlainWorkload}
-use Rattle.hs_check_follow.specs.Whole.{MayHearAt, HasHeard, HasNotHeard, AreSent, sent_by}
-use Rattle.hs_check_follow.specs.declared.coordinator.FollowedCoordinator.{FollowedCoordinator}
-use Rattle.hs_check_follow.specs.declared.node.FollowedNode.{FollowedNode}
 use Rattle.hs_check_follow.proofs.Tracking.{drop_there, drop_past}
 
 -- the nodes that are asked, one message more

@@ -1,3 +1,4 @@
+mod Prelude
 pub mod Queues
 pub mod Taking
 pub mod Scripted

@@ -1,7 +1,6 @@
 -- Lists of which an item was lent and written.
 use Rattle.std.proofs.Common.{◌≡◌, ℕ, ◌<◌, List, length, get_or, Some, sym, ap, ◌∙◌}
-use Rattle.std.proofs.lemmas.Option.{slice_get-get_or}
-use Rattle.std.specs.Prelude.{slice_get}
+use Rattle.hs_check_follow.proofs.Prelude.{slice_get-get_or, slice_get}
 
 module _ {A : Type 0} where
   -- the item at an index

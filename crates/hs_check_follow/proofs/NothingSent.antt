@@ -1,22 +1,7 @@
 -- A client that has done nothing has sent nothing, and all its chunks are to be filled.
-use Rattle.std.proofs.lemmas.Bool.{le-ltb}
+use Rattle.hs_check_follow.proofs.Prelude.{le-ltb, ClientId, numbers_of, Draw, ReplayClientIsAt, PlainReplayClient, pages_of, Operation, PlainSettings, has_buffer, Sent, sends_of, sent_within, started_within, TimedPage, timed_pages, Filling, Gathering, Script, IsFilling, HasItems, IsSentBy, count_within}
 use Rattle.std.proofs.Common.{◌≡◌, ◌≤◌, arith, List, [], ◌∷◌, length, map, refl, sym, ap, subst, ◌∙◌}
-use Rattle.hs_base.specs.declared.ids.ClientId.{ClientId}
-use Rattle.hs_check_clauses.specs.Finding.{numbers_of}
-use Rattle.hs_journal.specs.declared.journal.Draw.{Draw}
-use Rattle.hs_replay_client.specs.Places.{ReplayClientIsAt}
-use Rattle.hs_replay_client.specs.ReplayClients.{PlainReplayClient}
-use Rattle.hs_records.specs.Pages.{pages_of}
-use Rattle.hs_records.specs.Plain.{Operation, PlainSettings}
-use Rattle.hs_law_sends.specs.Drawn.{has_buffer}
-use Rattle.hs_law_sends.specs.Sending.{Sent, sends_of, sent_within}
-use Rattle.hs_law_sends.specs.SoFar.{started_within}
-use Rattle.hs_law_sends.specs.Timing.{TimedPage, timed_pages}
-use Rattle.hs_check_follow.specs.declared.filling.Filling.{Filling}
-use Rattle.hs_check_follow.specs.declared.gathering.Gathering.{Gathering}
-use Rattle.hs_check_follow.specs.declared.script.Script.{Script}
-use Rattle.hs_check_follow.specs.Fillings.{IsFilling}
-use Rattle.hs_check_follow.specs.Gathering.{HasItems, IsNew, IsSentBy, count_within}
+use Rattle.hs_check_follow.specs.Gathering.{IsNew}
 
 none_within : {A : Type 0} (items : List (Sent A)) → sent_within 0 items ≡ []
 none_within [] = refl

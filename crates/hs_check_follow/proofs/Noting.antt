@@ -1,15 +1,7 @@
 -- One step more, and what is noted behind the passes.
 use Rattle.std.proofs.Common.{◌≡◌, ℕ, zero, suc, ◌+◌, ◌<◌, ◌≤◌, Bool, true, false, cond, List, [], ◌∷◌, ◌++◌, length, map, take, drop, refl, sym, ap, ◌∙◌, arith, length-append}
-use Rattle.std.proofs.lemmas.List.{map-append}
+use Rattle.hs_check_follow.proofs.Prelude.{map-append, Step, NodeRun, AgentState, AgentEvent, after, PlainSettings, ends_front, ends_within, behind_at, noted_if}
 use Rattle.hs_lists.proofs.Parts.{take_whole}
-use Rattle.hs_journal.specs.declared.journal.Step.{Step}
-use Rattle.hs_law_journal.specs.Following.{NodeRun}
-use Rattle.hs_law_agent.specs.State.{AgentState}
-use Rattle.hs_law_agent.specs.Stepping.{AgentEvent, after}
-use Rattle.hs_records.specs.Plain.{PlainSettings}
-use Rattle.hs_check_clauses.specs.Offering.{ends_front}
-use Rattle.hs_check_follow.specs.Ends.{ends_within}
-use Rattle.hs_check_follow.specs.Noting.{behind_at, noted_if}
 
 -- ---- ends
 

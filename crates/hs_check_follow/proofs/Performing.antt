@@ -1,37 +1,20 @@
 -- What a node's parts are when a step was performed.
 use Rattle.std.proofs.Common.{◌≡◌, ℕ, zero, suc, ◌+◌, ◌<◌, ◌^◌, false, List, [], ◌∷◌, ◌++◌, map, Option, Some, None, IsSome, refl, sym, ap, subst, ◌∙◌, option_map, append-nil}
-use Rattle.std.proofs.lemmas.List.{map-append}
-use Rattle.std.proofs.lemmas.Option.{same_Some}
-use Rattle.std.specs.Prelude.{slice_get, slice_set, IfSome}
+use Rattle.hs_check_follow.proofs.Prelude.{map-append, same_Some, slice_get, option_and_then, get_front, set_same, all_at, sheet_in, Follows, after_offer, offered_next, state_of, Input, Told, FoundPage, Messages, PlainJournal, Step, Asks, Chunks, Crumbs, Triggers, takes, taken, NodeRun, event_of, perform, taken_still, MayTake, AgentState, GivenPlace, Given, Missed, Unread, AgentEvent, Took, Gave, after, Unleased, PlainSettings, PlainWorkload, Sheet, FollowedAgent, ClientsStand, HasPerformed, IsReadied, FollowedNodeStands, agent_run, name_of, named_at}
+use Rattle.std.specs.Prelude.{slice_set, IfSome}
 use Rattle.std.specs.List.{AllByRecursion}
-use Rattle.std.specs.Option.{option_to_list, option_and_then, option_map_or}
-use Rattle.hs_lists.proofs.Places.{get_front, set_same}
-use Rattle.hs_lists.proofs.Alls.{all_at, all_append}
+use Rattle.std.specs.Option.{option_to_list, option_map_or}
+use Rattle.hs_lists.proofs.Alls.{all_append}
 use Rattle.hs_agent.specs.Keeping.{PlainAgent}
-use Rattle.hs_agent.specs.Points.{sheet_in}
 use Rattle.hs_agent.specs.Runs as agents
-use Rattle.hs_agent.specs.Runs.{Follows, IsTakable, Knows, after_input, after_offer, buffers_in, first_place, input_of, offered_next, point_of, state_of, told_in, with_back}
-use Rattle.hs_agent.specs.declared.input.Input.{Input}
+use Rattle.hs_agent.specs.Runs.{IsTakable, Knows, after_input, buffers_in, first_place, input_of, point_of, told_in, with_back}
 use Rattle.hs_agent.specs.declared.input.Input.TheVariants as inputs
 use Rattle.hs_agent.proofs.Brought.{sheets_brought}
-use Rattle.hs_base.specs.declared.told.Told.{Told}
-use Rattle.hs_check_clauses.specs.declared.found.FoundPage.{FoundPage}
-use Rattle.hs_coord.specs.Following.{Messages}
-use Rattle.hs_journal.specs.Views.{PlainJournal}
-use Rattle.hs_journal.specs.declared.journal.Step.{Step}
 use Rattle.hs_journal.specs.declared.journal.Step.TheVariants as steps
-use Rattle.hs_law_journal.specs.Following.{Asks, Chunks, Crumbs, Triggers, takes, taken, NodeRun, event_of, offered, perform}
-use Rattle.hs_law_journal.proofs.Logs.{taken_still}
-use Rattle.hs_law_journal.specs.Fitting.{MayTake}
+use Rattle.hs_law_journal.specs.Following.{offered}
 use Rattle.hs_law_agent.specs.Laws.{EventsGoOn, EventsAddThis, StepsSayWhatTheyTell, brought_by, sheets_of}
-use Rattle.hs_law_agent.specs.State.{AgentState, GivenPlace}
-use Rattle.hs_law_agent.specs.Stepping.{Answered, Given, Missed, Unread, AgentEvent, Took, Gave, after, after_event, after_gave, step_of_answer, told_by}
-use Rattle.hs_replay_client.specs.ReplayClients.{Unleased}
-use Rattle.hs_records.specs.Plain.{PlainSettings, PlainWorkload}
-use Rattle.hs_words.specs.Pages.{Sheet}
-use Rattle.hs_check_follow.specs.declared.agent.FollowedAgent.{FollowedAgent}
-use Rattle.hs_check_follow.specs.Clients.{ClientsStand}
-use Rattle.hs_check_follow.specs.Nodes.{FollowedAgentStands, FitsChunk, HasPerformed, IsOffer, IsReadied, MayTakeNext, FollowedNodeStands, agent_run, name_of, named_at}
+use Rattle.hs_law_agent.specs.Stepping.{Answered, after_event, after_gave, step_of_answer, told_by}
+use Rattle.hs_check_follow.specs.Nodes.{FollowedAgentStands, FitsChunk, IsOffer, MayTakeNext}
 use Rattle.hs_check_follow.proofs.Popping.{clients_as}
 
 -- ---- inputs

@@ -1,27 +1,12 @@
 -- Taking an item out of a client's queues: the step that takes it is ready, and all else stays.
 use Rattle.std.proofs.Common.{◌≡◌, inl, inr, ℕ, suc, ◌+◌, ◌<◌, ◌≤◌, true, false, List, [], ◌∷◌, ◌++◌, length, drop, set, Option, Some, None, refl, sym, ap, subst, ◌∙◌, arith, option_map, eq-eqb, nat_eq, length-set}
-use Rattle.std.proofs.lemmas.List.{length-map, nil_from_length}
-use Rattle.std.specs.Prelude.{slice_get, MatchOption}
-use Rattle.std.specs.Option.{option_and_then}
+use Rattle.hs_check_follow.proofs.Prelude.{length-map, nil_from_length, slice_get, MatchOption, option_and_then, get_set_cases, ClientId, IsFoundClient, IsFilled, Fills, MayFill, Filling, FollowedClient, PlainJournal, Step, Queue, Chunks, Crumbs, Triggers, takes, taken, NodeRun, taken_still, AgentEvent, Unleased, Operation, PlainWorkload, items_of, Sent, ClientSends, client_sends, draws_at, operations_at, place_of, ClientStands, ClientsStand, FillsAt, PopsChunk, own_operations}
 use Rattle.hs_lists.proofs.Ranges.{map_range_from}
-use Rattle.hs_lists.proofs.Places.{get_set_cases}
-use Rattle.hs_base.specs.declared.ids.ClientId.{ClientId}
-use Rattle.hs_check_clauses.specs.Finding.{IsFoundClient}
 use Rattle.hs_journal.specs.Books.{client_book_of}
-use Rattle.hs_check_follow.specs.Fillings.{IsFilled, Fills, MayFill}
-use Rattle.hs_check_follow.specs.declared.filling.Filling.{Filling}
-use Rattle.hs_check_follow.specs.declared.client.FollowedClient.{FollowedClient}
-use Rattle.hs_journal.specs.Views.{PlainJournal}
-use Rattle.hs_journal.specs.declared.journal.Step.{Step}
 use Rattle.hs_journal.specs.declared.journal.Step.TheVariants as steps
-use Rattle.hs_law_journal.specs.Following.{Queue, Chunks, Crumbs, Triggers, takes, taken, NodeRun, next_of}
-use Rattle.hs_law_journal.proofs.Logs.{taken_still}
-use Rattle.hs_law_agent.specs.Stepping.{AgentEvent}
-use Rattle.hs_replay_client.specs.ReplayClients.{Unleased}
-use Rattle.hs_records.specs.Plain.{Operation, PlainWorkload}
-use Rattle.hs_law_sends.specs.OneMore.{items_of}
-use Rattle.hs_law_sends.specs.Sending.{Sent, ClientSends, client_sends, draws_at, node_sends, operations_at, place_of}
-use Rattle.hs_check_follow.specs.Clients.{IsLeft, ClientStands, ClientsStand, FillsAt, MayFillNext, MayFillAny, PopsChunk, SameBeside, own_operations}
+use Rattle.hs_law_journal.specs.Following.{next_of}
+use Rattle.hs_law_sends.specs.Sending.{node_sends}
+use Rattle.hs_check_follow.specs.Clients.{IsLeft, MayFillNext, MayFillAny, SameBeside}
 use Rattle.hs_check_follow.proofs.Counting.{taken_once, drop_next, drop_none, range_past}
 
 -- ---- one queue

@@ -1,17 +1,9 @@
 -- What one operation more sends of a kind, and taking it item by item.
 use Rattle.std.proofs.Common.{◌≡◌, ℕ, zero, suc, ◌+◌, ◌<◌, ◌≤◌, Bool, true, false, cond, List, [], ◌∷◌, ◌++◌, length, take, Some, None, refl, sym, ap, subst, ◌∙◌, arith}
-use Rattle.std.proofs.lemmas.Bool.{ltb-true, ltb-false, lt-ltb}
-use Rattle.std.proofs.lemmas.List.{map-append}
-use Rattle.std.proofs.lemmas.Option.{same_Some}
-use Rattle.std.specs.Prelude.{slice_get, nat_lt}
+use Rattle.hs_check_follow.proofs.Prelude.{ltb-true, ltb-false, lt-ltb, map-append, same_Some, slice_get, nat_lt, numbers_of, PlainReplayClient, items_of, AreInOrder, Sent, sent_within, HasItems, AreNumbers, count_within}
 use Rattle.hs_lists.proofs.Parts.{take_length}
-use Rattle.hs_check_clauses.specs.Finding.{numbers_of}
-use Rattle.hs_replay_client.specs.ReplayClients.{PlainReplayClient}
 use Rattle.hs_replay_client.proofs.Lists.{later_none}
-use Rattle.hs_law_sends.specs.OneMore.{items_of}
-use Rattle.hs_law_sends.specs.Order.{AreInOrder}
-use Rattle.hs_law_sends.specs.Sending.{Sent, sent_within}
-use Rattle.hs_check_follow.specs.Gathering.{HasItems, AreNumbers, count_within, Was, Is}
+use Rattle.hs_check_follow.specs.Gathering.{Was, Is}
 
 module _ {A : Type 0} where
   -- what fewer operations send comes first

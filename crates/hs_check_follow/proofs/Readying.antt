@@ -1,34 +1,13 @@
 -- The input of a step is taken out of its queue where the step is ready.
 use Rattle.std.proofs.Common.{◌≡◌, inl, inr, ℕ, ◌+◌, ◌<◌, ◌≤◌, false, List, [], ◌∷◌, ◌++◌, drop, Option, Some, None, IsSome, refl, sym, ap, subst, ◌∙◌, arith, option_map}
+use Rattle.hs_check_follow.proofs.Prelude.{slice_get_within, slice_get, sheet_in, Input, Listing, Ask, Crumb, Trigger, Messages, Filling, FollowedClient, PlainJournal, Step, Asks, Chunks, Crumbs, Triggers, takes, taken, asks_to, NodeRun, taken_still, Took, Unleased, PlainWorkload, ClientSends, client_sends, buffer_of, Sheet, ClientsStand, FillsAt, Pops, PopsChunk, IsNotReady, IsReadied, FollowedNodeStands, FollowedAgent}
 use Rattle.std.proofs.lemmas.Bool.{ne_eqb}
-use Rattle.std.proofs.lemmas.Option.{slice_get_within}
-use Rattle.std.specs.Prelude.{slice_get}
 use Rattle.hs_lists.proofs.Parts.{nil_of_rest}
-use Rattle.hs_agent.specs.Points.{sheet_in}
-use Rattle.hs_agent.specs.declared.input.Input.{Input}
 use Rattle.hs_agent.specs.declared.input.Input.TheVariants as inputs
-use Rattle.hs_base.specs.Listing.{Listing}
-use Rattle.hs_base.specs.declared.told.Ask.{Ask}
-use Rattle.hs_base.specs.declared.told.Crumb.{Crumb}
-use Rattle.hs_base.specs.declared.told.Trigger.{Trigger}
-use Rattle.hs_coord.specs.Following.{Messages}
-use Rattle.hs_check_follow.specs.declared.filling.Filling.{Filling}
-use Rattle.hs_check_follow.specs.declared.client.FollowedClient.{FollowedClient}
-use Rattle.hs_journal.specs.Views.{PlainJournal}
-use Rattle.hs_journal.specs.declared.journal.Step.{Step}
 use Rattle.hs_journal.specs.declared.journal.Step.TheVariants as steps
-use Rattle.hs_law_journal.specs.Following.{Asks, Chunks, Crumbs, Triggers, takes, taken, asks_to, NodeRun}
-use Rattle.hs_law_journal.proofs.Logs.{taken_still}
-use Rattle.hs_law_agent.specs.Stepping.{Took, Chunk, Crumbed, Triggered, Asked}
-use Rattle.hs_replay_client.specs.ReplayClients.{Unleased}
-use Rattle.hs_records.specs.Plain.{PlainWorkload}
-use Rattle.hs_law_sends.specs.Sending.{ClientSends, client_sends}
-use Rattle.hs_words.specs.Buffers.{buffer_of}
-use Rattle.hs_words.specs.Pages.{Sheet}
+use Rattle.hs_law_agent.specs.Stepping.{Chunk, Crumbed, Triggered, Asked}
 use Rattle.hs_words.specs.declared.token.Held.{Held}
-use Rattle.hs_check_follow.specs.Clients.{ClientsStand, FillsAt, IsNoClient, Pops, PopsChunk, PopsCrumb, PopsTrigger}
-use Rattle.hs_check_follow.specs.Nodes.{IsNotReady, IsReadied, FollowedNodeStands}
-use Rattle.hs_check_follow.specs.declared.agent.FollowedAgent.{FollowedAgent}
+use Rattle.hs_check_follow.specs.Clients.{IsNoClient, PopsCrumb, PopsTrigger}
 use Rattle.hs_check_follow.proofs.Counting.{taken_once}
 use Rattle.hs_check_follow.proofs.Popping.{next_item, none_left, fills_there, clients_as, one_moves, one_same, client_same, chunk_gone, crumb_gone, trigger_gone, event_there, event_none, event_past}
 

@@ -1,10 +1,7 @@
 -- What draws of a script come to: they get buffers where the script says so, one for one.
 use Rattle.std.proofs.Common.{◌≡◌, ◌≤◌, Bool, List, [], ◌∷◌, ◌++◌, length, map, refl, sym, ap, ap₂, ◌∙◌, arith}
-use Rattle.hs_journal.specs.declared.journal.Draw.{Draw}
-use Rattle.hs_replay_client.specs.Wells.{DrawsAll}
-use Rattle.hs_law_sends.specs.Drawn.{has_buffer}
-use Rattle.hs_check_follow.specs.declared.script.Script.{Script}
-use Rattle.hs_check_follow.specs.Scripts.{FollowsNext, script_way}
+use Rattle.hs_check_follow.proofs.Prelude.{Draw, DrawsAll, has_buffer, Script, script_way}
+use Rattle.hs_check_follow.specs.Scripts.{FollowsNext}
 
 pub size_stays : (draws : List Draw) (old new : Script) → DrawsAll script_way draws old new → new.size ≡ old.size
 size_stays [] old new h = ap (λ (s : Script). s.size) (sym h)

@@ -1,13 +1,8 @@
 -- An ask goes to one node after another.
 use Rattle.std.proofs.Common.{◌≡◌, ◌⊎◌, inl, inr, ℕ, ◌+◌, ◌≤◌, List, length, Some, refl, sym, ap, ◌∙◌, arith, length-set}
-use Rattle.std.specs.Prelude.{slice_get}
+use Rattle.hs_check_follow.proofs.Prelude.{slice_get, get_set_cases, Listing, Ask, ChangesAt, AreSent, sent_by}
 use Rattle.std.proofs.lemmas.Bool.{cases_lt}
-use Rattle.hs_lists.proofs.Places.{get_set_cases}
-use Rattle.hs_base.specs.Listing.{Listing}
-use Rattle.hs_base.specs.declared.told.Ask.{Ask}
-use Rattle.hs_base.specs.Changing.{ChangesAt}
 use Rattle.hs_coord.specs.declared.asks.Asks.{Asks}
-use Rattle.hs_check_follow.specs.Whole.{AreSent, sent_by}
 
 pub sent_none : (asks : Asks) (lists : List (Listing Ask)) → AreSent asks 0 lists lists
 sent_none asks lists = record { count = refl; before = λ n list at low. absurd (omega (arith, low)); behind = λ n list at high. at }

@@ -1,11 +1,6 @@
 -- The pages that one operation more starts are started by it.
 use Rattle.std.proofs.Common.{◌≡◌, ℕ, suc, ◌+◌, ◌<◌, ◌≤◌, Bool, true, false, cond, List, [], ◌∷◌, ◌++◌, length, map, refl, sym, ap, ap₂, ◌∙◌, arith}
-use Rattle.std.proofs.lemmas.Bool.{ltb-true, ltb-false, le-ltb}
-use Rattle.std.specs.Prelude.{nat_lt, replicate}
-use Rattle.hs_law_sends.specs.Laws.{IsTimely}
-use Rattle.hs_law_sends.specs.SoFar.{started_within}
-use Rattle.hs_law_sends.specs.Timing.{TimedPage}
-use Rattle.hs_check_follow.specs.Gathering.{starts_within}
+use Rattle.hs_check_follow.proofs.Prelude.{ltb-true, ltb-false, le-ltb, nat_lt, replicate, IsTimely, started_within, TimedPage, starts_within}
 
 pub count_starts : ℕ → List TimedPage → ℕ
 count_starts n pages = length (started_within n pages)

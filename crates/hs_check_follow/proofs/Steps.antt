@@ -1,23 +1,11 @@
 -- All nodes and the coordinator, where one of them goes on.
 use Rattle.std.proofs.Common.{◌≡◌, ◌⊎◌, inl, inr, ℕ, zero, suc, ◌+◌, ◌-◌, ◌<◌, Bool, true, false, List, [], ◌∷◌, length, set, Option, Some, None, refl, sym, ap, subst, ◌∙◌, arith, option_map, slice_get, unwrap_or, length-set}
-use Rattle.std.specs.List.{range_with_len}
-use Rattle.std.proofs.lemmas.Option.{same_Some, slice_get-map, slice_get_within}
-use Rattle.hs_lists.proofs.Places.{get_there, get_set_cases}
+use Rattle.hs_check_follow.proofs.Prelude.{range_with_len, same_Some, slice_get-map, slice_get_within, get_there, get_set_cases, Listing, NodeId, Ask, PlainJournal, Step, RunsAreOfTheJournal, asks_to, NodeRun, Run, run_start, step_node, followed, Stays, MayTake, PlainSettings, PlainWorkload, NodeAt, AllAt, MayStepAt, HasStepped, HasNotStepped, MayHearAt, HasHeard, HasNotHeard, HearsOn, StepsOn, NodeSteppedIf, SteppedAnyIf, left_of, left_steps, FollowedCoordinator, FollowedNode}
 use Rattle.hs_lists.proofs.Ranges.{range_found}
-use Rattle.hs_base.specs.Listing.{Listing}
-use Rattle.hs_base.specs.declared.ids.NodeId.{NodeId}
-use Rattle.hs_base.specs.declared.told.Ask.{Ask}
-use Rattle.hs_journal.specs.Views.{PlainJournal}
-use Rattle.hs_journal.specs.declared.journal.Step.{Step}
-use Rattle.hs_law_journal.specs.Extending.{RunsAreOfTheJournal}
-use Rattle.hs_law_journal.specs.Following.{asks_to, NodeRun, Run, run_start, step_node, followed}
-use Rattle.hs_law_journal.specs.Orders.{Leads, Stays, Goes, Performs, IsAtRest, OrdersAgree, with_node}
-use Rattle.hs_law_journal.specs.Fitting.{RunsFit, MayTake}
-use Rattle.hs_records.specs.Plain.{PlainSettings, PlainWorkload}
-use Rattle.hs_check_follow.specs.Whole.{NodeAt, NodesAt, AllAt, MayStepAt, HasStepped, HasNotStepped, MayHearAt, HasHeard, HasNotHeard, HearsOn, StepsOn, NodeStepped, NodeNotReady, NodeSteppedIf, NothingIsReady, SteppedAnyIf, left_of, left_steps}
+use Rattle.hs_law_journal.specs.Orders.{Leads, Goes, Performs, IsAtRest, OrdersAgree, with_node}
+use Rattle.hs_law_journal.specs.Fitting.{RunsFit}
+use Rattle.hs_check_follow.specs.Whole.{NodesAt, NodeStepped, NodeNotReady, NothingIsReady}
 use Rattle.hs_check_follow.specs.declared.run.FollowedRun.{FollowedRun}
-use Rattle.hs_check_follow.specs.declared.coordinator.FollowedCoordinator.{FollowedCoordinator}
-use Rattle.hs_check_follow.specs.declared.node.FollowedNode.{FollowedNode}
 use Rattle.hs_check_follow.proofs.Tracking.{steps_fall, steps_stay}
 
 -- ---- runs

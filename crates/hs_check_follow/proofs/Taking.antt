@@ -1,9 +1,7 @@
 -- Each item that is taken leaves one less waiting.
 use Rattle.std.proofs.Common.{ℕ, ◌+◌, ◌<◌, List, length, ap, ◌∙◌, arith, length-drop}
+use Rattle.hs_check_follow.proofs.Prelude.{PlainReplayClient, AreInOrder, ChunksAreInOrder, Where, AtChunk, AtCrumb, AtTrigger, WereChunks, chunks_at}
 use Rattle.hs_replay_client.specs.Places.{Waits}
-use Rattle.hs_replay_client.specs.ReplayClients.{PlainReplayClient}
-use Rattle.hs_law_sends.specs.Order.{AreInOrder, ChunksAreInOrder}
-use Rattle.hs_check_follow.specs.Gathering.{Where, AtChunk, AtCrumb, AtTrigger, WereChunks, chunks_at}
 
 fewer : {A : Type 0} (sent waiting waiting' : List A) (k : ℕ) → Waits k sent waiting → Waits (k + 1) sent waiting' → length waiting' < length waiting
 fewer sent waiting waiting' k was is =

@@ -1,23 +1,8 @@
 -- A node goes on in its log.
 use Rattle.std.proofs.Common.{◌≡◌, ℕ, zero, suc, ◌+◌, ◌-◌, ◌<◌, ◌≤◌, List, [], ◌∷◌, length, map, drop, set, Bool, length-append, Option, Some, None, refl, sym, ap, subst, ◌∙◌, arith, option_map}
-use Rattle.std.proofs.lemmas.Option.{same_Some}
-use Rattle.std.specs.Prelude.{slice_get}
-use Rattle.hs_base.specs.declared.told.Ask.{Ask}
-use Rattle.hs_coord.specs.Following.{Messages}
-use Rattle.hs_journal.specs.Views.{PlainJournal}
-use Rattle.hs_journal.specs.declared.journal.Step.{Step}
-use Rattle.hs_law_journal.specs.Following.{log_at, NodeRun, event_of, perform, step_of, step_node}
-use Rattle.hs_law_agent.specs.Stepping.{AgentEvent}
-use Rattle.hs_records.specs.Plain.{PlainWorkload}
-use Rattle.hs_check_follow.specs.Nodes.{HasPerformed, IsNotReady, FollowedNodeStands}
-use Rattle.hs_check_follow.specs.Whole.{MayStepAt, HasStepped, HasNotStepped, left_steps}
-use Rattle.hs_base.specs.Listing.{Listing}
-use Rattle.hs_check_clauses.specs.Offering.{ends_front}
-use Rattle.hs_check_follow.specs.Ends.{ends_within}
-use Rattle.hs_check_follow.specs.Noting.{Notes, hand_of, said_of, behind_at}
+use Rattle.hs_check_follow.proofs.Prelude.{same_Some, slice_get, Ask, Messages, PlainJournal, Step, log_at, NodeRun, event_of, perform, step_node, AgentEvent, PlainWorkload, HasPerformed, IsNotReady, FollowedNodeStands, MayStepAt, HasStepped, HasNotStepped, left_steps, Listing, ends_front, ends_within, Notes, hand_of, said_of, behind_at, FollowedAgent, FollowedNode}
+use Rattle.hs_law_journal.specs.Following.{step_of}
 use Rattle.hs_check_follow.proofs.Noting.{noted_more}
-use Rattle.hs_check_follow.specs.declared.agent.FollowedAgent.{FollowedAgent}
-use Rattle.hs_check_follow.specs.declared.node.FollowedNode.{FollowedNode}
 
 pub drop_there : {A : Type 0} (xs : List A) (k : ℕ) (x : A) → slice_get xs k ≡ Some x → drop k xs ≡ x ∷ drop (k + 1) xs
 drop_there {A = A} xs k x at = let same : k + 1 ≡ suc k = omega arith in go xs k at ∙ ap (λ n. x ∷ drop n xs) (sym same)

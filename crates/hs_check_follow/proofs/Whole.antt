@@ -1,19 +1,8 @@
 -- All operations are done: what was taken is what the client sends at the given draws.
 use Rattle.std.proofs.Common.{◌≡◌, ℕ, ◌+◌, List, [], ◌∷◌, length, map, refl, sym, ap, ◌∙◌, arith}
-use Rattle.hs_base.specs.declared.ids.ClientId.{ClientId}
-use Rattle.hs_check_clauses.specs.Finding.{IsFoundClient, numbers_of, starts_of}
-use Rattle.hs_journal.specs.declared.journal.Draw.{Draw}
-use Rattle.hs_replay_client.specs.ReplayClients.{PlainReplayClient}
-use Rattle.hs_records.specs.Plain.{Operation, PlainSettings}
-use Rattle.hs_law_sends.specs.Drawn.{drawn_from}
-use Rattle.hs_law_sends.specs.Laws.{IsTimely, TimedPagesAreThePages, TimedPagesAreTimely}
-use Rattle.hs_law_sends.specs.OneMore.{items_of}
-use Rattle.hs_law_sends.specs.Sending.{sends_of, sent_within}
-use Rattle.hs_law_sends.specs.SoFar.{AllChunksAreSent, AllCrumbsAreSent, AllTriggersAreSent}
-use Rattle.hs_law_sends.specs.Timing.{TimedPage, timed_pages}
-use Rattle.hs_check_follow.specs.declared.gathering.Gathering.{Gathering}
-use Rattle.hs_check_follow.specs.declared.script.Script.{Script}
-use Rattle.hs_check_follow.specs.Gathering.{IsSentBy}
+use Rattle.hs_check_follow.proofs.Prelude.{ClientId, IsFoundClient, numbers_of, Draw, PlainReplayClient, Operation, PlainSettings, drawn_from, IsTimely, TimedPagesAreThePages, TimedPagesAreTimely, items_of, sends_of, sent_within, AllChunksAreSent, TimedPage, timed_pages, Gathering, Script, IsSentBy}
+use Rattle.hs_check_clauses.specs.Finding.{starts_of}
+use Rattle.hs_law_sends.specs.SoFar.{AllCrumbsAreSent, AllTriggersAreSent}
 use Rattle.hs_check_follow.proofs.Drawing.{all_started, in_time, pages_long, same_chunks}
 
 starts_are : (client : ClientId) (number : ℕ) (pages : List TimedPage) (draws : List Draw) → length draws ≡ length pages → starts_of (drawn_from client number pages draws) ≡ map (λ (p : TimedPage). p.started) pages

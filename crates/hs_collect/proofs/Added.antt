@@ -1,16 +1,8 @@
 -- One more page, in the collection that a map's entries are.
 use Rattle.std.proofs.Common.{◌≡◌, ◌≤◌, ◌^◌, List, [], ◌∷◌, ◌++◌, map, Some, None, is_some, option_map, refl, sym, ap, ◌∙◌, subst, arith}
-use Rattle.std.specs.List.{IsDistinct}
-use Rattle.std.specs.Map.{lookup, set_value}
-use Rattle.std.proofs.lemmas.List.{map-append}
-use Rattle.std.proofs.lemmas.List.Elements.{All-nil}
+use Rattle.hs_collect.proofs.Prelude.{IsDistinct, lookup, set_value, map-append, All-nil, TraceId, Sheet, TraceRecords, Placed, page_pieces, pieces_of, end_of, CanBeAdded, IsWhole, AreWholes, AreCollected, wholes_of, collection_of, GoesBehind}
 use Rattle.std.proofs.lemmas.Map.Steps.{set_value_same}
-use Rattle.hs_base.specs.declared.ids.TraceId.{TraceId}
-use Rattle.hs_words.specs.Pages.{Sheet}
-use Rattle.hs_collect.specs.declared.records.TraceRecords.{TraceRecords}
-use Rattle.hs_collect.specs.Collected.{Placed, page_pieces, pieces_of, end_of, CanBeAdded, IsWhole, AreWholes, AreCollected}
-use Rattle.hs_collect.specs.Views.{Pieces, wholes_of, collection_of}
-use Rattle.hs_collect.specs.Joining.{GoesBehind}
+use Rattle.hs_collect.specs.Views.{Pieces}
 use Rattle.hs_collect.proofs.Seen.{is_trace, any-keys, wholes-found}
 use Rattle.hs_collect.proofs.Lower.{goes_behind, fits_last}
 use Rattle.hs_collect.proofs.Entries.{collection-set, lookup-collection}

@@ -1,14 +1,7 @@
 -- What the pieces of a page make of the records that are there: the first may join the last record before their place,
 -- and the others stand at it, one behind another.
 use Rattle.std.proofs.Common.{◌≡◌, ℕ, ◌+◌, true, false, List, [], ◌∷◌, ◌++◌, All, filter, cond, refl, sym, ap, ◌∙◌, subst, arith}
-use Rattle.std.specs.List.{Any}
-use Rattle.std.proofs.lemmas.List.{append-nil, append_assoc}
-use Rattle.std.proofs.lemmas.List.Elements.{All-head, All-tail, All-append, All-push, All-weaker}
-use Rattle.hs_base.specs.declared.ids.ClientId.{ClientId}
-use Rattle.hs_base.specs.declared.ids.RecordId.{RecordId}
-use Rattle.hs_words.specs.Pages.{Piece}
-use Rattle.hs_collect.specs.Clients.{is_behind}
-use Rattle.hs_collect.specs.Collected.{Placed, is_same, is_piece_of, pieces_from, Precedes, IsWhole, AreWholes}
+use Rattle.hs_collect.proofs.Prelude.{Any, append-nil, append_assoc, All-head, All-tail, All-append, All-push, All-weaker, ClientId, RecordId, Piece, is_behind, Placed, is_same, is_piece_of, pieces_from, Precedes, IsWhole, AreWholes}
 use Rattle.hs_collect.proofs.Listed.{all_into, all_out, all_middle, pairs_into, pairs_out, pairs_before, pairs_behind, any_here, any_into, any_changed, all_at_any}
 use Rattle.hs_collect.proofs.Ids.{same_itself, earlier_apart, later_apart, precedes_next, next_number, behind_after}
 use Rattle.hs_collect.proofs.Wholes.{whole-other, whole-joined, whole-new}

@@ -1,16 +1,8 @@
 -- What one more page makes of a collection: its trace's records take its pieces, or the trace joins at the end.
 use Rattle.std.proofs.Common.{◌≡◌, ℕ, ◌==◌, Bool, true, false, not, ◌||◌, cond, List, [], ◌∷◌, ◌++◌, filter, All, map, Some, refl, sym, ap, ◌∙◌, subst, arith}
-use Rattle.std.specs.List.{list_any, flat_map, IsDistinct, AllByRecursion}
-use Rattle.std.specs.Map.{lookup, set_value}
-use Rattle.std.proofs.lemmas.List.{append-nil, map-append}
-use Rattle.std.proofs.lemmas.List.Elements.{All-cons, All-head, All-tail, All-nil, All-push, filter-append}
-use Rattle.std.proofs.lemmas.List.Concat.{flat_map-append}
-use Rattle.std.proofs.lemmas.Bool.Decides.{nat_tests}
+use Rattle.hs_collect.proofs.Prelude.{list_any, flat_map, IsDistinct, lookup, set_value, append-nil, map-append, All-cons, All-head, All-tail, All-nil, All-push, filter-append, flat_map-append, nat_tests, TraceId, Sheet, Placed, is_of, page_pieces, pieces_of, AreWholes, AreCollected, first_seen, Collection}
+use Rattle.std.specs.List.{AllByRecursion}
 use Rattle.hs_lists.proofs.Bools.{second_false, first_false}
-use Rattle.hs_base.specs.declared.ids.TraceId.{TraceId}
-use Rattle.hs_words.specs.Pages.{Sheet}
-use Rattle.hs_collect.specs.Collected.{Placed, is_of, page_pieces, pieces_of, AreWholes, AreCollected, first_seen}
-use Rattle.hs_collect.specs.Views.{Collection}
 use Rattle.hs_collect.proofs.Seen.{is_trace, any-others, none-unseen}
 
 -- ---- the traces that were seen

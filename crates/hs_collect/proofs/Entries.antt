@@ -1,9 +1,6 @@
 -- The entries of a map and the collection that they are.
 use Rattle.std.proofs.Common.{◌≡◌, Bool, true, false, cond, List, [], ◌∷◌, Some, option_map, refl, ap}
-use Rattle.std.specs.Map.{lookup, set_value}
-use Rattle.hs_base.specs.declared.ids.TraceId.{TraceId}
-use Rattle.hs_collect.specs.declared.records.TraceRecords.{TraceRecords}
-use Rattle.hs_collect.specs.Views.{wholes_of, collection_of}
+use Rattle.hs_collect.proofs.Prelude.{lookup, set_value, TraceId, TraceRecords, wholes_of, collection_of}
 
 pub collection-set : (test : TraceId → Bool) (entries : List (TraceId × TraceRecords)) (records : TraceRecords) → collection_of (set_value test entries records) ≡ set_value test (collection_of entries) (wholes_of records)
 collection-set test [] records = refl

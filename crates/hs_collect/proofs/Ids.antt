@@ -1,11 +1,6 @@
 -- The order of records by client and number.
 use Rattle.std.proofs.Common.{◌≡◌, ℕ, ◌+◌, ◌<◌, ◌≤◌, true, false, ap, ap₂, arith}
-use Rattle.std.proofs.lemmas.Bool.Decides.{nat_tests}
-use Rattle.hs_base.specs.declared.ids.ClientId.{ClientId}
-use Rattle.hs_base.specs.declared.ids.RecordId.{RecordId}
-use Rattle.hs_base.specs.Ids.{client_of}
-use Rattle.hs_collect.specs.Clients.{is_behind}
-use Rattle.hs_collect.specs.Collected.{is_same, Precedes}
+use Rattle.hs_collect.proofs.Prelude.{nat_tests, ClientId, RecordId, client_of, is_behind, is_same, Precedes}
 
 abbrev record_of : ClientId → ℕ → RecordId
 record_of client number = record { client = client; number = number }

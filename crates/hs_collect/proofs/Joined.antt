@@ -1,12 +1,7 @@
 -- What the first piece of a page did to the records that were there.
 use Rattle.std.proofs.Common.{◌≡◌, ℕ, zero, suc, ◌-◌, Bool, true, false, cond, List, [], ◌∷◌, map, length, Some, None, Result, Ok, Err, IfOk, refl, ap, ◌∙◌}
-use Rattle.std.specs.Prelude.{slice_get}
+use Rattle.hs_collect.proofs.Prelude.{slice_get, Header, Point, Piece, piece_of, Placed, is_before, join_at, Joins}
 use Rattle.hs_base.specs.declared.ids.Memory.{Memory}
-use Rattle.hs_words.specs.declared.page.Header.{Header}
-use Rattle.hs_words.specs.declared.page.Point.{Point}
-use Rattle.hs_words.specs.Pages.{Piece, piece_of}
-use Rattle.hs_collect.specs.Collected.{Placed}
-use Rattle.hs_collect.specs.Joining.{is_before, join_at, Joins}
 use Rattle.hs_collect.proofs.Adding.{id_of}
 
 pub joins_none : (header : Header) (place : ℕ) (old : List Placed) (points : List Point) → None ≡ slice_get points 0 → Joins header place old (map piece_of points) false old

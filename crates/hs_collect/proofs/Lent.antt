@@ -1,14 +1,9 @@
 -- One record written in place, as a list lends its items.
 use Rattle.std.proofs.Common.{◌≡◌, ℕ, zero, suc, ◌<◌, Bool, true, false, not, List, [], ◌∷◌, ◌++◌, map, take, drop, set, get_or, length, option_map, unwrap_or, refl, sym, ap, ◌∙◌, arith}
-use Rattle.std.specs.Prelude.{slice_get}
+use Rattle.hs_collect.proofs.Prelude.{slice_get, RecordId, TraceRecord, Placed, is_same, placed_of, join_at, is_before}
 use Rattle.std.proofs.lemmas.List.{map-set, set-get_or}
 use Rattle.hs_lists.proofs.Lent.{written_back}
 use Rattle.hs_base.specs.Listing.{Listing}
-use Rattle.hs_base.specs.declared.ids.RecordId.{RecordId}
-use Rattle.hs_collect.specs.declared.records.TraceRecord.{TraceRecord}
-use Rattle.hs_collect.specs.Collected.{Placed, is_same}
-use Rattle.hs_collect.specs.Views.{placed_of}
-use Rattle.hs_collect.specs.Joining.{join_at, is_before}
 
 set-join : (wholes : List Placed) (last : ℕ) (whole : Placed) (bytes : List ℕ) → last < length wholes → whole ≡ get_or wholes last whole
     → set wholes last (record { id = whole.id; moment = whole.moment; payload = whole.payload ++ bytes }) ≡ join_at last bytes wholes

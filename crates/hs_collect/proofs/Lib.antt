@@ -1,3 +1,4 @@
+mod Prelude
 pub mod Seen
 pub mod Wholes
 pub mod Lent

@@ -1,9 +1,7 @@
 -- An element that is put into a list, taken out of it or changed, and what holds of all elements, of some, and of each
 -- and every later one.
 use Rattle.std.proofs.Common.{◌≡◌, ◌⊎◌, ℕ, zero, suc, ◌<◌, List, [], ◌∷◌, ◌++◌, length, get_or, All, refl, sym, subst, inl, inr, arith}
-use Rattle.std.specs.List.{Any, AllPairs}
-use Rattle.std.proofs.lemmas.List.Elements.{All-nil, All-cons, All-head, All-tail}
-use Rattle.hs_lists.proofs.Alls.{pairs_head, pairs_tail}
+use Rattle.hs_collect.proofs.Prelude.{Any, AllPairs, All-nil, All-cons, All-head, All-tail, pairs_head, pairs_tail}
 
 -- ---- all elements
 

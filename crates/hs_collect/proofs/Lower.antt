@@ -1,14 +1,6 @@
 -- A page that can be added goes behind the records of its client.
 use Rattle.std.proofs.Common.{◌≡◌, ℕ, ◌+◌, ◌≤◌, Bool, true, false, cond, List, [], ◌∷◌, ◌++◌, length, filter, All, Some, option_map, inl, inr, refl, sym, ap, subst, arith, ◌^◌}
-use Rattle.std.specs.List.{find, flat_map}
-use Rattle.std.proofs.lemmas.List.Elements.{All-nil, All-cons, All-head, All-tail, All-append}
-use Rattle.std.proofs.lemmas.Bool.Decides.{nat_tests}
-use Rattle.hs_base.specs.declared.ids.TraceId.{TraceId}
-use Rattle.hs_base.specs.declared.ids.ClientId.{ClientId}
-use Rattle.hs_base.specs.declared.ids.RecordId.{RecordId}
-use Rattle.hs_words.specs.Pages.{Piece, Sheet}
-use Rattle.hs_collect.specs.Collected.{Placed, is_of, is_piece_of, pieces_from, page_pieces, pieces_of, end_of, GoesOn, CanPrecede, CanBeAdded, AreWholes}
-use Rattle.hs_collect.specs.Joining.{GoesBehind}
+use Rattle.hs_collect.proofs.Prelude.{find, flat_map, All-nil, All-cons, All-head, All-tail, All-append, nat_tests, TraceId, ClientId, RecordId, Piece, Sheet, Placed, is_of, is_piece_of, pieces_from, page_pieces, pieces_of, end_of, GoesOn, CanPrecede, CanBeAdded, AreWholes, GoesBehind}
 use Rattle.hs_collect.proofs.Listed.{all_middle, pairs_before}
 use Rattle.hs_collect.proofs.Ids.{same_ids}
 

@@ -1,12 +1,6 @@
 -- Pages collect one collection.
 use Rattle.std.proofs.Common.{◌≡◌, ℕ, List, [], ◌∷◌, All, Some, inl, inr, refl, sym, ap, ap₂, ◌∙◌, subst, arith}
-use Rattle.std.specs.List.{Any}
-use Rattle.std.proofs.lemmas.List.Elements.{All-head, All-tail}
-use Rattle.hs_lists.proofs.Alls.{pairs_head, pairs_tail}
-use Rattle.hs_base.specs.declared.ids.RecordId.{RecordId}
-use Rattle.hs_words.specs.Pages.{Sheet}
-use Rattle.hs_collect.specs.Collected.{Placed, Precedes, pieces_of, AreInOrder, IsWhole, AreWholes, AreCollected}
-use Rattle.hs_collect.specs.Views.{Collection}
+use Rattle.hs_collect.proofs.Prelude.{Any, All-head, All-tail, pairs_head, pairs_tail, RecordId, Sheet, Placed, Precedes, pieces_of, AreInOrder, IsWhole, AreWholes, AreCollected, Collection}
 use Rattle.hs_collect.proofs.Listed.{any_cases, all_at_any}
 use Rattle.hs_collect.proofs.Ids.{precedes_on}
 use Rattle.hs_collect.proofs.Lower.{found_holds}

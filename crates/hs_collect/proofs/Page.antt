@@ -1,17 +1,10 @@
 -- A page's pieces among the records that are there: whether the first joins the record before their place, and what the
 -- records are then.
 use Rattle.std.proofs.Common.{◌≡◌, ℕ, zero, suc, ◌+◌, ◌-◌, ◌≤◌, Bool, true, false, cond, List, [], ◌∷◌, ◌++◌, length, take, drop, All, refl, sym, ap, ◌∙◌, subst, arith, length-drop}
+use Rattle.hs_collect.proofs.Prelude.{append_assoc, append-nil, take-append-le, All-nil, All-push, All-weaker, ClientId, RecordId, Header, Piece, is_behind, Placed, is_same, pieces_from, Precedes, AreInOrder, AreWholes, is_before, join_at, IsPlaceBehind, GoesBehind, Joins}
 use Rattle.std.specs.Int.{from_bool}
-use Rattle.std.proofs.lemmas.List.{append_assoc, append-nil, take-append-drop, take-append-le, drop-append-le, take_at, drop_at}
-use Rattle.std.proofs.lemmas.List.Elements.{All-nil, All-push, All-weaker}
+use Rattle.std.proofs.lemmas.List.{take-append-drop, drop-append-le, take_at, drop_at}
 use Rattle.hs_lists.proofs.Counts.{from_bool_one}
-use Rattle.hs_base.specs.declared.ids.ClientId.{ClientId}
-use Rattle.hs_base.specs.declared.ids.RecordId.{RecordId}
-use Rattle.hs_words.specs.declared.page.Header.{Header}
-use Rattle.hs_words.specs.Pages.{Piece}
-use Rattle.hs_collect.specs.Clients.{is_behind}
-use Rattle.hs_collect.specs.Collected.{Placed, is_same, pieces_from, Precedes, AreInOrder, AreWholes}
-use Rattle.hs_collect.specs.Joining.{is_before, join_at, IsPlaceBehind, GoesBehind, Joins}
 use Rattle.hs_collect.proofs.Listed.{all_middle, pairs_before}
 use Rattle.hs_collect.proofs.Ids.{precedes_next, next_number, before_number, before_last, lower_number, same_ids}
 use Rattle.hs_collect.proofs.Joined.{length-joined}

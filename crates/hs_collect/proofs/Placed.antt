@@ -1,11 +1,7 @@
 -- The records that the pieces of a page begin, each from its place among them.
 use Rattle.std.proofs.Common.{◌≡◌, ℕ, ◌+◌, List, [], ◌∷◌, map, drop, refl, sym, ap, ◌∙◌, arith, add_assoc}
+use Rattle.hs_collect.proofs.Prelude.{drop-map, Header, Point, piece_of, Placed, pieces_from, page_pieces}
 use Rattle.std.specs.List.{enumerate_from}
-use Rattle.std.proofs.lemmas.List.{drop-map}
-use Rattle.hs_words.specs.declared.page.Header.{Header}
-use Rattle.hs_words.specs.declared.page.Point.{Point}
-use Rattle.hs_words.specs.Pages.{piece_of}
-use Rattle.hs_collect.specs.Collected.{Placed, pieces_from, page_pieces}
 use Rattle.hs_collect.specs.Views.{sheet_with}
 
 -- the record that the point at a place begins

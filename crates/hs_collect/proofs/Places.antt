@@ -1,15 +1,10 @@
 -- The place of a client's records among records in order.
 use Rattle.std.proofs.Common.{◌≡◌, ℕ, ◌+◌, ◌<◌, ◌≤◌, Bool, true, false, not, List, map, take, drop, length, get_or, ◌-◌, ◌⊎◌, inl, inr, sym, subst, arith, length-drop}
+use Rattle.hs_collect.proofs.Prelude.{take-map, drop-map, length-map, ClientId, TraceRecord, is_behind, Placed, AreInOrder, Precedes, placed_of, IsPlaceBehind}
 use Rattle.std.specs.List.Sorted.{IsPartitionedBy, IsPartitionPoint}
 use Rattle.std.proofs.lemmas.Bool.{not-true, not-false, not_from_false}
-use Rattle.std.proofs.lemmas.List.{get_or-map, get_or-take, get_or-drop, take-map, drop-map, length-take-le, length-map}
+use Rattle.std.proofs.lemmas.List.{get_or-map, get_or-take, get_or-drop, length-take-le}
 use Rattle.std.proofs.lemmas.List.Elements.{All-map, All-same}
-use Rattle.hs_base.specs.declared.ids.ClientId.{ClientId}
-use Rattle.hs_collect.specs.declared.records.TraceRecord.{TraceRecord}
-use Rattle.hs_collect.specs.Clients.{is_behind}
-use Rattle.hs_collect.specs.Collected.{Placed, AreInOrder, Precedes}
-use Rattle.hs_collect.specs.Views.{placed_of}
-use Rattle.hs_collect.specs.Joining.{IsPlaceBehind}
 use Rattle.hs_collect.proofs.Ids.{behind_before}
 
 abbrev pub stays : ClientId → TraceRecord → Bool

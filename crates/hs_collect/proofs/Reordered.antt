@@ -1,18 +1,10 @@
 -- Pages in another order, which keeps that of each client and trace, have the same pieces of each record in the same order.
 use Rattle.std.proofs.Common.{◌≡◌, ◌≢◌, ℕ, zero, suc, ◌+◌, ◌<◌, ◌≤◌, ◌^◌, ◌==◌, ◌&&◌, Bool, true, false, cond, List, [], ◌∷◌, ◌++◌, filter, length, get_or, All, Some, option_map, inl, inr, refl, sym, ap, ◌∙◌, subst, arith}
-use Rattle.std.specs.Prelude.{slice_get}
-use Rattle.std.specs.List.{find, flat_map, Any, AllPairs}
-use Rattle.std.proofs.lemmas.List.Elements.{All-nil, All-cons, All-head, All-tail, All-filter, filter-append}
+use Rattle.hs_collect.proofs.Prelude.{slice_get, find, flat_map, Any, AllPairs, All-nil, All-cons, All-head, All-tail, filter-append, nat_tests, pairs_head, pairs_tail, TraceId, ClientId, RecordId, Piece, Sheet, Placed, is_of, is_same, is_piece_of, pieces_from, page_pieces, pieces_of, AreWholes, AreCollected, end_of, CanPrecede, CanBeAdded, Collection}
+use Rattle.std.proofs.lemmas.List.Elements.{All-filter}
 use Rattle.std.proofs.lemmas.List.Kept.{AllPairs-cons, AllPairs-filter}
 use Rattle.std.proofs.lemmas.Bool.{cases_eq}
-use Rattle.std.proofs.lemmas.Bool.Decides.{nat_tests}
-use Rattle.hs_lists.proofs.Alls.{pairs_head, pairs_tail}
-use Rattle.hs_base.specs.declared.ids.TraceId.{TraceId}
-use Rattle.hs_base.specs.declared.ids.ClientId.{ClientId}
-use Rattle.hs_base.specs.declared.ids.RecordId.{RecordId}
-use Rattle.hs_words.specs.Pages.{Piece, Sheet}
-use Rattle.hs_collect.specs.Collected.{Placed, is_of, is_same, is_piece_of, pieces_from, page_pieces, pieces_of, AreWholes, AreCollected, end_of, CanPrecede, CanBeAdded, is_by, KeepsRuns, IsReordering}
-use Rattle.hs_collect.specs.Views.{Collection}
+use Rattle.hs_collect.specs.Collected.{is_by, KeepsRuns, IsReordering}
 use Rattle.hs_collect.proofs.Ids.{same_itself}
 use Rattle.hs_collect.proofs.Lower.{found_holds}
 

@@ -1,15 +1,7 @@
 -- A trace is among those that were seen exactly where one of the pages is of it.
 use Rattle.std.proofs.Common.{◌≡◌, ◌≢◌, ◌==◌, Bool, true, false, not, ◌||◌, cond, List, [], ◌∷◌, filter, refl, sym, ap, ◌∙◌, All, map, subst, Option, Some, None, MatchOption, is_some, Bor, arith}
-use Rattle.std.specs.List.{list_any}
-use Rattle.std.specs.Map.{lookup}
+use Rattle.hs_collect.proofs.Prelude.{list_any, lookup, All-tail, nat_tests, TraceId, Sheet, TraceRecords, Placed, is_of, pieces_of, AreWholes, AreCollected, first_seen, wholes_of, collection_of}
 use Rattle.std.specs.Option.{option_copied}
-use Rattle.std.proofs.lemmas.List.Elements.{All-tail}
-use Rattle.std.proofs.lemmas.Bool.Decides.{nat_tests}
-use Rattle.hs_base.specs.declared.ids.TraceId.{TraceId}
-use Rattle.hs_words.specs.Pages.{Sheet}
-use Rattle.hs_collect.specs.declared.records.TraceRecords.{TraceRecords}
-use Rattle.hs_collect.specs.Collected.{Placed, is_of, pieces_of, AreWholes, AreCollected, first_seen}
-use Rattle.hs_collect.specs.Views.{wholes_of, collection_of}
 
 abbrev pub is_trace : TraceId → TraceId → Bool
 is_trace trace other = trace.0 == other.0

@@ -1,6 +1,7 @@
 -- The end of a list, rotated in place.
 use Rattle.std.proofs.Common.{◌≡◌, ℕ, ◌+◌, ◌-◌, ◌≤◌, List, [], ◌++◌, map, take, drop, length, sym, ap, ◌∙◌, arith, length-append, length-drop, length-take}
-use Rattle.std.proofs.lemmas.List.{append-nil, append_assoc, take-append-le, take_all, take_rest, drop_all, drop-drop, map-append, take-map, drop-map}
+use Rattle.hs_collect.proofs.Prelude.{append-nil, append_assoc, take-append-le, map-append, take-map, drop-map}
+use Rattle.std.proofs.lemmas.List.{take_all, take_rest, drop_all, drop-drop}
 use borrow.Rule.Slice.PartMut.{put_mid, mid_of}
 
 rotated_part : {A : Type 0} (items part : List A) (place middle : ℕ) → place ≤ middle

@@ -1,16 +1,9 @@
 -- Pages of which each goes on behind the latest before it go on behind every one before.
 use Rattle.std.proofs.Common.{◌≡◌, ◌≢◌, ℕ, ◌<◌, ◌≤◌, ◌^◌, Bool, true, false, cond, List, [], ◌∷◌, length, get_or, reverse, All, Some, MatchOption, inl, inr, refl, sym, ap, ap₂, ◌∙◌, subst, arith}
-use Rattle.std.specs.List.{find}
+use Rattle.hs_collect.proofs.Prelude.{find, All-nil, All-cons, All-head, All-tail, All-push, nat_tests, TraceId, ClientId, client_of, Header, Piece, Sheet, end_of, GoesOn, CanPrecede, CanBeAdded}
 use Rattle.std.proofs.lemmas.List.{reverse-reverse, reverse-append}
-use Rattle.std.proofs.lemmas.List.Elements.{All-nil, All-cons, All-head, All-tail, All-push}
 use Rattle.std.proofs.lemmas.List.Quantifiers.{all_pairs_push}
-use Rattle.std.proofs.lemmas.Bool.Decides.{nat_tests}
-use Rattle.hs_base.specs.declared.ids.TraceId.{TraceId}
-use Rattle.hs_base.specs.declared.ids.ClientId.{ClientId}
-use Rattle.hs_base.specs.Ids.{client_of}
-use Rattle.hs_words.specs.declared.page.Header.{Header}
-use Rattle.hs_words.specs.Pages.{Piece, Sheet}
-use Rattle.hs_collect.specs.Collected.{end_of, GoesOn, CanPrecede, CanBeAdded, is_of_run, ComeInTurn}
+use Rattle.hs_collect.specs.Collected.{is_of_run, ComeInTurn}
 
 abbrev with_pieces : Header → List Piece → Sheet
 with_pieces header pieces = record { header = header; pieces = pieces }

@@ -1,11 +1,7 @@
 -- What one more piece makes of the records that are joined of pieces: it joins its own record at the end, begins a new
 -- one, and leaves the others as they are.
 use Rattle.std.proofs.Common.{◌≡◌, ℕ, Bool, true, false, cond, List, [], ◌∷◌, ◌++◌, filter, Option, Some, None, option_map, sym, ap, ◌∙◌}
-use Rattle.std.specs.List.{find, flat_map}
-use Rattle.std.proofs.lemmas.List.{append-nil}
-use Rattle.std.proofs.lemmas.List.Elements.{filter-append}
-use Rattle.std.proofs.lemmas.List.Concat.{flat_map-append}
-use Rattle.hs_collect.specs.Collected.{Placed, is_piece_of, IsWhole}
+use Rattle.hs_collect.proofs.Prelude.{find, flat_map, append-nil, filter-append, flat_map-append, Placed, is_piece_of, IsWhole}
 
 abbrev moment_in : (Placed → Bool) → List Placed → Option ℕ
 moment_in test pieces = option_map (λ (first : Placed). first.moment) (find test pieces)

@@ -1,16 +1,8 @@
 -- Each claimed trace is named: agents claim what triggers name, and triggers are named in their clients' turns.
 use Rattle.std.proofs.Common.{List, [], ◌∷◌}
-use Rattle.std.specs.List.{AllByRecursion, flat_map}
-use Rattle.hs_lists.proofs.Alls.{all_each, all_append, all_map}
-use Rattle.hs_base.specs.Ids.{is_among}
-use Rattle.hs_law_agent.specs.State.{ClaimedTrace}
-use Rattle.hs_law_sends.specs.SoFar.{AllTriggersAreSent}
-use Rattle.hs_law_agent.specs.Bringing.{IsClaimOf, ClaimsOnly, ClaimsAreOfWhatIsBrought}
-use Rattle.hs_law_journal.specs.Following.{NodeRun, followed}
+use Rattle.hs_compare.proofs.Prelude.{AllByRecursion, flat_map, all_each, all_append, all_map, is_among, ClaimedTrace, AllTriggersAreSent, ClaimsOnly, ClaimsAreOfWhatIsBrought, NodeRun, followed, claimed_at, named_in, ClaimedTracesAreNamed}
+use Rattle.hs_law_agent.specs.Bringing.{IsClaimOf}
 use Rattle.hs_law_journal.specs.Orders.{FollowingPlaysOut}
-use Rattle.hs_law_outcome.specs.Outcomes.{claimed_at}
-use Rattle.hs_compare.specs.Coming.{named_in}
-use Rattle.hs_compare.specs.SamplerLaws.{ClaimedTracesAreNamed}
 use Rattle.hs_compare.proofs.Claimed.{rising_all}
 use Rattle.hs_compare.proofs.Naming.{Among}
 use Rattle.hs_compare.proofs.Performing.{all_claim_only}

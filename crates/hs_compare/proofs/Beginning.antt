@@ -1,24 +1,9 @@
 -- The draws of a journal that has the shape of a workload, the rows of its clients, and one script more.
 use Rattle.std.proofs.Common.{◌≡◌, ℕ, zero, suc, ◌+◌, ◌*◌, ◌^◌, ◌<◌, ◌≤◌, Bool, true, ◌&&◌, nat_eq, List, [], ◌∷◌, ◌++◌, length, map, Some, refl, sym, ap, subst, ◌∙◌, arith, slice_get, mul-le-mul_right, ◌⊎◌, inl, inr}
-use Rattle.std.specs.List.{flat_map, range_with_len}
+use Rattle.hs_compare.proofs.Prelude.{flat_map, range_with_len, append-nil, length_push, flat_map-append, same_Some, range_append, MayBegin, PlainJournal, client_at, pages_of, PlainWorkload, comings_of, draws_at, operations_at, IsValid, Script, IsClientScript, AreFirstScripts, first_comings}
 use Rattle.std.proofs.lemmas.Bool.{and_parts}
-use Rattle.std.proofs.lemmas.List.{append-nil, length_push}
-use Rattle.std.proofs.lemmas.List.Concat.{flat_map-append}
-use Rattle.std.proofs.lemmas.Option.{same_Some}
-use Rattle.hs_lists.proofs.Ranges.{range_append}
-use Rattle.hs_check_clauses.specs.Beginning.{MayBegin}
-use Rattle.hs_journal.specs.Views.{PlainJournal}
 use Rattle.hs_law_journal.specs.Shape.{same_counts}
-use Rattle.hs_law_outcome.specs.Outcomes.{client_at}
 use Rattle.hs_law_outcome.proofs.Entries.{same_length, same_many}
-use Rattle.hs_records.specs.Pages.{pages_of}
-use Rattle.hs_records.specs.Plain.{PlainWorkload}
-use Rattle.hs_compare.specs.Coming.{comings_of}
-use Rattle.hs_law_sends.specs.Sending.{draws_at, operations_at}
-use Rattle.hs_workload.specs.Validity.{IsValid}
-use Rattle.hs_compare.specs.declared.script.Script.{Script}
-use Rattle.hs_compare.specs.Scripts.{IsClientScript}
-use Rattle.hs_compare.specs.Beginning.{AreFirstScripts, first_comings}
 
 module _ (W : PlainWorkload) (J : PlainJournal) (may : MayBegin W J) where
   abbrev counts : Bool

@@ -1,13 +1,7 @@
 -- The claimed traces of an outcome: those that were claimed at some node.
 use Rattle.std.proofs.Common.{◌≡◌, ℕ, Bool, true, false, ◌||◌, cond, List, [], ◌∷◌, refl, sym, ap, ◌∙◌, slice_get, Some, eqb, eqb-true, ltb}
-use Rattle.std.specs.List.{AllByRecursion, flat_map}
+use Rattle.hs_compare.proofs.Prelude.{AllByRecursion, flat_map, IsIn, all_each, TraceId, is_among, NodeRun, put_trace, rising_traces, claimed_at}
 use Rattle.hs_lists.proofs.Bools.{or_twice, or_swap}
-use Rattle.hs_lists.proofs.Places.{IsIn}
-use Rattle.hs_lists.proofs.Alls.{all_each}
-use Rattle.hs_base.specs.declared.ids.TraceId.{TraceId}
-use Rattle.hs_base.specs.Ids.{is_among}
-use Rattle.hs_law_journal.specs.Following.{NodeRun}
-use Rattle.hs_law_outcome.specs.Outcomes.{put_trace, rising_traces, claimed_at}
 use Rattle.hs_compare.proofs.Lists.{all_themselves, in_flat}
 use Rattle.hs_compare.proofs.Naming.{Among, among_all, among_in}
 

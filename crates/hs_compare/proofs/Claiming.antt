@@ -1,17 +1,9 @@
 -- Claimed traces that have records.
 use Rattle.std.proofs.Common.{◌≡◌, ℕ, ◌+◌, ◌<◌, ◌==◌, ◌||◌, ◌&&◌, cond, Bool, true, false, List, [], ◌∷◌, ◌++◌, length, get_or, take, map, refl, sym, ap, ◌∙◌, arith}
-use Rattle.std.specs.Prelude.{not, count_by}
-use Rattle.std.specs.List.{AllByRecursion, list_any}
+use Rattle.hs_compare.proofs.Prelude.{not, count_by, AllByRecursion, list_any, take_more, sum_by-cons, TraceId, Entry, is_reported, is_gap, is_limited, AreCounted, is_counted}
 use Rattle.std.proofs.Math.Bool.{or-true, or-false}
-use Rattle.std.proofs.lemmas.List.{take_more}
-use Rattle.std.proofs.lemmas.List.Sums.{sum_by-cons}
 use Rattle.hs_lists.proofs.Numbers.{nat_eq_itself}
 use Rattle.hs_lists.proofs.Alls.{all_weaker}
-use Rattle.hs_base.specs.declared.ids.TraceId.{TraceId}
-use Rattle.hs_ledger.specs.declared.ledger.Entry.{Entry}
-use Rattle.hs_ledger.specs.Totals.{is_reported}
-use Rattle.hs_compare.specs.Lines.{is_gap, is_limited}
-use Rattle.hs_compare.specs.Counting.{AreCounted, is_counted}
 use Rattle.hs_compare.specs.Ringing.{is_among}
 use Rattle.hs_compare.proofs.Counted.{Counts, among_more, counted_is}
 use Rattle.hs_compare.proofs.Queued.{same_ids}

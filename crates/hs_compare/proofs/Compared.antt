@@ -1,17 +1,8 @@
 -- What was counted is the comparison of the workload.
 use Rattle.std.proofs.Common.{◌≡◌, ℕ, ◌==◌, ◌&&◌, cond, List, [], ◌∷◌, length, map, refl, sym, ap, ap₂, ◌∙◌, arith}
-use Rattle.std.specs.Prelude.{nat_lt, count_by, sum_by}
-use Rattle.std.proofs.lemmas.List.Sums.{sum_by-cons}
-use Rattle.hs_lists.proofs.Counts.{count_alike}
-use Rattle.hs_lists.proofs.Parts.{length_map}
-use Rattle.hs_base.specs.declared.ids.TraceId.{TraceId}
-use Rattle.hs_records.specs.Plain.{PlainWorkload}
+use Rattle.hs_compare.proofs.Prelude.{nat_lt, count_by, sum_by, sum_by-cons, count_alike, length_map, TraceId, PlainWorkload, all_comings, named_in, events_in_order, is_of, PlainLine, each_once, is_same, times, is_whole_by, line_by, plain_line}
 use Rattle.hs_compare.specs.Coming as samplers
-use Rattle.hs_compare.specs.Coming.{all_comings, named_in, events_in_order}
-use Rattle.hs_compare.specs.Samplers.{is_of}
-use Rattle.hs_compare.specs.Lines.{PlainLine, each_once, is_whole}
-use Rattle.hs_compare.specs.Counting.{is_same, times, is_whole_by, line_by}
-use Rattle.hs_compare.specs.Plain.{plain_line}
+use Rattle.hs_compare.specs.Lines.{is_whole}
 use Rattle.hs_compare.proofs.Ringed.{HasNames}
 
 abbrev trace_in : samplers.Coming → TraceId

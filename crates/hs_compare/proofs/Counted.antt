@@ -1,14 +1,9 @@
 -- Traces that are counted one by one.
 use Rattle.std.proofs.Common.{◌≡◌, ℕ, suc, ◌+◌, ◌≤◌, cond, ◌==◌, ◌||◌, ◌&&◌, Bool, true, false, List, [], ◌∷◌, ◌++◌, length, filter, Some, None, is_some, refl, sym, ap, ◌∙◌, arith}
-use Rattle.std.specs.Prelude.{count_by, nat_lt, unwrap_or}
-use Rattle.std.specs.Map.{lookup}
-use Rattle.std.proofs.lemmas.List.Folds.{list_any-append}
-use Rattle.std.proofs.lemmas.List.Sums.{sum_by_push, sum_by-cons, count_by-le-length, length-filter}
-use Rattle.hs_lists.proofs.Counts.{count_alike}
-use Rattle.hs_base.specs.declared.ids.TraceId.{TraceId}
+use Rattle.hs_compare.proofs.Prelude.{count_by, nat_lt, unwrap_or, lookup, list_any-append, sum_by_push, sum_by-cons, count_alike, TraceId, Line, is_same, times, times_in, AreCounted, is_counted, is_whole_by, line_by}
+use Rattle.std.proofs.lemmas.List.Sums.{count_by-le-length, length-filter}
 use Rattle.hs_compare.specs.Ringing.{is_among}
-use Rattle.hs_compare.specs.declared.lines.Line.{Line}
-use Rattle.hs_compare.specs.Counting.{is_same, times, times_in, each_once, AreCounted, is_counted, is_whole_by, line_by}
+use Rattle.hs_compare.specs.Counting.{each_once}
 use Rattle.hs_compare.proofs.Queued.{is_key, same_ids}
 
 abbrev pub Counts : Type 0

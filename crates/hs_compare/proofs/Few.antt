@@ -1,32 +1,14 @@
 -- How many records a valid workload has at most, how many of them a ring keeps, and how many bytes they carry.
 use Rattle.std.proofs.Common.{◌≡◌, ℕ, suc, ◌+◌, ◌*◌, ◌^◌, ◌<◌, ◌≤◌, List, [], ◌∷◌, ◌++◌, length, map, Option, Some, None, sym, ap, ◌∙◌, subst, arith, length-append, unwrap_or}
-use Rattle.std.specs.Prelude.{zip, slice_get}
-use Rattle.std.specs.List.{AllByRecursion, flat_map, range_with_len}
-use Rattle.std.proofs.lemmas.List.Sums.{sum_by-cons, sum_by-append}
+use Rattle.hs_compare.proofs.Prelude.{zip, slice_get, AllByRecursion, flat_map, range_with_len, sum_by-cons, length_map, ClientId, TraceId, MAX_OPERATIONS, is_among, client_at, Operation, Begin, Point, Crumb, End, Fire, Sample, PlainWorkload, Record, numbered_from, record_at, records_of, open_behind, operations_at, comings_of, all_comings, named_in, RingKeepsEachOnce, tail_keeps, ring_keeps, IsValid, operations_few, Coming, is_same, times, coming_of, bytes_in, Ringing, ringing_by}
+use Rattle.std.proofs.lemmas.List.Sums.{sum_by-append}
 use Rattle.std.proofs.lemmas.List.Sorted.{length_permutation}
 use Rattle.hs_lists.proofs.Filters.{filter_few}
-use Rattle.hs_lists.proofs.Parts.{length_map}
-use Rattle.hs_base.specs.declared.ids.ClientId.{ClientId}
-use Rattle.hs_base.specs.declared.ids.TraceId.{TraceId}
-use Rattle.hs_base.specs.declared.limits.TheConstants.{MAX_PAYLOAD, MAX_OPERATIONS}
-use Rattle.hs_base.specs.Ids.{is_among}
-use Rattle.hs_law_outcome.specs.Outcomes.{client_at}
-use Rattle.hs_records.specs.Plain.{Operation, Begin, Point, Crumb, End, Fire, Sample, PlainSettings, PlainWorkload}
-use Rattle.hs_records.specs.Records.{Record, numbered_from, record_at, records_of, open_behind}
-use Rattle.hs_law_sends.specs.Sending.{operations_at}
+use Rattle.hs_base.specs.declared.limits.TheConstants.{MAX_PAYLOAD}
+use Rattle.hs_records.specs.Plain.{PlainSettings}
 use Rattle.hs_compare.specs.Coming as samplers
-use Rattle.hs_compare.specs.Coming.{comings_of, all_comings, named_in}
-use Rattle.hs_compare.specs.SamplerLaws.{RingKeepsEachOnce}
-use Rattle.hs_compare.specs.Samplers.{tail_keeps, ring_keeps}
-use Rattle.hs_workload.specs.Validity.{IsOperation, IsClient, IsValid, workload_pieces}
+use Rattle.hs_workload.specs.Validity.{IsOperation, IsClient, workload_pieces}
 use Rattle.hs_workload.specs.declared.word.Setting.TheVariants as settings
-use Rattle.hs_workload.proofs.Sizes.{operations_few}
-use Rattle.hs_compare.specs.declared.coming.Coming.{Coming}
-use Rattle.hs_compare.specs.Counting.{is_same, times}
-use Rattle.hs_compare.specs.Happens.{coming_of}
-use Rattle.hs_compare.specs.Marked.{bytes_in}
-use Rattle.hs_compare.specs.Ringing.{Ringing}
-use Rattle.hs_compare.specs.Whole.{ringing_by}
 use Rattle.hs_compare.proofs.Counted.{times_once}
 use Rattle.hs_compare.proofs.Lined.{bytes_by, bytes_same}
 use Rattle.hs_compare.proofs.Outcomed.{after_all, names_all}

@@ -1,7 +1,6 @@
 -- The first item of a list, and the last ones of a list that has room.
 use Rattle.std.proofs.Common.{◌≡◌, ℕ, ◌-◌, ◌≤◌, cond, Bool, true, false, List, [], ◌∷◌, length, drop, slice_get, Some, None, refl, sym, ap, arith}
-use Rattle.std.proofs.lemmas.Option.{same_Some}
-use Rattle.std.proofs.lemmas.List.{length-drop}
+use Rattle.hs_compare.proofs.Prelude.{same_Some, length-drop}
 use Rattle.circular_buffer.specs.Buffer.{keep_last}
 
 pub first_some : {X : Type 0} (xs : List X) (x : X) → Some x ≡ slice_get xs 0 → xs ≡ x ∷ drop 1 xs

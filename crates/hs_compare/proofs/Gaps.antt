@@ -1,21 +1,9 @@
 -- Claimed traces rise, so no entry is in two gap lines, and the gaps of all claimed traces are counted by one test. A claimed trace without
 -- a record has no report, and no gap either.
 use Rattle.std.proofs.Common.{◌≡◌, ◌⊎◌, inl, inr, ℕ, ◌+◌, ◌<◌, ◌≤◌, Bool, true, false, not, ◌&&◌, ◌||◌, cond, List, [], ◌∷◌, length, refl, sym, ap, arith, map, filter, count_by, sum_by, eqb, eqb-true, ltb, ltb-true, ltb-false, eq-or-lt_of_le}
-use Rattle.std.specs.List.{AllByRecursion, flat_map, list_any}
-use Rattle.std.proofs.lemmas.Bool.{eqb-false}
-use Rattle.std.proofs.lemmas.List.Sums.{sum_by-cons}
-use Rattle.hs_lists.proofs.Counts.{one_if, length_cons_if}
-use Rattle.hs_lists.proofs.Alls.{all_each}
-use Rattle.hs_base.specs.declared.ids.TraceId.{TraceId}
-use Rattle.hs_base.specs.Ids.{is_among}
-use Rattle.hs_ledger.specs.declared.ledger.Entry.{Entry}
-use Rattle.hs_ledger.specs.Totals.{is_reported}
-use Rattle.hs_records.specs.Plain.{PlainWorkload}
-use Rattle.hs_law_journal.specs.Following.{followed}
-use Rattle.hs_law_outcome.specs.Outcomes.{put_trace, rising_traces, claimed_at, outcome_of}
+use Rattle.hs_compare.proofs.Prelude.{AllByRecursion, flat_map, list_any, eqb-false, sum_by-cons, one_if, length_cons_if, all_each, TraceId, is_among, Entry, is_reported, PlainWorkload, followed, put_trace, rising_traces, claimed_at, outcome_of, is_gap}
 use Rattle.hs_law_outcome.specs.Reports.{Report, is_of, report_of}
 use Rattle.hs_compare.specs.SamplerLaws.{GapsAreInGapLines}
-use Rattle.hs_compare.specs.Lines.{is_gap}
 use Rattle.hs_compare.proofs.Claimed.{put_all}
 
 -- ---- rising traces

@@ -1,24 +1,10 @@
 -- The lines of a comparison are those of the workload.
 use Rattle.std.proofs.Common.{◌≡◌, ℕ, ◌&&◌, cond, Bool, true, false, List, [], ◌∷◌, map, filter, refl, ap, ap₂, ◌∙◌, arith}
-use Rattle.std.specs.Prelude.{not, count_by, sum_by, zip}
-use Rattle.std.proofs.lemmas.List.Sums.{sum_by-cons}
-use Rattle.hs_lists.proofs.Counts.{count_alike}
-use Rattle.hs_base.specs.declared.ids.TraceId.{TraceId}
-use Rattle.hs_base.specs.Ids.{is_among}
-use Rattle.hs_ledger.specs.declared.ledger.Entry.{Entry}
-use Rattle.hs_ledger.specs.Totals.{is_reported}
-use Rattle.hs_records.specs.Plain.{PlainWorkload}
+use Rattle.hs_compare.proofs.Prelude.{not, count_by, sum_by, zip, sum_by-cons, count_alike, TraceId, is_among, Entry, is_reported, PlainWorkload, all_comings, named_in, tail_keeps, ring_keeps, PlainLine, PlainComparison, is_gap, is_limited, comparison_of, Coming, coming_of, line_by, marked, traces_of, bytes_in, line_of_marked, line_of_sent, marks_of_head, marks_of_named, marks_of_reported, comparison_by, plain_line, plain_comparison}
 use Rattle.hs_compare.specs.Coming as samplers
-use Rattle.hs_compare.specs.Coming.{all_comings, named_in}
-use Rattle.hs_compare.specs.Samplers.{kept_by_rank, chosen, head_keeps, tail_keeps, ring_keeps, hindsight_keeps}
+use Rattle.hs_compare.specs.Samplers.{kept_by_rank, chosen, head_keeps, hindsight_keeps}
 use Rattle.hs_compare.specs.Lines as lines
-use Rattle.hs_compare.specs.Lines.{PlainLine, PlainComparison, line_of, is_gap, is_limited, comparison_of}
-use Rattle.hs_compare.specs.declared.coming.Coming.{Coming}
-use Rattle.hs_compare.specs.Happens.{coming_of}
-use Rattle.hs_compare.specs.Counting.{line_by}
-use Rattle.hs_compare.specs.Marked.{marked, traces_of, bytes_in}
-use Rattle.hs_compare.specs.Comparing.{line_of_marked, line_of_sent, marks_of_head, marks_of_named, marks_of_reported, comparison_by}
-use Rattle.hs_compare.specs.Plain.{plain_line, plain_comparison}
+use Rattle.hs_compare.specs.Lines.{line_of}
 use Rattle.hs_compare.proofs.Compared.{line_is_plain}
 use Rattle.hs_compare.proofs.Ringed.{HasNames}
 

@@ -1,10 +1,7 @@
 -- What stands in lists that are joined, filtered or mapped.
 use Rattle.std.proofs.Common.{◌≡◌, ℕ, zero, suc, ◌+◌, ◌<◌, Bool, true, false, ◌||◌, cond, List, [], ◌∷◌, ◌++◌, refl, sym, ap, subst, ◌∙◌, Option, Some, None, arith, map, filter, slice_get, find, unwrap_or}
-use Rattle.std.specs.List.{AllByRecursion, flat_map, range_with_len, list_any}
-use Rattle.std.proofs.lemmas.Option.{same_Some}
-use Rattle.hs_lists.proofs.Places.{IsIn}
-use Rattle.hs_lists.proofs.Alls.{all_each}
-use Rattle.hs_law_outcome.proofs.Among.{is_first, is_later}
+use Rattle.hs_compare.proofs.Prelude.{AllByRecursion, flat_map, range_with_len, list_any, same_Some, IsIn, all_each, is_first}
+use Rattle.hs_law_outcome.proofs.Among.{is_later}
 
 module _ {X : Type 0} where
   -- ---- properties of all

@@ -1,9 +1,7 @@
 -- One mark more.
 use Rattle.std.proofs.Common.{◌≡◌, ℕ, ◌+◌, ◌<◌, ◌≤◌, cond, Bool, true, false, List, [], ◌∷◌, ◌++◌, length, get_or, take, refl, ap, ap₂, ◌∙◌, arith, length-take}
-use Rattle.std.proofs.lemmas.List.{append-nil, map-append, take_more, take_all}
-use Rattle.std.proofs.lemmas.List.Sums.{sum_by-cons, sum_by_push, sum_by-take-le}
-use Rattle.hs_compare.specs.declared.coming.Coming.{Coming}
-use Rattle.hs_compare.specs.Marked.{marked, traces_of, bytes_in}
+use Rattle.hs_compare.proofs.Prelude.{append-nil, map-append, take_more, take_all, sum_by-cons, sum_by_push, Coming, marked, traces_of, bytes_in}
+use Rattle.std.proofs.lemmas.List.Sums.{sum_by-take-le}
 
 -- the record, where it is marked
 abbrev pub one : Bool → Coming → List Coming

@@ -1,26 +1,13 @@
 -- Names and records by operation.
 use Rattle.std.proofs.Common.{◌≡◌, ℕ, ◌+◌, ◌<◌, ◌≤◌, ◌==◌, cond, Bool, true, false, List, [], ◌∷◌, ◌++◌, length, get_or, map, filter, take, Some, None, refl, sym, ap, ◌∙◌, arith}
-use Rattle.std.specs.Prelude.{slice_get}
-use Rattle.std.specs.List.{flat_map}
-use Rattle.std.proofs.lemmas.List.{map-append, take_more}
-use Rattle.std.proofs.lemmas.List.Elements.{filter-append}
-use Rattle.std.proofs.lemmas.Option.{get_or_from_slice_get, slice_get_within, slice_get-get_or}
-use Rattle.hs_base.specs.declared.ids.ClientId.{ClientId}
-use Rattle.hs_base.specs.declared.ids.TraceId.{TraceId}
-use Rattle.hs_base.specs.declared.settings.AutoRule.{AutoRule}
-use Rattle.hs_base.specs.declared.told.Trigger.{Trigger}
+use Rattle.hs_compare.proofs.Prelude.{slice_get, flat_map, map-append, take_more, filter-append, slice_get_within, ClientId, TraceId, AutoRule, Trigger, Operation, Sent, sent_triggers, names_in, items_at, sent_comings, events_at, name_at, names_by, comes_at, points_by, sent_names, names_of, event_of, AreInTurn, events_in, events_of, both_of, NumberedEvent}
+use Rattle.std.proofs.lemmas.Option.{get_or_from_slice_get, slice_get-get_or}
 use Rattle.hs_check_clauses.specs.Finding.{numbers_of}
-use Rattle.hs_records.specs.Plain.{Operation}
 use Rattle.hs_law_sends.specs.OneMore.{items_of}
 use Rattle.hs_law_sends.specs.Order.{AreInOrder}
-use Rattle.hs_law_sends.specs.Sending.{Sent, sent_triggers}
-use Rattle.hs_compare.specs.Coming.{names_in, items_at, sent_comings, events_at}
 use Rattle.hs_compare.specs.Coming as samplers
-use Rattle.hs_compare.specs.Happens.{name_at, names_at, names_by, comes_at, points_by}
-use Rattle.hs_compare.specs.Scripts.{sent_names, names_of, event_of}
-use Rattle.hs_compare.specs.Walking.{AreInTurn, events_in, events_of, both_of}
+use Rattle.hs_compare.specs.Happens.{names_at}
 use Rattle.hs_compare.specs.declared.happening.ScriptEvent.TheVariants.{Names}
-use Rattle.hs_compare.specs.declared.happening.NumberedEvent.{NumberedEvent}
 
 pub laterals_more : (number : ℕ) (laterals : List TraceId) (place : ℕ) (trace : TraceId) → Some trace ≡ slice_get laterals place
     → map (name_at number) (take (place + 1) laterals) ≡ map (name_at number) (take place laterals) ++ name_at number trace ∷ []

@@ -1,11 +1,7 @@
 -- Traces among named ones: which traces are named, and by what.
 use Rattle.std.proofs.Common.{◌≡◌, ℕ, Bool, true, false, ◌||◌, List, [], ◌∷◌, refl, subst, eqb, eqb-true, eq-eqb}
-use Rattle.std.specs.List.{AllByRecursion, flat_map, list_any}
-use Rattle.hs_lists.proofs.Places.{IsIn}
-use Rattle.hs_base.specs.declared.ids.TraceId.{TraceId}
-use Rattle.hs_base.specs.Ids.{is_among}
+use Rattle.hs_compare.proofs.Prelude.{AllByRecursion, flat_map, list_any, IsIn, TraceId, is_among, SamplerEvent, Comes, Names, named_by}
 use Rattle.hs_law_outcome.proofs.Among.{to_any}
-use Rattle.hs_compare.specs.Coming.{SamplerEvent, Comes, Names, named_by}
 
 -- the trace is one of these
 abbrev pub Among : List TraceId → TraceId → Type 0

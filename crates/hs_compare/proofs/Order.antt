@@ -1,27 +1,12 @@
 -- The operation order has all operations of all clients: the rounds of a client are its operations one behind another, and each item of an
 -- operation comes with its number.
 use Rattle.std.proofs.Common.{◌≡◌, ℕ, zero, suc, ◌+◌, ◌-◌, ◌*◌, ◌%◌, ◌<◌, ◌≤◌, Bool, true, false, cond, List, [], ◌∷◌, ◌++◌, length, refl, sym, ap, ◌∙◌, Option, Some, None, arith, map, filter, slice_get, unwrap_or, zip, eqb, eqb-true, ltb, ltb-true, append-nil, length-append}
-use Rattle.std.specs.List.{AllByRecursion, flat_map, range_with_len}
-use Rattle.std.proofs.lemmas.Bool.{eqb-false}
+use Rattle.hs_compare.proofs.Prelude.{AllByRecursion, flat_map, range_with_len, eqb-false, length-map, div-add-mod', mod-lt, all_each, all_append, range_append, ClientId, TraceId, Trigger, Operation, PlainWorkload, NumberedOperation, Record, open_behind, numbered_from, numbered_of, record_at, records_of, Sent, operations_at, sent_triggers, AllTriggersAreSent, point_numbers, rounds_for, rounds_of, client_at, SamplerEvent, Comes, Names, comings_of, sent_comings, items_at, names_in, events_at, events_in_order, all_comings, named_by, named_in, brought_by}
 use Rattle.std.proofs.lemmas.Grind.{flat_map-append}
-use Rattle.std.proofs.lemmas.List.{length-map}
-use Rattle.std.proofs.lemmas.Nat.{div-add-mod'}
-use Rattle.std.proofs.Math.Nat.{suc-mul, add-mul, mod-lt, mul-le-mul_right}
-use Rattle.hs_lists.proofs.Alls.{all_each, all_append}
-use Rattle.hs_lists.proofs.Ranges.{range_append}
+use Rattle.std.proofs.Math.Nat.{suc-mul, add-mul, mul-le-mul_right}
 use Rattle.hs_lists.proofs.Parts.{flat_alike}
-use Rattle.hs_base.specs.declared.ids.ClientId.{ClientId}
-use Rattle.hs_base.specs.declared.ids.TraceId.{TraceId}
-use Rattle.hs_base.specs.declared.told.Trigger.{Trigger}
-use Rattle.hs_records.specs.Plain.{Operation, PlainWorkload}
-use Rattle.hs_records.specs.Records.{NumberedOperation, Record, open_behind, numbered_from, numbered_of, record_at, records_of}
-use Rattle.hs_law_sends.specs.Sending.{Sent, operations_at, sent_triggers}
-use Rattle.hs_law_sends.specs.SoFar.{AllTriggersAreSent}
-use Rattle.hs_law_sends.specs.Timing.{point_numbers}
-use Rattle.hs_law_journal.specs.Ends.{rounds_for, rounds_of}
-use Rattle.hs_law_outcome.specs.Outcomes.{client_at}
-use Rattle.hs_compare.specs.Coming.{Coming, SamplerEvent, Comes, Names, comings_of, sent_comings, items_at, names_in, events_at, events_of, events_in_order, all_comings, named_by, named_in}
-use Rattle.hs_compare.specs.SamplerLaws.{brought_by, all_names, TheOrderHasAll}
+use Rattle.hs_compare.specs.Coming.{Coming, events_of}
+use Rattle.hs_compare.specs.SamplerLaws.{all_names, TheOrderHasAll}
 use Rattle.hs_compare.proofs.Lists.{in_map}
 use Rattle.hs_compare.proofs.Same.{Same, Joins, same_from, turned_round, both, flat_same, flat_pairs, flat_none, by_columns, to_permutation}
 use Rattle.hs_compare.proofs.Sent.{max_has, numbers_low}

@@ -1,18 +1,7 @@
 -- The rounds of the scripts are the events in the operation order.
 use Rattle.std.proofs.Common.{◌≡◌, ℕ, suc, ◌+◌, ◌*◌, List, [], ◌∷◌, ◌++◌, length, map, Some, refl, sym, ap, ap₂, ◌∙◌, arith, slice_get}
-use Rattle.std.specs.List.{flat_map, range_with_len, AllByRecursion}
-use Rattle.std.proofs.lemmas.List.{map-append}
-use Rattle.hs_law_journal.specs.Ends.{rounds_of}
-use Rattle.hs_law_outcome.specs.Outcomes.{client_at}
-use Rattle.hs_records.specs.Plain.{PlainWorkload}
-use Rattle.hs_compare.specs.Coming.{events_at, events_of, events_in_order}
-use Rattle.hs_law_sends.specs.Sending.{operations_at}
-use Rattle.hs_compare.specs.declared.script.Script.{Script}
-use Rattle.hs_compare.specs.Beginning.{AreScripts}
-use Rattle.hs_compare.specs.Happens.{points_by}
-use Rattle.hs_compare.specs.Rounds.{IsSound, part_of, round_of, all_rounds}
-use Rattle.hs_compare.specs.Scripts.{names_of, event_of}
-use Rattle.hs_compare.specs.Walking.{both_of}
+use Rattle.hs_compare.proofs.Prelude.{flat_map, range_with_len, AllByRecursion, map-append, rounds_of, client_at, PlainWorkload, events_at, events_in_order, operations_at, Script, AreScripts, points_by, IsSound, part_of, round_of, all_rounds, names_of, event_of, both_of}
+use Rattle.hs_compare.specs.Coming.{events_of}
 use Rattle.hs_compare.proofs.Named.{events_are}
 use Rattle.hs_compare.proofs.Parts.{client_sound, client_part}
 

@@ -1,36 +1,12 @@
 -- A valid workload with a lawful journal can be compared, and its outcome has an entry for each record. The ring through all scripts is
 -- the ring of the workload, so what was counted is its comparison.
 use Rattle.std.proofs.Common.{◌≡◌, ℕ, List, [], ◌∷◌, map, refl, sym, ap, subst, ◌∙◌}
-use Rattle.std.specs.Prelude.{fold}
-use Rattle.hs_base.specs.declared.ids.TraceId.{TraceId}
-use Rattle.hs_check_clauses.specs.Beginning.{MayBegin}
-use Rattle.hs_journal.specs.Views.{PlainJournal}
-use Rattle.hs_ledger.specs.declared.ledger.Entry.{Entry}
-use Rattle.hs_law_journal.specs.Ends.{rounds_of}
-use Rattle.hs_law_journal.specs.Lawful.{IsLawful}
-use Rattle.hs_law_outcome.specs.Outcomes.{outcome_of}
-use Rattle.hs_law_outcome.specs.Records.{Named, name_of}
-use Rattle.hs_records.specs.Plain.{PlainWorkload}
+use Rattle.hs_compare.proofs.Prelude.{fold, TraceId, MayBegin, PlainJournal, Entry, rounds_of, IsLawful, outcome_of, Named, name_of, PlainWorkload, all_comings, events_in_order, named_by, named_in, CanBeCompared, EntriesStandByTheRecords, TailIsTheSum, SumsToTail, name_of_coming, compared_by, PlainComparison, comparison_of, SamplerRing, ring_step, empty_ring, IsValid, Coming, Script, AreScripts, comparison_by, coming_of, traces_of, plain_comparison, Ringing, all_rounds, rings_after, ringing_by}
 use Rattle.hs_report.specs.declared.outcome.Outcome.{Outcome}
 use Rattle.hs_report.specs.Outcomes.{IsOutcome}
-use Rattle.hs_compare.specs.Coming.{all_comings, events_in_order, named_by, named_in}
-use Rattle.hs_compare.specs.SamplerLaws.{CanBeCompared, EntriesStandByTheRecords, TailIsTheSum, SumsToTail, name_of_coming, compared_by}
-use Rattle.hs_compare.specs.Lines.{PlainComparison, comparison_of}
-use Rattle.hs_compare.specs.Samplers.{SamplerRing, ring_step, empty_ring}
-use Rattle.hs_workload.specs.Validity.{IsValid}
 use Rattle.hs_workload.specs.declared.word.Setting.TheVariants as settings
 use Rattle.hs_workload.proofs.Sizes.{bracketed}
-use Rattle.hs_compare.specs.declared.coming.Coming.{Coming}
-use Rattle.hs_compare.specs.declared.script.Script.{Script}
-use Rattle.hs_compare.specs.Beginning.{AreScripts}
-use Rattle.hs_compare.specs.Comparing.{comparison_by}
-use Rattle.hs_compare.specs.Happens.{coming_of}
-use Rattle.hs_compare.specs.Marked.{traces_of}
-use Rattle.hs_compare.specs.Plain.{plain_comparison}
-use Rattle.hs_compare.specs.Ringing.{Ringing, new_ring}
-use Rattle.hs_compare.specs.Rounds.{all_rounds}
-use Rattle.hs_compare.specs.Walking.{rings_after}
-use Rattle.hs_compare.specs.Whole.{ringing_by}
+use Rattle.hs_compare.specs.Ringing.{new_ring}
 use Rattle.hs_compare.proofs.Lined.{trace_in, traces_same, lines_are_plain}
 use Rattle.hs_compare.proofs.Ordered.{rounds_in_order}
 use Rattle.hs_compare.proofs.Ringed.{HasNames, rings_are, names_are_named}

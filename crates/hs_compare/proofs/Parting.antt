@@ -1,40 +1,24 @@
 -- A record that was reported is of a claimed trace: the chunk of a page with a piece of it stands as reported for the group that claimed
 -- the page's trace. With that, and as claimed traces are named, an entry is parted by three tests.
 use Rattle.std.proofs.Common.{◌≡◌, ℕ, ◌+◌, ◌≤◌, Bool, true, false, not, ◌&&◌, ◌||◌, cond, List, [], ◌∷◌, length, refl, sym, ap, subst, ◌∙◌, Option, Some, None, map, option_map, slice_get, eqb, eqb-true}
-use Rattle.std.specs.List.{AllByRecursion}
-use Rattle.std.proofs.lemmas.Nat.{div-add-mod'}
-use Rattle.std.proofs.lemmas.Option.{same_Some}
-use Rattle.hs_lists.proofs.Alls.{all_at, all_each_both}
-use Rattle.hs_base.specs.declared.ids.ClientId.{ClientId}
-use Rattle.hs_base.specs.declared.ids.TraceId.{TraceId}
+use Rattle.hs_compare.proofs.Prelude.{AllByRecursion, div-add-mod', same_Some, all_at, ClientId, TraceId, is_among, Draw, PlainJournal, Entry, is_reported, ClaimedTrace, pages_of, Operation, PlainWorkload, records_of, operations_at, place_of, NodeRun, Run, followed, claimed_at, outcome_of, EachRecordHasOneEntry, name_of, is_first, named_in, CanBeCompared, ClaimedTracesAreNamed, IsParted, KeptIsParted}
+use Rattle.hs_lists.proofs.Alls.{all_each_both}
 use Rattle.hs_base.specs.declared.limits.TheConstants.{MIN_SIZE}
 use Rattle.hs_base.specs.declared.told.Group.{Group}
-use Rattle.hs_base.specs.Ids.{same_trace, is_among}
-use Rattle.hs_journal.specs.declared.journal.Draw.{Draw}
+use Rattle.hs_base.specs.Ids.{same_trace}
 use Rattle.hs_journal.specs.declared.journal.Draw.TheVariants.{Got, Empty}
-use Rattle.hs_journal.specs.Views.{PlainJournal}
-use Rattle.hs_ledger.specs.declared.ledger.Entry.{Entry}
-use Rattle.hs_ledger.specs.Totals.{is_reported}
 use Rattle.hs_law_agent.specs.Laws.{claiming_group, StandsByClaim}
 use Rattle.hs_law_agent.specs.Standings.{Taken, trace_of}
-use Rattle.hs_law_agent.specs.State.{ClaimedTrace, claim_of}
+use Rattle.hs_law_agent.specs.State.{claim_of}
 use Rattle.hs_records.specs.Laws.{CarriesRecords, CarryRecords, traces_of}
-use Rattle.hs_records.specs.Pages.{PlainPage, first_record, pages_of}
-use Rattle.hs_records.specs.Plain.{Operation, PlainWorkload}
-use Rattle.hs_records.specs.Records.{AreBracketed, records_of}
-use Rattle.hs_law_sends.specs.Sending.{operations_at, place_of}
+use Rattle.hs_records.specs.Pages.{PlainPage, first_record}
+use Rattle.hs_records.specs.Records.{AreBracketed}
 use Rattle.hs_words.specs.Pages.{Sheet}
-use Rattle.hs_law_journal.specs.Following.{NodeRun, Run, followed}
 use Rattle.hs_law_outcome.specs.Causes.{KeepsItsModel, AgentsKeepTheirModel}
 use Rattle.hs_law_outcome.specs.CollectedReports.{IsClientsPage, TakenPagesAreOfClients}
 use Rattle.hs_law_outcome.specs.Origins.{WasTaken, Gives, HasItsCause, EachFateHasItsCause}
-use Rattle.hs_law_outcome.specs.Outcomes.{claimed_at, outcome_of}
-use Rattle.hs_law_outcome.specs.Records.{EachRecordHasOneEntry, name_of}
-use Rattle.hs_law_outcome.proofs.Among.{is_first}
 use Rattle.hs_law_outcome.proofs.Entries.{piece_traced, ends_at}
 use Rattle.hs_law_outcome.proofs.WhollyReported.{reported_group}
-use Rattle.hs_compare.specs.Coming.{named_in}
-use Rattle.hs_compare.specs.SamplerLaws.{CanBeCompared, ClaimedTracesAreNamed, IsParted, KeptIsParted}
 use Rattle.hs_compare.proofs.Naming.{Among, among_same, among_all, among_in}
 use Rattle.hs_compare.proofs.Claimed.{claimed_somewhere}
 use Rattle.hs_compare.proofs.Standing.{IsRecord, entries_are_records}

@@ -1,22 +1,8 @@
 -- A part of a script has the events of its operations.
 use Rattle.std.proofs.Common.{◌≡◌, ℕ, zero, suc, ◌+◌, ◌-◌, ◌<◌, ◌≤◌, ◌==◌, cond, false, List, [], ◌∷◌, ◌++◌, length, get_or, take, drop, map, filter, min, refl, sym, ap, ap₂, ◌∙◌, subst, arith, append_assoc, length-append, ⊎_elim, Option, None}
+use Rattle.hs_compare.proofs.Prelude.{ne_eqb, cases_lt, append-nil, ClientId, TraceId, AutoRule, Trigger, Operation, NumberedOperation, numbered_from, open_behind, Sent, trigger_in, triggers_behind, names_in, NumberedEvent, Script, name_at, points_by, sent_names, names_of, IsClientScript, AreOf, IsScript, events_in, events_of, events_from, IsSound, part_of}
 use Rattle.std.proofs.Math.Seq.{drop-append_seam, take-append_seam}
-use Rattle.std.proofs.lemmas.Bool.{ne_eqb, cases_lt}
-use Rattle.std.proofs.lemmas.List.{append-nil}
-use Rattle.hs_base.specs.declared.ids.ClientId.{ClientId}
-use Rattle.hs_base.specs.declared.ids.TraceId.{TraceId}
-use Rattle.hs_base.specs.declared.settings.AutoRule.{AutoRule}
-use Rattle.hs_base.specs.declared.told.Trigger.{Trigger}
-use Rattle.hs_records.specs.Plain.{Operation}
-use Rattle.hs_records.specs.Records.{NumberedOperation, numbered_from, open_behind}
-use Rattle.hs_law_sends.specs.Sending.{Sent, trigger_in, triggers_behind}
-use Rattle.hs_compare.specs.Coming.{names_in}
-use Rattle.hs_compare.specs.declared.happening.NumberedEvent.{NumberedEvent}
-use Rattle.hs_compare.specs.declared.script.Script.{Script}
-use Rattle.hs_compare.specs.Happens.{name_at, points_by}
-use Rattle.hs_compare.specs.Scripts.{sent_names, names_of, IsClientScript}
-use Rattle.hs_compare.specs.Walking.{AreOf, IsScript, events_in, events_of, events_from}
-use Rattle.hs_compare.specs.Rounds.{IsSound, events_before, part_of}
+use Rattle.hs_compare.specs.Rounds.{events_before}
 use Rattle.hs_compare.proofs.Walked.{events-append}
 
 -- past the last operation nothing happens

@@ -1,28 +1,21 @@
 -- A journal's steps, as long as all triggers that clients send are of traces that pass a test: whatever an agent takes brings such traces,
 -- whatever it tells and so whatever the coordinator asks is of such traces, and so is all that is claimed.
 use Rattle.std.proofs.Common.{◌≡◌, inl, inr, ℕ, Bool, true, false, cond, List, [], ◌∷◌, ◌++◌, refl, sym, subst, Option, Some, None, slice_get, option_map, count_by}
-use Rattle.std.specs.List.{AllByRecursion, range_with_len}
+use Rattle.hs_compare.proofs.Prelude.{AllByRecursion, range_with_len, same_Some, IsIn, all_at, all_append, all_map, TraceId, Trigger, PlainJournal, PlainWorkload, Sent, operations_at, place_of, sent_triggers, ClaimsOnly, ClaimsAreOfWhatIsBrought, NodeRun, Run, names_in}
 use Rattle.std.specs.Option.{option_and_then}
-use Rattle.std.proofs.lemmas.Option.{same_Some}
 use Rattle.hs_lists.proofs.Options.{mapped_from}
-use Rattle.hs_lists.proofs.Places.{IsIn}
-use Rattle.hs_lists.proofs.Alls.{all_at, all_append, all_map, all_always, all_set}
+use Rattle.hs_lists.proofs.Alls.{all_always, all_set}
 use Rattle.hs_base.specs.declared.ids.NodeId.{NodeId}
-use Rattle.hs_base.specs.declared.ids.TraceId.{TraceId}
 use Rattle.hs_base.specs.declared.told.Ask.{Ask}
 use Rattle.hs_base.specs.declared.told.Told.{Told}
-use Rattle.hs_base.specs.declared.told.Trigger.{Trigger}
 use Rattle.hs_coord.specs.Following.{Message, Messages, message, is_of, first_of, is_newly_asked}
 use Rattle.hs_journal.specs.declared.journal.Step.{Step}
 use Rattle.hs_journal.specs.declared.journal.Step.TheVariants as steps
-use Rattle.hs_journal.specs.Views.{PlainJournal}
 use Rattle.hs_law_agent.specs.Stepping.{Given, Missed, Unread, Chunk, Crumbed, Triggered, Asked, Turn, AgentEvent, Took, Gave}
-use Rattle.hs_records.specs.Plain.{PlainWorkload}
-use Rattle.hs_law_sends.specs.Sending.{Sent, ClientSends, client_sends, node_sends, operations_at, place_of, sent_triggers}
-use Rattle.hs_law_agent.specs.Bringing.{AllPass, TellsOf, ClaimsOnly, BringsOnly, ClaimsAreOfWhatIsBrought}
-use Rattle.hs_law_journal.specs.Following.{Chunks, Crumbs, Triggers, Asks, taken, asks_behind, asks_to, NodeRun, Run, node_start, run_start, next_of, event_of, perform, step_of, message_of, hear, is_from}
+use Rattle.hs_law_sends.specs.Sending.{ClientSends, client_sends, node_sends}
+use Rattle.hs_law_agent.specs.Bringing.{AllPass, TellsOf, BringsOnly}
+use Rattle.hs_law_journal.specs.Following.{Chunks, Crumbs, Triggers, Asks, taken, asks_behind, asks_to, node_start, run_start, next_of, event_of, perform, step_of, message_of, hear, is_from}
 use Rattle.hs_law_journal.specs.Orders.{Performs, Leads, Stays, Goes}
-use Rattle.hs_compare.specs.Coming.{names_in}
 use Rattle.hs_compare.proofs.Lists.{found_or}
 
 -- ---- lists

@@ -1,30 +1,15 @@
 -- One operation more.
 use Rattle.std.proofs.Common.{◌≡◌, ℕ, suc, ◌+◌, ◌≤◌, List, [], ◌∷◌, ◌++◌, length, map, Option, Some, None, option_map, refl, sym, ap, ap₂, ◌∙◌, arith, append_assoc, length-append}
-use Rattle.std.specs.Prelude.{zip}
-use Rattle.std.specs.List.{flat_map, range_with_len}
+use Rattle.hs_compare.proofs.Prelude.{zip, flat_map, range_with_len, same_Some, append-nil, map-append, length_push, flat_map-append, length_map, range_append, ClientId, TraceId, Operation, Begin, Point, Crumb, End, Fire, Sample, Record, NumberedOperation, numbered_from, numbered_of, record_at, records_of, open_behind, OneMoreOperation, Sent, point_numbers, comings_of, sent_comings, coming_of, comes_at, points_by, HasGone, brought, Coming, Walk}
 use Rattle.std.specs.Option.{option_to_list}
-use Rattle.std.proofs.lemmas.Option.{same_Some}
-use Rattle.std.proofs.lemmas.List.{append-nil, map-append, length_push}
-use Rattle.std.proofs.lemmas.List.Concat.{flat_map-append}
 use Rattle.std.proofs.lemmas.List.FromFn.{length-range_with_len}
-use Rattle.hs_lists.proofs.Parts.{length_map}
-use Rattle.hs_lists.proofs.Ranges.{range_append}
-use Rattle.hs_base.specs.declared.ids.ClientId.{ClientId}
-use Rattle.hs_base.specs.declared.ids.TraceId.{TraceId}
-use Rattle.hs_records.specs.Plain.{Operation, Begin, Point, Crumb, End, Fire, Sample}
-use Rattle.hs_records.specs.Records.{Record, NumberedOperation, numbered_from, numbered_of, record_at, record_in, records_of, open_behind}
-use Rattle.hs_law_sends.specs.OneMore.{OneMoreOperation, open_after, next_behind}
-use Rattle.hs_law_sends.specs.Sending.{Sent}
-use Rattle.hs_law_sends.specs.Timing.{point_numbers}
+use Rattle.hs_records.specs.Records.{record_in}
+use Rattle.hs_law_sends.specs.OneMore.{open_after, next_behind}
 use Rattle.hs_law_sends.proofs.OneMore.{open_push}
-use Rattle.hs_compare.specs.Coming.{comings_of, sent_comings}
 use Rattle.hs_compare.specs.Coming as samplers
 use Rattle.hs_compare.proofs.Order.{beside_length}
-use Rattle.hs_compare.specs.Happens.{coming_of, comes_at, points_by}
-use Rattle.hs_compare.specs.Points.{HasGone, brought, coming_seen, record_seen}
-use Rattle.hs_compare.specs.declared.coming.Coming.{Coming}
+use Rattle.hs_compare.specs.Points.{coming_seen, record_seen}
 use Rattle.hs_compare.specs.declared.points.Seen.{Seen}
-use Rattle.hs_compare.specs.declared.points.Walk.{Walk}
 
 zip-push : {X Y : Type 0} (xs : List X) (ys : List Y) (x : X) (y : Y) → length xs ≡ length ys → zip (xs ++ x ∷ []) (ys ++ y ∷ []) ≡ zip xs ys ++ (x, y) ∷ []
 zip-push [] [] x y same = refl

@@ -1,15 +1,6 @@
 -- The queues after one of them changed.
 use Rattle.std.proofs.Common.{◌≡◌, cond, ◌==◌, Bool, true, false, List, [], ◌∷◌, ◌++◌, drop, map, filter, Option, Some, refl, sym, ap, ◌∙◌}
-use Rattle.std.specs.Prelude.{unwrap_or}
-use Rattle.std.specs.Map.{lookup}
-use Rattle.std.proofs.lemmas.Bool.{eqb-true}
-use Rattle.std.proofs.lemmas.List.{map-append}
-use Rattle.std.proofs.lemmas.List.Elements.{filter-append}
-use Rattle.hs_base.specs.declared.ids.TraceId.{TraceId}
-use Rattle.hs_base.specs.declared.ids.RecordId.{RecordId}
-use Rattle.hs_compare.specs.declared.ring.Noted.{Noted}
-use Rattle.hs_compare.specs.Ringing.{is_noted_of}
-use Rattle.hs_compare.specs.Queues.{queued, ids_of, AreQueued}
+use Rattle.hs_compare.proofs.Prelude.{unwrap_or, lookup, eqb-true, map-append, filter-append, TraceId, RecordId, Noted, is_noted_of, queued, ids_of, AreQueued}
 use Rattle.hs_compare.proofs.Firsts.{cond_both}
 
 abbrev pub Entries : Type 0

@@ -1,15 +1,9 @@
 -- Operations of which none may send a trigger name nothing.
 use Rattle.std.proofs.Common.{◌≡◌, ℕ, ◌+◌, Bool, true, false, ◌||◌, List, [], ◌∷◌, ◌++◌, map, Option, Some, None, refl, sym, ap, ap₂, ◌∙◌}
-use Rattle.std.specs.List.{list_any}
+use Rattle.hs_compare.proofs.Prelude.{list_any, TraceId, AutoRule, Operation, Begin, Point, Crumb, End, Fire, Sample, NumberedOperation, numbered_from, open_behind, trigger_in, triggers_behind, operation_of, names_of, sent_names}
 use Rattle.std.proofs.lemmas.Bool.{or_parts}
-use Rattle.hs_base.specs.declared.ids.TraceId.{TraceId}
-use Rattle.hs_base.specs.declared.settings.AutoRule.{AutoRule}
-use Rattle.hs_records.specs.Plain.{Operation, Begin, Point, Crumb, End, Fire, Sample}
-use Rattle.hs_records.specs.Records.{NumberedOperation, numbered_from, open_behind}
-use Rattle.hs_law_sends.specs.Sending.{trigger_in, triggers_behind}
-use Rattle.hs_workload.specs.Views.{operation_of}
 use Rattle.hs_workload.specs.declared.operation.Op.{Op}
-use Rattle.hs_compare.specs.Scripts.{may_trigger, names_of, sent_names}
+use Rattle.hs_compare.specs.Scripts.{may_trigger}
 
 none_at : (autos : List AutoRule) (earlier : List NumberedOperation) (trace : Option TraceId) (op : Operation) → may_trigger op ≡ false → trigger_in autos earlier trace op ≡ []
 none_at autos earlier None (Begin t) h = refl

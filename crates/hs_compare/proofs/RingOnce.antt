@@ -1,14 +1,8 @@
 -- A record that came waits, is kept, or left the ring for good, and only one of these.
 use Rattle.std.proofs.Common.{◌≡◌, ℕ, ◌-◌, Bool, true, false, not, cond, List, [], ◌∷◌, ◌++◌, length, take, drop, refl, sym, ap, subst, ◌∙◌, filter, fold, append_assoc, append-nil}
-use Rattle.std.specs.Prelude.{IsPermutation}
-use Rattle.std.specs.List.{AllByRecursion, flat_map}
+use Rattle.hs_compare.proofs.Prelude.{IsPermutation, AllByRecursion, flat_map, filter-append, TraceId, is_among, SamplerEvent, Comes, Names, events_in_order, all_comings, named_in, brought_by, RingKeepsEachOnce, is_of, tail_keeps, SamplerRing, empty_ring, last_ones, ring_step}
 use Rattle.std.proofs.lemmas.List.{take-append-drop}
-use Rattle.std.proofs.lemmas.List.Elements.{filter-append}
-use Rattle.hs_base.specs.declared.ids.TraceId.{TraceId}
-use Rattle.hs_base.specs.Ids.{is_among}
-use Rattle.hs_compare.specs.Coming.{Coming, SamplerEvent, Comes, Names, events_in_order, all_comings, named_in}
-use Rattle.hs_compare.specs.SamplerLaws.{brought_by, RingKeepsEachOnce}
-use Rattle.hs_compare.specs.Samplers.{is_of, tail_keeps, SamplerRing, empty_ring, last_ones, ring_step}
+use Rattle.hs_compare.specs.Coming.{Coming}
 use Rattle.hs_compare.proofs.Order.{all_in_order}
 use Rattle.hs_compare.proofs.Ringing.{IsNamed, ring_holds}
 use Rattle.hs_compare.proofs.Same.{Same, Joins, same_from, behind, before, into, crossed, filtered, in_parts, to_permutation}

@@ -1,22 +1,12 @@
 -- The ring of ids goes as the ring of whole records does.
 use Rattle.std.proofs.Common.{◌≡◌, ℕ, ◌+◌, ◌-◌, cond, ◌==◌, ◌||◌, Bool, true, false, List, [], ◌∷◌, ◌++◌, length, drop, filter, map, refl, sym, ap, ap₂, ◌∙◌, subst, arith, append_assoc}
-use Rattle.std.specs.Prelude.{not, fold, count_by}
-use Rattle.std.specs.List.{flat_map}
-use Rattle.std.proofs.lemmas.List.{map-append, append-nil}
-use Rattle.std.proofs.lemmas.List.Sums.{sum_by_push}
-use Rattle.hs_lists.proofs.Parts.{map_drop, length_map}
+use Rattle.hs_compare.proofs.Prelude.{not, fold, count_by, flat_map, map-append, append-nil, sum_by_push, length_map, TraceId, is_among, SamplerRing, is_of, last_ones, ring_step, each_once, is_noted_of, ids_in, traces_in, last_noted, event_of, ring_after, rings_after, ringing_by}
+use Rattle.hs_lists.proofs.Parts.{map_drop}
 use Rattle.hs_lists.proofs.Filters.{filter_mapped}
-use Rattle.hs_base.specs.declared.ids.TraceId.{TraceId}
-use Rattle.hs_base.specs.Ids.{is_among}
 use Rattle.hs_compare.specs.Coming.{Coming}
 use Rattle.hs_compare.specs.Coming as samplers
-use Rattle.hs_compare.specs.Samplers.{SamplerRing, is_of, last_ones, ring_step}
 use Rattle.hs_compare.specs.Samplers as rings
-use Rattle.hs_compare.specs.Lines.{each_once}
-use Rattle.hs_compare.specs.Ringing.{is_noted_of, ids_in, traces_in, last_noted}
-use Rattle.hs_compare.specs.Scripts.{event_of}
-use Rattle.hs_compare.specs.Walking.{ring_after, rings_after}
-use Rattle.hs_compare.specs.Whole.{noted_of, ringing_by}
+use Rattle.hs_compare.specs.Whole.{noted_of}
 use Rattle.hs_compare.proofs.Counted.{among_more, once_more}
 use Rattle.hs_compare.proofs.Queued.{same_ids}
 use Rattle.hs_compare.proofs.Tails.{ringing}

@@ -1,22 +1,11 @@
 -- What a ring holds: the records in it came, the traces that it knows as named are named, and so it keeps records of named traces alone.
 use Rattle.std.proofs.Common.{◌≡◌, ℕ, ◌-◌, ◌*◌, ◌<◌, Bool, true, false, not, cond, List, [], ◌∷◌, ◌++◌, length, refl, sym, arith, map, filter, fold, zip, eqb, eqb-true, Contains}
-use Rattle.std.specs.List.{AllByRecursion, flat_map, range_with_len}
+use Rattle.hs_compare.proofs.Prelude.{AllByRecursion, flat_map, range_with_len, IsIn, all_each, all_append, all_flat_range, all_map, ClientId, TraceId, AutoRule, is_among, Operation, PlainWorkload, Sent, operations_at, sent_triggers, point_numbers, rounds_of, client_at, in_filter, SamplerEvent, Comes, Names, comings_of, sent_comings, items_at, names_in, events_at, events_in_order, all_comings, named_in, is_of, tail_keeps, SamplerRing, empty_ring, last_ones, ring_step, ring_keeps}
 use Rattle.std.proofs.lemmas.List.Elements.{All-from_recursion}
-use Rattle.hs_lists.proofs.Places.{IsIn}
-use Rattle.hs_lists.proofs.Alls.{all_each, all_append, all_drop, all_flat_map, all_flat_range, all_map}
-use Rattle.hs_base.specs.declared.ids.ClientId.{ClientId}
-use Rattle.hs_base.specs.declared.ids.TraceId.{TraceId}
-use Rattle.hs_base.specs.declared.settings.AutoRule.{AutoRule}
-use Rattle.hs_base.specs.Ids.{is_among}
-use Rattle.hs_records.specs.Plain.{Operation, PlainWorkload}
-use Rattle.hs_law_sends.specs.Sending.{Sent, operations_at, sent_triggers}
-use Rattle.hs_law_sends.specs.Timing.{point_numbers}
-use Rattle.hs_law_journal.specs.Ends.{rounds_of}
-use Rattle.hs_law_outcome.specs.Outcomes.{client_at}
-use Rattle.hs_law_outcome.proofs.Among.{contained, in_filter}
-use Rattle.hs_compare.specs.Coming.{Coming, SamplerEvent, Comes, Names, comings_of, sent_comings, items_at, names_in, events_at, events_of, events_in_order, all_comings, named_in}
+use Rattle.hs_lists.proofs.Alls.{all_drop, all_flat_map}
+use Rattle.hs_law_outcome.proofs.Among.{contained}
+use Rattle.hs_compare.specs.Coming.{Coming, events_of}
 use Rattle.hs_compare.specs.SamplerLaws.{RingKeepsLess}
-use Rattle.hs_compare.specs.Samplers.{is_of, tail_keeps, SamplerRing, empty_ring, last_ones, ring_step, ring_keeps}
 use Rattle.hs_compare.proofs.Lists.{all_filtered, all_themselves, in_flat, in_range}
 use Rattle.hs_compare.proofs.Naming.{Among, among_same, among_all, among_in, NamesOnly, all_named}
 

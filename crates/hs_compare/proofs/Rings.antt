@@ -1,12 +1,8 @@
 -- Records that are alive and records that are dead.
 use Rattle.std.proofs.Common.{◌≡◌, ℕ, suc, ◌+◌, ◌<◌, cond, ◌==◌, ◌||◌, Bool, true, false, List, [], ◌∷◌, ◌++◌, length, get_or, take, drop, filter, Some, refl, sym, ap, ◌∙◌, arith, append_assoc}
-use Rattle.std.specs.Prelude.{not, slice_get}
-use Rattle.std.specs.List.{list_any}
-use Rattle.std.proofs.Math.Seq.{take-suc, drop-cons, drop-length, take-length}
-use Rattle.std.proofs.lemmas.List.Elements.{filter-append}
-use Rattle.hs_base.specs.declared.ids.TraceId.{TraceId}
-use Rattle.hs_compare.specs.declared.ring.Noted.{Noted}
-use Rattle.hs_compare.specs.Ringing.{is_among, alive}
+use Rattle.hs_compare.proofs.Prelude.{not, slice_get, list_any, drop-cons, filter-append, TraceId, Noted, alive}
+use Rattle.std.proofs.Math.Seq.{take-suc, drop-length, take-length}
+use Rattle.hs_compare.specs.Ringing.{is_among}
 use Rattle.hs_compare.proofs.Firsts.{first_some}
 
 eq_flip : (a b : ℕ) → (a == b) ≡ (b == a)

@@ -1,14 +1,7 @@
 -- A round more.
 use Rattle.std.proofs.Common.{◌≡◌, ℕ, ◌+◌, List, [], ◌∷◌, ◌++◌, sym, ap, ◌∙◌, arith}
-use Rattle.std.specs.List.{flat_map, range_with_len}
-use Rattle.std.proofs.lemmas.List.{append-nil}
-use Rattle.std.proofs.lemmas.List.Concat.{flat_map-append}
+use Rattle.hs_compare.proofs.Prelude.{flat_map, range_with_len, append-nil, flat_map-append, range_append, Script, Ringing, ring_after, rings_after, round_of, all_rounds}
 use Rattle.std.proofs.lemmas.List.Sums.{fold-append}
-use Rattle.hs_lists.proofs.Ranges.{range_append}
-use Rattle.hs_compare.specs.declared.script.Script.{Script}
-use Rattle.hs_compare.specs.Ringing.{Ringing}
-use Rattle.hs_compare.specs.Walking.{ring_after, rings_after}
-use Rattle.hs_compare.specs.Rounds.{round_of, all_rounds}
 
 pub rounds_more : (stride : ℕ) (scripts : List Script) (first now next : Ringing) (round : ℕ) → now ≡ rings_after first (all_rounds stride scripts round) → next ≡ rings_after now (round_of stride scripts round)
     → next ≡ rings_after first (all_rounds stride scripts (round + 1))

@@ -1,7 +1,6 @@
 -- Lists with the same items in another order, by exchanges of neighbours.
 use Rattle.std.proofs.Common.{◌≡◌, Bool, true, false, not, cond, List, [], ◌∷◌, ◌++◌, refl, sym, subst, filter, append_assoc, append-nil}
-use Rattle.std.specs.Prelude.{IsPermutation}
-use Rattle.std.specs.List.{flat_map}
+use Rattle.hs_compare.proofs.Prelude.{IsPermutation, flat_map}
 use Rattle.std.proofs.lemmas.List.Sorted.{IsPermutation-refl, IsPermutation-cons, IsPermutation-append_left, IsPermutation-append_comm, IsPermutation-trans}
 
 pub data Same {X : Type 0} : List X → List X → Type 0 where

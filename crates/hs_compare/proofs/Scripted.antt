@@ -1,18 +1,6 @@
 -- A script with one operation more.
 use Rattle.std.proofs.Common.{◌≡◌, ℕ, zero, suc, ◌+◌, ◌<◌, ◌≤◌, ◌==◌, cond, true, false, List, [], ◌∷◌, ◌++◌, length, get_or, Option, Some, None, refl, sym, ap, ap₂, ◌∙◌, subst, arith, eq-eqb}
-use Rattle.std.proofs.lemmas.Bool.{ne_eqb}
-use Rattle.std.proofs.lemmas.List.{append-nil, length_push}
-use Rattle.hs_base.specs.declared.ids.ClientId.{ClientId}
-use Rattle.hs_records.specs.Plain.{Operation}
-use Rattle.hs_records.specs.Records.{records_of}
-use Rattle.hs_law_sends.specs.OneMore.{OneMoreOperation}
-use Rattle.hs_compare.specs.Happens.{comes_at, points_by}
-use Rattle.hs_compare.specs.Points.{HasGone, HasScript, IsScriptOf, brought, comes_in}
-use Rattle.hs_compare.specs.Walking.{AreOf, IsScript, events_in, events_of, events_from}
-use Rattle.hs_compare.specs.declared.coming.Coming.{Coming}
-use Rattle.hs_compare.specs.declared.happening.NumberedEvent.{NumberedEvent}
-use Rattle.hs_compare.specs.declared.points.Walk.{Walk}
-use Rattle.hs_compare.specs.declared.script.Script.{Script}
+use Rattle.hs_compare.proofs.Prelude.{ne_eqb, append-nil, length_push, ClientId, Operation, records_of, OneMoreOperation, comes_at, points_by, HasGone, HasScript, IsScriptOf, brought, comes_in, AreOf, IsScript, events_in, events_of, events_from, Coming, NumberedEvent, Walk, Script}
 use Rattle.hs_compare.proofs.Named.{events-both}
 use Rattle.hs_compare.proofs.Parts.{none_past}
 use Rattle.hs_compare.proofs.Pointed.{brought_none, brought_some, coming_by, more_points, same_points}

@@ -1,22 +1,10 @@
 -- What a client sends as triggers is named: an operation's trigger comes with the operation's turn, in the round of its number.
 use Rattle.std.proofs.Common.{◌≡◌, ℕ, zero, suc, ◌+◌, ◌-◌, ◌*◌, ◌/◌, ◌%◌, ◌<◌, ◌≤◌, true, List, [], ◌∷◌, length, refl, sym, subst, Option, Some, None, arith, map, filter, fold, slice_get, unwrap_or, eqb, eq-eqb, ltb, ltb-true, max}
-use Rattle.std.specs.List.{AllByRecursion, flat_map, range_with_len}
-use Rattle.std.proofs.lemmas.Nat.{div-add-mod'}
-use Rattle.std.proofs.lemmas.Option.{slice_get_within}
-use Rattle.std.proofs.Math.Nat.{div-lt_iff_lt-mul, mod-lt}
-use Rattle.hs_lists.proofs.Places.{IsIn}
-use Rattle.hs_lists.proofs.Alls.{all_each}
+use Rattle.hs_compare.proofs.Prelude.{AllByRecursion, flat_map, range_with_len, div-add-mod', slice_get_within, mod-lt, IsIn, all_each, ClientId, TraceId, Trigger, Operation, PlainWorkload, Sent, operations_at, sent_triggers, AllTriggersAreSent, rounds_for, rounds_of, client_at, is_first, in_filter, SamplerEvent, Comes, Names, sent_comings, items_at, names_in, events_at, events_in_order, named_by, named_in}
+use Rattle.std.proofs.Math.Nat.{div-lt_iff_lt-mul}
 use Rattle.hs_lists.proofs.Counts.{max_at_least}
-use Rattle.hs_base.specs.declared.ids.ClientId.{ClientId}
-use Rattle.hs_base.specs.declared.ids.TraceId.{TraceId}
-use Rattle.hs_base.specs.declared.told.Trigger.{Trigger}
-use Rattle.hs_records.specs.Plain.{Operation, PlainWorkload}
-use Rattle.hs_law_sends.specs.Sending.{Sent, operations_at, sent_triggers}
-use Rattle.hs_law_sends.specs.SoFar.{AllTriggersAreSent}
-use Rattle.hs_law_journal.specs.Ends.{rounds_for, rounds_of}
-use Rattle.hs_law_outcome.specs.Outcomes.{client_at}
-use Rattle.hs_law_outcome.proofs.Among.{is_first, of_all, in_filter}
-use Rattle.hs_compare.specs.Coming.{SamplerEvent, Comes, Names, sent_comings, items_at, names_in, events_at, events_of, events_in_order, named_by, named_in}
+use Rattle.hs_law_outcome.proofs.Among.{of_all}
+use Rattle.hs_compare.specs.Coming.{events_of}
 use Rattle.hs_compare.proofs.Lists.{all_filtered, all_themselves, in_back, in_flat, in_map, in_range}
 use Rattle.hs_compare.proofs.Naming.{Among, among_in}
 

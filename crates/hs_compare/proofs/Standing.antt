@@ -1,20 +1,11 @@
 -- The records that come stand one for one with the entries, and each entry has the trace of its record.
 use Rattle.std.proofs.Common.{◌≡◌, ℕ, suc, ◌+◌, List, [], ◌∷◌, ◌++◌, length, refl, sym, ap, subst, ◌∙◌, Some, arith, map, option_map, slice_get, zip}
-use Rattle.std.specs.List.{AllByRecursion, flat_map, range_with_len}
-use Rattle.hs_lists.proofs.Alls.{all_each, all_flat_range, all_unmap}
+use Rattle.hs_compare.proofs.Prelude.{AllByRecursion, flat_map, range_with_len, all_each, all_flat_range, ClientId, PlainJournal, Entry, PlainWorkload, Record, records_of, operations_at, IsLawful, client_at, outcome_of, EachRecordHasOneEntry, Named, name_of, comings_of, all_comings, name_of_coming, EntriesStandByTheRecords}
+use Rattle.hs_lists.proofs.Alls.{all_unmap}
 use Rattle.hs_lists.proofs.Parts.{map_append}
-use Rattle.hs_base.specs.declared.ids.ClientId.{ClientId}
-use Rattle.hs_journal.specs.Views.{PlainJournal}
-use Rattle.hs_ledger.specs.declared.ledger.Entry.{Entry}
 use Rattle.hs_records.specs.Laws.{traces_of}
-use Rattle.hs_records.specs.Plain.{PlainWorkload}
-use Rattle.hs_records.specs.Records.{Record, records_of}
-use Rattle.hs_law_sends.specs.Sending.{operations_at}
-use Rattle.hs_law_journal.specs.Lawful.{IsLawful}
-use Rattle.hs_law_outcome.specs.Outcomes.{client_at, outcome_of}
-use Rattle.hs_law_outcome.specs.Records.{EndsItsTraces, EachRecordHasOneEntry, Named, named_from, client_records, all_records, name_of}
-use Rattle.hs_compare.specs.Coming.{Coming, comings_of, all_comings}
-use Rattle.hs_compare.specs.SamplerLaws.{name_of_coming, EntriesStandByTheRecords}
+use Rattle.hs_law_outcome.specs.Records.{EndsItsTraces, named_from, client_records, all_records}
+use Rattle.hs_compare.specs.Coming.{Coming}
 
 -- ---- one for one
 

@@ -1,19 +1,7 @@
 -- Entries that are parted are counted in three parts, beside the records that tail keeps.
 use Rattle.std.proofs.Common.{◌≡◌, ℕ, ◌+◌, Bool, List, [], ◌∷◌, length, refl, sym, ap, ◌∙◌, arith, map, filter, zip, count_by}
-use Rattle.std.specs.List.{AllByRecursion}
-use Rattle.std.proofs.lemmas.List.{length-map}
-use Rattle.std.proofs.lemmas.List.Sums.{sum_by-cons}
-use Rattle.hs_lists.proofs.Counts.{one_if, length_cons_if}
-use Rattle.hs_base.specs.declared.ids.TraceId.{TraceId}
-use Rattle.hs_base.specs.Ids.{is_among}
-use Rattle.hs_ledger.specs.declared.ledger.Entry.{Entry}
-use Rattle.hs_ledger.specs.Totals.{is_reported}
-use Rattle.hs_records.specs.Plain.{PlainWorkload}
-use Rattle.hs_law_outcome.specs.Outcomes.{outcome_of}
-use Rattle.hs_law_outcome.specs.Records.{Named, name_of}
-use Rattle.hs_compare.specs.Coming.{Coming, all_comings, named_in}
-use Rattle.hs_compare.specs.SamplerLaws.{name_of_coming, EntriesStandByTheRecords, IsParted, KeptIsParted, TailIsTheSum}
-use Rattle.hs_compare.specs.Lines.{is_gap, is_limited}
+use Rattle.hs_compare.proofs.Prelude.{AllByRecursion, length-map, sum_by-cons, one_if, length_cons_if, TraceId, is_among, Entry, is_reported, PlainWorkload, outcome_of, Named, name_of, all_comings, named_in, name_of_coming, EntriesStandByTheRecords, IsParted, KeptIsParted, TailIsTheSum, is_gap, is_limited}
+use Rattle.hs_compare.specs.Coming.{Coming}
 
 module _ (W : PlainWorkload) (claimed : List TraceId) where
   abbrev Reported : Entry → Bool

@@ -1,15 +1,9 @@
 -- What a ring tail is after a step.
 use Rattle.std.proofs.Common.{◌≡◌, ℕ, ◌+◌, ◌-◌, ◌≤◌, cond, ◌==◌, ◌||◌, Bool, true, false, List, [], ◌∷◌, ◌++◌, length, drop, filter, map, refl, sym, ap, ◌∙◌, arith}
-use Rattle.std.specs.Prelude.{not}
-use Rattle.std.proofs.lemmas.List.{length_push, drop-append-le}
+use Rattle.hs_compare.proofs.Prelude.{not, length_push, list_any-append, length_map, TraceId, RecordId, Noted, Ringing, is_noted_of, alive, ids_in, traces_in, last_noted, comes, names, queued, ids_of, AreQueued}
+use Rattle.std.proofs.lemmas.List.{drop-append-le}
 use Rattle.std.proofs.lemmas.List.Filters.{length-filter_both}
-use Rattle.std.proofs.lemmas.List.Folds.{list_any-append}
-use Rattle.hs_lists.proofs.Parts.{length_map}
-use Rattle.hs_base.specs.declared.ids.TraceId.{TraceId}
-use Rattle.hs_base.specs.declared.ids.RecordId.{RecordId}
-use Rattle.hs_compare.specs.declared.ring.Noted.{Noted}
-use Rattle.hs_compare.specs.Ringing.{Ringing, is_among, is_noted_of, alive, ids_in, traces_in, last_noted, comes, names}
-use Rattle.hs_compare.specs.Queues.{queued, ids_of, AreQueued}
+use Rattle.hs_compare.specs.Ringing.{is_among}
 use Rattle.hs_compare.proofs.Queued.{Entries, is_key, same_ids}
 
 abbrev pub ringing : ℕ → List Noted → List TraceId → List RecordId → List TraceId → Ringing

@@ -1,17 +1,6 @@
 -- Lines that leave out the named traces without a record are the lines of all.
 use Rattle.std.proofs.Common.{◌≡◌, ℕ, ◌≤◌, Bool, List, length, filter, ap, ap₂, ◌∙◌, arith}
-use Rattle.std.specs.Prelude.{count_by}
-use Rattle.hs_lists.proofs.Parts.{length_map}
-use Rattle.hs_base.specs.declared.ids.TraceId.{TraceId}
-use Rattle.hs_base.specs.declared.limits.TheConstants.{MAX_OPERATIONS}
-use Rattle.hs_ledger.specs.declared.ledger.Entry.{Entry}
-use Rattle.hs_compare.specs.Lines.{is_gap, is_limited}
-use Rattle.hs_compare.specs.declared.coming.Coming.{Coming}
-use Rattle.hs_compare.specs.declared.comparison.Comparison.{Comparison}
-use Rattle.hs_compare.specs.declared.lines.Line.{Line}
-use Rattle.hs_compare.specs.Comparing.{line_of_marked, line_of_sent, marks_of_head, marks_of_named, marks_of_reported, comparison_by}
-use Rattle.hs_compare.specs.Counting.{AreCounted, is_counted, times}
-use Rattle.hs_compare.specs.Marked.{marked, traces_of, bytes_in}
+use Rattle.hs_compare.proofs.Prelude.{count_by, length_map, TraceId, MAX_OPERATIONS, Entry, is_gap, is_limited, Coming, Comparison, Line, line_of_marked, line_of_sent, marks_of_head, marks_of_named, marks_of_reported, comparison_by, AreCounted, is_counted, times, marked, traces_of, bytes_in}
 use Rattle.hs_compare.proofs.Counted.{Counts, named_few, line_known}
 
 abbrev the_comparison : Line → Line → Line → Line → ℕ → ℕ → Comparison

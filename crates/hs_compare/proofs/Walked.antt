@@ -1,15 +1,9 @@
 -- Happenings that are taken in turn.
 use Rattle.std.proofs.Common.{◌≡◌, ℕ, suc, ◌+◌, ◌<◌, ◌≤◌, cond, ◌==◌, Bool, true, false, List, [], ◌∷◌, ◌++◌, length, get_or, drop, filter, refl, sym, ap, ◌∙◌, subst, arith, append_assoc, ⊎_elim}
-use Rattle.std.specs.List.{flat_map, range_with_len}
-use Rattle.std.proofs.Math.Seq.{drop-cons, get_or-append_seam}
+use Rattle.hs_compare.proofs.Prelude.{flat_map, range_with_len, drop-cons, eqb-true, eqb-false, ne_eqb, cases_lt, append-nil, length_push, flat_map-append, range_append, NumberedEvent, Script, AreInTurn, AreLeft, IsScript, events_in, events_of, both_of, events_from, run_of, rest_of}
+use Rattle.std.proofs.Math.Seq.{get_or-append_seam}
 use Rattle.std.proofs.Math.ListN.{drop_of_length-le}
-use Rattle.std.proofs.lemmas.Bool.{eqb-true, eqb-false, ne_eqb, cases_lt}
-use Rattle.std.proofs.lemmas.List.{append-nil, get_or_append_left, length_push}
-use Rattle.std.proofs.lemmas.List.Concat.{flat_map-append}
-use Rattle.hs_lists.proofs.Ranges.{range_append}
-use Rattle.hs_compare.specs.declared.happening.NumberedEvent.{NumberedEvent}
-use Rattle.hs_compare.specs.declared.script.Script.{Script}
-use Rattle.hs_compare.specs.Walking.{AreInTurn, AreLeft, IsScript, events_in, events_of, both_of, events_from, run_of, rest_of}
+use Rattle.std.proofs.lemmas.List.{get_or_append_left}
 
 -- what is of a later operation than n is not of n
 none_at : (n from : ℕ) (hs : List NumberedEvent) → AreInTurn from hs → n < from → events_of hs n ≡ []

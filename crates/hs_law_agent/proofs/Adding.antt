@@ -1,21 +1,7 @@
 -- What an event adds: its step to the log, and the page of the chunk that it takes. All else that an agent does lets these be.
 use Rattle.std.proofs.Common.{◌≡◌, ℕ, suc, Bool, true, false, cond, List, [], ◌∷◌, ◌++◌, refl, sym, ap, ◌∙◌, Option, Some, None, append-nil}
-use Rattle.std.specs.Option.{option_map_or}
-use Rattle.std.proofs.lemmas.List.{map-append}
-use Rattle.hs_base.specs.declared.told.Ask.{Ask}
-use Rattle.hs_base.specs.declared.told.Crumb.{Crumb}
-use Rattle.hs_base.specs.declared.told.Trigger.{Trigger}
-use Rattle.hs_journal.specs.declared.journal.Step.{Step}
-use Rattle.hs_records.specs.Plain.{PlainSettings}
-use Rattle.hs_words.specs.Pages.{Sheet}
-use Rattle.hs_law_agent.specs.Standings.{ChunkStanding, Taken, is_among, moved_from}
-use Rattle.hs_law_agent.specs.State.{AgentState, ClaimedTrace, GivenPlace, claim_of, is_abandoned}
-use Rattle.hs_law_agent.specs.Evicting.{evict}
-use Rattle.hs_law_agent.specs.Claiming.{traces_of, claim_each}
-use Rattle.hs_law_agent.specs.Messages.{has_crumb}
-use Rattle.hs_law_agent.specs.Stepping.{Input, Chunk, Crumbed, Triggered, Asked, Turn, Answered, Given, Missed, Unread, AgentEvent, Took, Gave, with_indexed, with_abandoned, with_pinned, pin_chunk, with_touched, tell_late, late_crumb, admits, group_of, claim_for, note_trigger, count_admitted, admit, take_input, give_back, take_answer, after_event}
-use Rattle.hs_law_agent.specs.Abandoning.{abandon}
-use Rattle.hs_law_agent.specs.Laws.{sheets_of, brought_by, noted_as, EventsAddThis}
+use Rattle.hs_law_agent.proofs.Prelude.{option_map_or, map-append, Ask, Crumb, Trigger, Step, PlainSettings, Sheet, ChunkStanding, Taken, is_among, moved_from, AgentState, ClaimedTrace, GivenPlace, claim_of, is_abandoned, evict, traces_of, claim_each, has_crumb, Input, Chunk, Crumbed, Triggered, Asked, Turn, Answered, Given, Missed, Unread, AgentEvent, Took, Gave, with_indexed, with_abandoned, with_pinned, pin_chunk, with_touched, tell_late, late_crumb, admits, group_of, claim_for, note_trigger, count_admitted, admit, take_input, give_back, take_answer, after_event, abandon, sheets_of, brought_by}
+use Rattle.hs_law_agent.specs.Laws.{noted_as, EventsAddThis}
 use Rattle.hs_law_agent.proofs.Traversal.{evict_loop, abandon_loop, visit_loop, claim_loop}
 
 moved_same : (from : ℕ) (places : List ℕ) (change : ChunkStanding → ChunkStanding) (taken : List Taken) → sheets_of (moved_from from places change taken) ≡ sheets_of taken

@@ -1,15 +1,8 @@
 -- A visit of one trigger id leaves what waits for another.
 use Rattle.std.proofs.Common.{◌≡◌, ℕ, zero, suc, ◌+◌, Bool, true, false, cond, not, List, [], ◌∷◌, take, map, refl, sym, ap, ◌∙◌, arith, true≢false}
-use Rattle.std.specs.Prelude.{filter}
-use Rattle.std.specs.List.{AllByRecursion}
-use Rattle.std.proofs.lemmas.Bool.{eqb-true, ne_eqb}
+use Rattle.hs_law_agent.proofs.Prelude.{filter, AllByRecursion, eqb-true, ne_eqb, filter_all, count_sent, ChunkStanding, Indexed, Pinned, Reported, Evicted, Abandoned, Taken, pinned_for, stands, is_among, moved_from, moved, AgentState, is_pinned_under, place_is_no_greater, put_before, by_priority, order_of, used_at, costs_of, reported_standing, report}
 use Rattle.hs_lists.proofs.Parts.{map_alike}
-use Rattle.hs_lists.proofs.Filters.{filter_all}
-use Rattle.hs_sched.specs.Visits.{count_sent}
 use Rattle.hs_words.specs.Chunks.{used_of}
-use Rattle.hs_law_agent.specs.Standings.{ChunkStanding, Indexed, Pinned, Reported, Evicted, Abandoned, Taken, pinned_for, stands, is_among, moved_from, moved}
-use Rattle.hs_law_agent.specs.State.{AgentState}
-use Rattle.hs_law_agent.specs.Turning.{is_pinned_under, place_is_no_greater, put_before, by_priority, order_of, used_at, costs_of, reported_standing, report}
 use Rattle.hs_law_agent.specs.Laws.{VisitsAreApart}
 use Rattle.hs_law_agent.proofs.Counts.{count-take, among_counted, passes_too, passes_moved_at}
 use Rattle.hs_law_agent.proofs.Placed.{count-by_priority}

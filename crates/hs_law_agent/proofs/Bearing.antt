@@ -1,26 +1,8 @@
 -- What an agent has to bear: chunks that are indexed or pinned, claims and admitted triggers. A chunk adds one to bear at most; all
 -- else adds none. Claims are only for the group that was admitted or asked for.
 use Rattle.std.proofs.Common.{◌≡◌, ℕ, suc, ◌+◌, ◌≤◌, Bool, true, false, ◌&&◌, cond, List, [], ◌∷◌, ◌++◌, length, refl, sym, ap, ◌∙◌, arith, Option, Some, None, filter, take, fold, slice_get, not, length-append}
-use Rattle.std.specs.Option.{option_map_or}
-use Rattle.hs_lists.proofs.Filters.{filter_few}
-use Rattle.hs_base.specs.declared.ids.TraceId.{TraceId}
-use Rattle.hs_base.specs.declared.told.Ask.{Ask}
-use Rattle.hs_base.specs.declared.told.Crumb.{Crumb}
-use Rattle.hs_base.specs.declared.told.Group.{Group}
-use Rattle.hs_base.specs.Ids.{same_trace}
-use Rattle.hs_records.specs.Plain.{PlainSettings}
-use Rattle.hs_words.specs.Pages.{Sheet}
-use Rattle.hs_law_agent.specs.Standings.{Indexed, Pinned, Evicted, Abandoned, Taken, is_indexed, is_indexed_of, is_pinned_for, is_among, indexed_count, indexed_places, places_from, moved_from, trace_of}
-use Rattle.hs_law_agent.specs.State.{AgentState, ClaimedTrace, claim_of, is_claimed, is_abandoned}
-use Rattle.hs_law_agent.specs.Evicting.{evict}
-use Rattle.hs_law_agent.specs.Claiming.{claim_trace, claim_unclaimed, traces_of, claim_each}
-use Rattle.hs_law_agent.specs.Abandoning.{abandon}
-use Rattle.hs_law_agent.specs.Turning.{order_of, costs_of, reported_standing, visit}
-use Rattle.hs_sched.specs.declared.share.Share.{Share}
-use Rattle.hs_sched.specs.Visits.{count_sent}
-use Rattle.hs_law_agent.specs.Messages.{has_crumb}
-use Rattle.hs_law_agent.specs.Stepping.{Input, Chunk, Crumbed, Triggered, Asked, Turn, Answered, Given, Missed, Unread, Took, with_indexed, with_abandoned, with_pinned, pin_chunk, with_touched, tell_late, late_crumb, admits, group_of, claim_for, note_trigger, count_admitted, admit, take_input, give_back, take_answer}
-use Rattle.hs_law_agent.specs.Laws.{borne, brought_by, claimed_by, admitted_by, shares_by, AllPass, IsPassed, EventsAddFew}
+use Rattle.hs_law_agent.proofs.Prelude.{option_map_or, filter_few, TraceId, Ask, Crumb, Group, same_trace, PlainSettings, Sheet, Indexed, Pinned, Evicted, Abandoned, Taken, is_indexed, is_indexed_of, is_pinned_for, is_among, indexed_count, indexed_places, places_from, moved_from, trace_of, AgentState, ClaimedTrace, claim_of, is_claimed, is_abandoned, evict, claim_trace, claim_unclaimed, traces_of, claim_each, abandon, order_of, costs_of, reported_standing, visit, Share, count_sent, has_crumb, Input, Chunk, Crumbed, Triggered, Asked, Turn, Answered, Given, Missed, Unread, Took, with_indexed, with_abandoned, with_pinned, pin_chunk, with_touched, tell_late, late_crumb, admits, group_of, claim_for, note_trigger, count_admitted, admit, take_input, give_back, take_answer, borne, brought_by}
+use Rattle.hs_law_agent.specs.Laws.{claimed_by, admitted_by, shares_by, AllPass, IsPassed, EventsAddFew}
 use Rattle.hs_law_agent.proofs.Traversal.{evict_loop, abandon_loop, visit_loop}
 use Rattle.hs_law_agent.proofs.Limits.{indexed_moved, indexed_more, reported_indexed}
 use Rattle.hs_law_agent.proofs.Claims.{among_places}

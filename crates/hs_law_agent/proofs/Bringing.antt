@@ -1,30 +1,8 @@
 -- Only a trigger or an ask makes claims, one for each of its traces that is not claimed yet. All other small steps leave the claims as they
 -- are, and a message is of the group that was claimed for, or of one that was claimed for before.
 use Rattle.std.proofs.Common.{◌≡◌, ℕ, Bool, true, false, cond, List, [], ◌∷◌, refl, sym, subst, Option, Some, None}
-use Rattle.std.specs.Prelude.{fold, nat_lt, length}
-use Rattle.std.specs.List.{AllByRecursion}
-use Rattle.std.specs.Option.{option_map_or, option_and_then}
-use Rattle.std.proofs.lemmas.Option.{same_Some}
-use Rattle.hs_lists.proofs.Alls.{all_append, all_append_option}
-use Rattle.hs_base.specs.declared.ids.TraceId.{TraceId}
-use Rattle.hs_base.specs.declared.told.Ask.{Ask}
-use Rattle.hs_base.specs.declared.told.Crumb.{Crumb}
-use Rattle.hs_base.specs.declared.told.Group.{Group}
-use Rattle.hs_base.specs.declared.told.Told.{Told}
-use Rattle.hs_base.specs.declared.told.Trigger.{Trigger}
-use Rattle.hs_base.specs.declared.told.Why.TheVariants.{Fired, Answer}
-use Rattle.hs_base.specs.Ids.{same_trace}
-use Rattle.hs_records.specs.Plain.{PlainSettings}
-use Rattle.hs_sched.specs.declared.share.Share.{Share}
-use Rattle.hs_words.specs.Pages.{Sheet}
-use Rattle.hs_law_agent.specs.Abandoning.{next_to_go, pinned_groups, abandon_group, abandon_within, abandon}
-use Rattle.hs_law_agent.specs.Claiming.{claim_trace, claim_unclaimed, traces_of, claim_each}
-use Rattle.hs_law_agent.specs.Evicting.{is_over, evict_trace, evict_from, evict}
-use Rattle.hs_law_agent.specs.Laws.{StepsSayWhatTheyTell}
-use Rattle.hs_law_agent.specs.Messages.{has_crumb, told_of, late_of}
-use Rattle.hs_law_agent.specs.State.{AgentState, ClaimedTrace, claim_of, is_claimed, is_abandoned}
-use Rattle.hs_law_agent.specs.Stepping.{Input, Chunk, Crumbed, Triggered, Asked, Turn, Answered, Given, Missed, Unread, Took, Gave, with_indexed, with_abandoned, with_pinned, pin_chunk, with_touched, tell_late, late_crumb, admits, group_of, claim_for, note_trigger, count_admitted, admit, told_by, take_input, take_answer, give_back}
-use Rattle.hs_law_agent.specs.Turning.{visit}
+use Rattle.hs_law_agent.proofs.Prelude.{fold, nat_lt, AllByRecursion, option_map_or, option_and_then, same_Some, all_append, all_append_option, TraceId, Ask, Crumb, Group, Told, Trigger, Fired, Answer, same_trace, PlainSettings, Share, Sheet, next_to_go, pinned_groups, abandon_group, abandon_within, abandon, claim_trace, claim_unclaimed, traces_of, claim_each, is_over, evict_trace, evict_from, evict, StepsSayWhatTheyTell, has_crumb, told_of, late_of, AgentState, ClaimedTrace, claim_of, is_claimed, is_abandoned, Input, Chunk, Crumbed, Triggered, Asked, Turn, Answered, Given, Missed, Unread, Took, Gave, with_indexed, with_abandoned, with_pinned, pin_chunk, with_touched, tell_late, late_crumb, admits, group_of, claim_for, note_trigger, count_admitted, admit, told_by, take_input, take_answer, give_back, visit}
+use Rattle.std.specs.Prelude.{length}
 use Rattle.hs_law_agent.specs.Bringing.{AllPass, IsClaimOf, TellsOf, BringsOnly, ClaimsAreOfWhatIsBrought}
 
 -- ---- the claims that small steps leave alone

@@ -1,26 +1,9 @@
 -- A trace is claimed once, and its chunks stand for the group that did.
 use Rattle.std.proofs.Common.{◌≡◌, ℕ, suc, ◌+◌, ◌≤◌, Bool, true, false, cond, List, [], ◌∷◌, ◌++◌, length, take, map, refl, sym, ap, ◌∙◌, arith, Some, subst, true≢false, append_assoc, append-nil}
-use Rattle.std.specs.Prelude.{◌&&◌, filter, slice_get}
-use Rattle.std.specs.Option.{option_map, option_map_or}
-use Rattle.std.specs.List.{AllByRecursion}
-use Rattle.std.proofs.lemmas.List.{map-append}
-use Rattle.hs_lists.proofs.Alls.{all_push}
-use Rattle.hs_lists.proofs.Counts.{one_if}
-use Rattle.hs_base.specs.declared.ids.TraceId.{TraceId}
-use Rattle.hs_base.specs.declared.told.Ask.{Ask}
-use Rattle.hs_base.specs.declared.told.Group.{Group}
-use Rattle.hs_base.specs.Ids.{same_trace}
-use Rattle.hs_records.specs.Plain.{PlainSettings}
-use Rattle.hs_sched.specs.Visits.{count_sent}
+use Rattle.hs_law_agent.proofs.Prelude.{filter, slice_get, option_map, option_map_or, AllByRecursion, map-append, all_push, one_if, TraceId, Ask, Group, same_trace, PlainSettings, count_sent, ChunkStanding, Indexed, Pinned, Reported, Evicted, Abandoned, Taken, trace_of, is_indexed, is_pinned_to, is_indexed_of, is_pinned_for, indexed_places, indexed_count, places_from, passes, is_among, moved_from, AgentState, ClaimedTrace, start, claim_of, is_claimed, evict_trace, claim_trace, abandon_group, order_of, costs_of, reported_standing, report, after, count_of, count_traces, claimed_traces, claiming_group, StandsByClaim}
+use Rattle.std.specs.Prelude.{◌&&◌}
 use Rattle.hs_pins.proofs.Order.{same_group-true}
-use Rattle.hs_law_agent.specs.Standings.{ChunkStanding, Indexed, Pinned, Reported, Evicted, Abandoned, Taken, trace_of, is_indexed, is_pinned_to, is_indexed_of, is_pinned_for, indexed_places, indexed_count, places_from, passes, is_among, moved_from}
-use Rattle.hs_law_agent.specs.State.{AgentState, ClaimedTrace, start, claim_of, is_claimed}
-use Rattle.hs_law_agent.specs.Evicting.{evict_trace}
-use Rattle.hs_law_agent.specs.Claiming.{claim_trace}
-use Rattle.hs_law_agent.specs.Abandoning.{abandon_group}
-use Rattle.hs_law_agent.specs.Turning.{order_of, costs_of, reported_standing, report}
-use Rattle.hs_law_agent.specs.Stepping.{after}
-use Rattle.hs_law_agent.specs.Laws.{count_of, count_traces, claimed_traces, claiming_group, StandsByClaim, AllStandByClaim, IsClaimedOrTouched, TracesAreClaimedOnce, ClaimsHoldForGood, ChunksStandByTheirClaim}
+use Rattle.hs_law_agent.specs.Laws.{AllStandByClaim, IsClaimedOrTouched, TracesAreClaimedOnce, ClaimsHoldForGood, ChunksStandByTheirClaim}
 use Rattle.hs_law_agent.proofs.Counts.{count-filter, among_counted, not_among_counted, places_counted_at}
 use Rattle.hs_law_agent.proofs.Traces.{same_trace-refl, same_trace-true, traces-append, traces-without, traces-touch, unclaimed-counted, claim_of-none, claiming-append, claiming-new, claimed-append, same_trace-sym}
 use Rattle.hs_law_agent.proofs.Traversal.{IsKept, kept_after, kept_from}

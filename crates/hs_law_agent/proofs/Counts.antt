@@ -1,10 +1,7 @@
 -- How often a place stands in a list, and what the chunks at places pass.
 use Rattle.std.proofs.Common.{◌≡◌, ℕ, zero, suc, ◌+◌, ◌<◌, ◌≤◌, Bool, true, false, cond, not, List, [], ◌∷◌, ◌++◌, length, take, refl, sym, ap, ◌∙◌, arith, inl, inr, length-append}
-use Rattle.std.specs.Prelude.{◌==◌, filter}
-use Rattle.std.proofs.lemmas.Bool.{cases_Bool, cases_order, true≢false, eqb-true, eq-eqb, ne_eqb, or_parts}
-use Rattle.hs_lists.proofs.Counts.{one_if}
-use Rattle.hs_law_agent.specs.Standings.{ChunkStanding, Taken, passes, is_among, places_from, moved_from, moved}
-use Rattle.hs_law_agent.specs.Laws.{count_of}
+use Rattle.hs_law_agent.proofs.Prelude.{◌==◌, filter, cases_Bool, true≢false, eqb-true, eq-eqb, ne_eqb, or_parts, one_if, ChunkStanding, Taken, passes, is_among, places_from, moved_from, moved, count_of}
+use Rattle.std.proofs.lemmas.Bool.{cases_order}
 
 pub count-append : (xs ys : List ℕ) (p : ℕ) → count_of (xs ++ ys) p ≡ count_of xs p + count_of ys p
 count-append [] ys p = omega arith

@@ -1,28 +1,11 @@
 -- What an agent remembers and tells of crumbs leads to the nodes to which crumbs led that it took.
 use Rattle.std.proofs.Common.{◌≡◌, ℕ, ◌<◌, Bool, true, false, ◌||◌, cond, List, [], ◌∷◌, ◌++◌, refl, sym, subst, ◌∙◌, Option, Some, None, eqb-true, nat_eq, fold, filter}
-use Rattle.std.specs.List.{AllByRecursion, list_any}
-use Rattle.std.specs.Option.{option_map_or, option_and_then}
-use Rattle.std.proofs.lemmas.Option.{same_Some}
-use Rattle.hs_lists.proofs.Alls.{all_append, all_filter, all_append_option}
+use Rattle.hs_law_agent.proofs.Prelude.{AllByRecursion, list_any, option_map_or, option_and_then, same_Some, all_append, all_filter, all_append_option, Ask, Crumb, Told, Trigger, Fired, Answer, same_trace, PlainSettings, Sheet, abandon, traces_of, claim_each, evict, has_crumb, told_of, late_of, AgentState, ClaimedTrace, claim_of, is_abandoned, Input, Chunk, Crumbed, Triggered, Asked, Turn, Answered, Given, Missed, Unread, Took, Gave, with_indexed, with_abandoned, with_pinned, pin_chunk, with_touched, tell_late, late_crumb, admits, group_of, claim_for, note_trigger, count_admitted, admit, told_by, take_input, take_answer, give_back}
 use Rattle.hs_base.specs.NodeSetLaws.{has-no_nodes, has-one_node, has-with_node}
 use Rattle.hs_base.specs.NodeSets.{has_node, no_nodes, with_node}
 use Rattle.hs_base.specs.declared.node_set.NodeSet.{NodeSet}
-use Rattle.hs_base.specs.declared.told.Ask.{Ask}
-use Rattle.hs_base.specs.declared.told.Crumb.{Crumb}
-use Rattle.hs_base.specs.declared.told.Told.{Told}
-use Rattle.hs_base.specs.declared.told.Trigger.{Trigger}
 use Rattle.hs_base.specs.declared.told.Why.{Why}
-use Rattle.hs_base.specs.declared.told.Why.TheVariants.{Fired, Answer}
-use Rattle.hs_base.specs.Ids.{same_trace}
-use Rattle.hs_records.specs.Plain.{PlainSettings}
-use Rattle.hs_words.specs.Pages.{Sheet}
-use Rattle.hs_law_agent.specs.Abandoning.{abandon}
-use Rattle.hs_law_agent.specs.Claiming.{traces_of, claim_each}
-use Rattle.hs_law_agent.specs.Evicting.{evict}
 use Rattle.hs_law_agent.specs.Leading.{IsToldBelow, BringsBelow, CrumbsLeadBelow}
-use Rattle.hs_law_agent.specs.Messages.{has_crumb, told_of, late_of}
-use Rattle.hs_law_agent.specs.State.{AgentState, ClaimedTrace, claim_of, is_abandoned}
-use Rattle.hs_law_agent.specs.Stepping.{Input, Chunk, Crumbed, Triggered, Asked, Turn, Answered, Given, Missed, Unread, Took, Gave, with_indexed, with_abandoned, with_pinned, pin_chunk, with_touched, tell_late, late_crumb, admits, group_of, claim_for, note_trigger, count_admitted, admit, told_by, take_input, take_answer, give_back}
 use Rattle.hs_law_agent.proofs.Saying.{steps_say_what_they_tell}
 use Rattle.hs_law_agent.proofs.Traversal.{evict_loop, abandon_loop, visit_loop, claim_loop}
 

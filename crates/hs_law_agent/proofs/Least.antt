@@ -1,21 +1,16 @@
 -- The group that is next to go.
 use Rattle.std.proofs.Common.{◌≡◌, ℕ, ◌<◌, Bool, true, false, cond, ◌||◌, List, [], ◌∷◌, map, refl, sym, ap, ◌∙◌, arith, inl, inr, Option, Some, None, subst, true≢false}
-use Rattle.std.specs.Prelude.{◌⊎◌, ◌==◌, filter}
-use Rattle.std.specs.List.{AllByRecursion, list_any}
-use Rattle.std.specs.Option.{option_map_or, option_and_then}
+use Rattle.hs_law_agent.proofs.Prelude.{◌⊎◌, ◌==◌, filter, AllByRecursion, list_any, option_map_or, option_and_then, is_le, tied_itself, eqb-true, eq-eqb, or_right, Group, same_group, MatchNextToGo}
 use Rattle.std.specs.Cmp.{IsTotalOrder}
 use Rattle.std.specs.declared.cmp.Ordering.{Ordering}
 use Rattle.std.specs.declared.cmp.Ordering.TheVariants.{Less, Equal, Greater}
-use Rattle.std.specs.Ordering.{nat_cmp, ordering_then, ordering_reverse, is_le, is_gt, MatchOrdering}
-use Rattle.std.proofs.lemmas.Cmp.{upto, tied_itself, nat_cmp_total, on_total, then_total, ranked}
-use Rattle.std.proofs.lemmas.Bool.{eqb-true, eq-eqb, or_right}
-use Rattle.hs_base.specs.declared.told.Group.{Group}
+use Rattle.std.specs.Ordering.{nat_cmp, ordering_then, ordering_reverse, is_gt, MatchOrdering}
+use Rattle.std.proofs.lemmas.Cmp.{upto, nat_cmp_total, on_total, then_total, ranked}
 use Rattle.hs_pins.specs.Priorities.{priority_of}
 use Rattle.hs_pins.proofs.Order.{same_group-refl}
 use Rattle.hs_pins.proofs.Choice.{id_order}
-use Rattle.hs_law_agent.specs.Standings.{same_group}
 use Rattle.hs_law_agent.specs.Abandoning.{least, count_of_id, id_cmp, fullest_id, group_cmp, is_no_greater, least_of_id}
-use Rattle.hs_law_agent.specs.Laws.{GoesBefore, MatchNextToGo, TheLeastGoes}
+use Rattle.hs_law_agent.specs.Laws.{GoesBefore, TheLeastGoes}
 
 -- ---- least elements
 

@@ -1,31 +1,9 @@
 -- After each event no more is indexed and pinned than may be.
 use Rattle.std.proofs.Common.{◌≡◌, ℕ, zero, suc, ◌+◌, ◌<◌, ◌≤◌, Bool, true, false, cond, not, ◌||◌, List, [], ◌∷◌, ◌++◌, length, take, refl, sym, ap, ◌∙◌, arith, inl, inr, Option, Some, None, subst, true≢false}
-use Rattle.std.specs.Prelude.{◌==◌, filter, filter_map, nat_lt}
-use Rattle.std.specs.Option.{option_map_or}
-use Rattle.std.specs.List.{AllByRecursion, list_any, cons_option}
-use Rattle.std.proofs.lemmas.Bool.{ltb-true, ltb-false, le-ltb, eq-eqb, or_parts, or_from, or_cases, or_left, or_right, and_cases}
-use Rattle.hs_lists.proofs.Alls.{all_push}
-use Rattle.hs_lists.proofs.Counts.{one_if}
-use Rattle.hs_lists.proofs.Filters.{filter_few}
-use Rattle.hs_base.specs.declared.ids.TraceId.{TraceId}
-use Rattle.hs_base.specs.declared.told.Ask.{Ask}
-use Rattle.hs_base.specs.declared.told.Crumb.{Crumb}
-use Rattle.hs_base.specs.declared.told.Group.{Group}
-use Rattle.hs_base.specs.declared.told.Trigger.{Trigger}
-use Rattle.hs_base.specs.Ids.{same_trace}
-use Rattle.hs_records.specs.Plain.{PlainSettings}
-use Rattle.hs_sched.specs.declared.share.Share.{Share}
-use Rattle.hs_sched.specs.Visits.{count_sent}
-use Rattle.hs_words.specs.Pages.{Sheet}
-use Rattle.hs_law_agent.specs.Standings.{ChunkStanding, Indexed, Pinned, Reported, Evicted, Abandoned, Taken, same_group, trace_of, is_indexed, is_pinned, is_pinned_to, is_indexed_of, is_pinned_for, indexed_places, indexed_count, pinned_for, pinning_group, stands, is_among, moved_from, moved}
-use Rattle.hs_law_agent.specs.State.{AgentState, ClaimedTrace, start, claim_of, is_abandoned, without_trace}
-use Rattle.hs_law_agent.specs.Evicting.{touch, is_over, evict_trace, evict_from, evict}
-use Rattle.hs_law_agent.specs.Claiming.{claim_trace, traces_of, claim_each}
-use Rattle.hs_law_agent.specs.Abandoning.{pinned_groups, next_to_go, abandon_group, abandon_within, abandon}
-use Rattle.hs_law_agent.specs.Turning.{order_of, costs_of, reported_standing, visit}
-use Rattle.hs_law_agent.specs.Messages.{has_crumb}
-use Rattle.hs_law_agent.specs.Stepping.{Input, Chunk, Crumbed, Triggered, Asked, Turn, Answered, Given, Missed, Unread, AgentEvent, Took, Gave, with_indexed, with_pinned, with_abandoned, pin_chunk, with_touched, tell_late, late_crumb, admits, group_of, claim_for, note_trigger, count_admitted, admit, take_input, give_back, take_answer, after_event, after_from}
-use Rattle.hs_law_agent.specs.Laws.{count_of, count_traces, PlacesMatch, IsNextToGo, MatchNextToGo, IsWithin, LimitsHold}
+use Rattle.hs_law_agent.proofs.Prelude.{◌==◌, filter, nat_lt, option_map_or, AllByRecursion, list_any, cons_option, ltb-true, ltb-false, eq-eqb, or_parts, or_cases, or_right, all_push, one_if, filter_few, TraceId, Ask, Crumb, Group, Trigger, same_trace, PlainSettings, Share, count_sent, Sheet, ChunkStanding, Indexed, Pinned, Reported, Evicted, Abandoned, Taken, same_group, trace_of, is_indexed, is_pinned, is_pinned_to, is_indexed_of, is_pinned_for, indexed_places, indexed_count, pinned_for, pinning_group, stands, is_among, moved_from, moved, AgentState, ClaimedTrace, start, claim_of, is_abandoned, without_trace, touch, is_over, evict_trace, evict_from, evict, claim_trace, traces_of, claim_each, pinned_groups, next_to_go, abandon_group, abandon_within, abandon, order_of, costs_of, reported_standing, visit, has_crumb, Input, Chunk, Crumbed, Triggered, Asked, Turn, Answered, Given, Missed, Unread, AgentEvent, Took, Gave, with_indexed, with_pinned, with_abandoned, pin_chunk, with_touched, tell_late, late_crumb, admits, group_of, claim_for, note_trigger, count_admitted, admit, take_input, give_back, take_answer, after_event, after_from, count_of, count_traces, PlacesMatch, MatchNextToGo}
+use Rattle.std.specs.Prelude.{filter_map}
+use Rattle.std.proofs.lemmas.Bool.{le-ltb, or_from, or_left, and_cases}
+use Rattle.hs_law_agent.specs.Laws.{IsNextToGo, IsWithin, LimitsHold}
 use Rattle.hs_law_agent.proofs.Counts.{counted_one}
 use Rattle.hs_law_agent.proofs.Traces.{same_trace-refl, same_trace-sym, traces-without, traces-touch}
 use Rattle.hs_law_agent.proofs.Traversal.{IsKept, evict_loop, abandon_loop, visit_loop, claim_loop, kept_claims, kept_event}

@@ -1,12 +1,7 @@
 -- Pages at rising places rise client by client, where all pages do.
 use Rattle.std.proofs.Common.{◌≡◌, ℕ, zero, suc, ◌<◌, List, [], ◌∷◌, refl, arith, Option, Some, None, subst}
-use Rattle.std.specs.Prelude.{slice_get}
-use Rattle.std.specs.Option.{option_map}
-use Rattle.std.specs.List.{AllByRecursion, cons_option}
-use Rattle.hs_words.specs.Pages.{Sheet}
-use Rattle.hs_law_agent.specs.Standings.{Taken}
-use Rattle.hs_law_agent.specs.Stepping.{after}
-use Rattle.hs_law_agent.specs.Laws.{AreRising, PagesRise, sheets_at, sheets_of, reported_of, ClientsPagesRise}
+use Rattle.hs_law_agent.proofs.Prelude.{slice_get, option_map, AllByRecursion, cons_option, Sheet, Taken, after, AreRising, sheets_of}
+use Rattle.hs_law_agent.specs.Laws.{PagesRise, sheets_at, reported_of, ClientsPagesRise}
 use Rattle.hs_law_agent.proofs.Ordered.{reported_in_order}
 
 abbrev sheet_at : List Taken → ℕ → Option Sheet

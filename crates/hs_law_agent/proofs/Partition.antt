@@ -1,11 +1,7 @@
 -- Each chunk is indexed, pinned or let go, and only one of these.
 use Rattle.std.proofs.Common.{◌≡◌, ℕ, zero, suc, ◌+◌, true, false, List, [], ◌∷◌, ◌++◌, refl, sym, arith, inl, inr, true≢false}
-use Rattle.std.specs.Prelude.{◌⊎◌}
-use Rattle.hs_lists.proofs.Counts.{one_if}
-use Rattle.hs_law_agent.specs.Standings.{ChunkStanding, Indexed, Pinned, Reported, Evicted, Abandoned, Taken, is_indexed, is_pinned, is_let_go, stands}
-use Rattle.hs_law_agent.specs.State.{AgentState}
-use Rattle.hs_law_agent.specs.Stepping.{after}
-use Rattle.hs_law_agent.specs.Laws.{count_of, given_places, PlacesMatch, ListsHaveTheirChunks, IsInOnePlace, StandingsPartition, IsHeld, HeldChunksAreInNoHand}
+use Rattle.hs_law_agent.proofs.Prelude.{◌⊎◌, one_if, ChunkStanding, Indexed, Pinned, Reported, Evicted, Abandoned, Taken, is_indexed, is_pinned, is_let_go, stands, AgentState, after, count_of, given_places, PlacesMatch}
+use Rattle.hs_law_agent.specs.Laws.{ListsHaveTheirChunks, IsInOnePlace, StandingsPartition, IsHeld, HeldChunksAreInNoHand}
 use Rattle.hs_law_agent.proofs.Counts.{count-append, passes_too}
 use Rattle.hs_law_agent.proofs.Traversal.{kept_after}
 use Rattle.hs_law_agent.proofs.Placed.{match_kept, match_start}

@@ -1,17 +1,10 @@
 -- A turn reports a chunk where it can: one that is pinned for a trigger id with a share whose budget pays for it.
 use Rattle.std.proofs.Common.{◌≡◌, ℕ, zero, suc, ◌+◌, ◌<◌, ◌≤◌, Bool, true, false, cond, not, List, [], ◌∷◌, length, refl, sym, ap, subst, ◌∙◌, arith, Some, None, map, filter, take, fold, slice_get, eqb, eqb-true, eq-eqb, leb, le-leb}
-use Rattle.std.specs.Prelude.{◌||◌}
-use Rattle.std.specs.List.{AllByRecursion, prefix_len, scan}
-use Rattle.hs_lists.proofs.Counts.{one_if}
-use Rattle.hs_lists.proofs.Filters.{filter_few}
+use Rattle.hs_law_agent.proofs.Prelude.{◌||◌, AllByRecursion, one_if, filter_few, PlainSettings, Share, count_sent, is_among, stands, AgentState, is_pinned_under, order_of, used_at, costs_of, reported_standing, report, visit, count_of, borne}
+use Rattle.std.specs.List.{prefix_len, scan}
 use Rattle.hs_records.specs.Fronts.{count_within}
-use Rattle.hs_records.specs.Plain.{PlainSettings}
-use Rattle.hs_sched.specs.declared.share.Share.{Share}
-use Rattle.hs_sched.specs.Visits.{budget_of, count_sent}
-use Rattle.hs_law_agent.specs.Standings.{is_among, stands}
-use Rattle.hs_law_agent.specs.State.{AgentState}
-use Rattle.hs_law_agent.specs.Turning.{is_pinned_under, order_of, used_at, costs_of, reported_standing, report, visit}
-use Rattle.hs_law_agent.specs.Laws.{count_of, borne, TurnsReport}
+use Rattle.hs_sched.specs.Visits.{budget_of}
+use Rattle.hs_law_agent.specs.Laws.{TurnsReport}
 use Rattle.hs_law_agent.proofs.Apart.{visits_are_apart}
 use Rattle.hs_law_agent.proofs.Limits.{indexed_moved, reported_indexed}
 use Rattle.hs_law_agent.proofs.Placed.{count-by_priority, count-order}

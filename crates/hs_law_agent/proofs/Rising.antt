@@ -1,12 +1,7 @@
 -- Lists of places that rise, and filters of them.
 use Rattle.std.proofs.Common.{◌≡◌, ℕ, suc, ◌+◌, ◌<◌, ◌≤◌, Bool, true, false, cond, not, List, [], ◌∷◌, ◌++◌, take, drop, refl, sym, ap, ◌∙◌, arith, inl, inr, take-append-drop}
-use Rattle.std.specs.Prelude.{◌⊎◌, ◌==◌, filter}
-use Rattle.std.specs.List.{AllByRecursion}
-use Rattle.std.proofs.lemmas.Bool.{cases_Bool, eq-eqb}
-use Rattle.hs_lists.proofs.Filters.{filter_none, filter_all}
-use Rattle.hs_lists.proofs.Alls.{all_filter, all_front, all_push}
-use Rattle.hs_law_agent.specs.Standings.{Taken, is_among, places_from}
-use Rattle.hs_law_agent.specs.Laws.{count_of, AreRising}
+use Rattle.hs_law_agent.proofs.Prelude.{◌⊎◌, ◌==◌, filter, AllByRecursion, cases_Bool, eq-eqb, filter_none, filter_all, all_filter, all_push, Taken, is_among, places_from, count_of, AreRising}
+use Rattle.hs_lists.proofs.Alls.{all_front}
 use Rattle.hs_law_agent.proofs.Counts.{count-append, count-filter, among_counted}
 
 -- ---- filters

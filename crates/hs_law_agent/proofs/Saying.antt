@@ -1,20 +1,8 @@
 -- An input adds its message to those that were said, or none.
 use Rattle.std.proofs.Common.{◌≡◌, ℕ, Bool, true, false, cond, List, [], ◌∷◌, ◌++◌, refl, sym, ap, ◌∙◌, Option, Some, None, append-nil}
-use Rattle.std.specs.Option.{option_map_or, option_and_then, option_to_list}
-use Rattle.hs_base.specs.declared.told.Ask.{Ask}
-use Rattle.hs_base.specs.declared.told.Crumb.{Crumb}
-use Rattle.hs_base.specs.declared.told.Told.{Told}
-use Rattle.hs_base.specs.declared.told.Trigger.{Trigger}
-use Rattle.hs_base.specs.declared.told.Why.TheVariants.{Fired}
-use Rattle.hs_records.specs.Plain.{PlainSettings}
-use Rattle.hs_words.specs.Pages.{Sheet}
-use Rattle.hs_law_agent.specs.State.{AgentState, ClaimedTrace, claim_of, is_abandoned}
-use Rattle.hs_law_agent.specs.Evicting.{evict}
-use Rattle.hs_law_agent.specs.Claiming.{traces_of, claim_each}
-use Rattle.hs_law_agent.specs.Messages.{has_crumb, told_of, late_of}
-use Rattle.hs_law_agent.specs.Stepping.{Input, Chunk, Crumbed, Triggered, Asked, Turn, Answered, Given, Missed, Unread, with_indexed, with_abandoned, with_pinned, pin_chunk, with_touched, tell_late, late_crumb, admits, group_of, claim_for, note_trigger, count_admitted, admit, told_by, after_step, after_gave, give_back}
-use Rattle.hs_law_agent.specs.Abandoning.{abandon}
-use Rattle.hs_law_agent.specs.Laws.{StepsSayWhatTheyTell}
+use Rattle.hs_law_agent.proofs.Prelude.{option_map_or, option_and_then, Ask, Crumb, Told, Trigger, Fired, PlainSettings, Sheet, AgentState, ClaimedTrace, claim_of, is_abandoned, evict, traces_of, claim_each, has_crumb, told_of, late_of, Input, Chunk, Crumbed, Triggered, Asked, Turn, Answered, Given, Missed, Unread, with_indexed, with_abandoned, with_pinned, pin_chunk, with_touched, tell_late, late_crumb, admits, group_of, claim_for, note_trigger, count_admitted, admit, told_by, give_back, abandon, StepsSayWhatTheyTell}
+use Rattle.std.specs.Option.{option_to_list}
+use Rattle.hs_law_agent.specs.Stepping.{after_step, after_gave}
 use Rattle.hs_law_agent.proofs.Traversal.{evict_loop, abandon_loop, visit_loop, claim_loop}
 
 -- the messages are these

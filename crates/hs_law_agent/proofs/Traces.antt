@@ -1,13 +1,6 @@
 -- How often a trace stands in a list, and the claims of traces.
 use Rattle.std.proofs.Common.{◌≡◌, ℕ, ◌+◌, ◌≤◌, Bool, true, false, cond, not, ◌||◌, List, [], ◌∷◌, ◌++◌, map, refl, sym, ap, ◌∙◌, arith, Some, None, subst, true≢false}
-use Rattle.std.specs.Option.{option_map}
-use Rattle.std.proofs.lemmas.Bool.{eqb-true, eq-eqb, or_parts}
-use Rattle.hs_base.specs.declared.ids.TraceId.{TraceId}
-use Rattle.hs_base.specs.declared.told.Group.{Group}
-use Rattle.hs_base.specs.Ids.{same_trace}
-use Rattle.hs_law_agent.specs.State.{ClaimedTrace, claim_of, is_claimed, without_trace}
-use Rattle.hs_law_agent.specs.Evicting.{touch}
-use Rattle.hs_law_agent.specs.Laws.{count_traces, claiming_group}
+use Rattle.hs_law_agent.proofs.Prelude.{option_map, eqb-true, eq-eqb, or_parts, TraceId, Group, same_trace, ClaimedTrace, claim_of, is_claimed, without_trace, touch, count_traces, claiming_group}
 
 pub same_trace-refl : (t : TraceId) → same_trace t t ≡ true
 same_trace-refl t = eq-eqb t.0 t.0 refl

@@ -1,24 +1,9 @@
 -- What every small step keeps holds after any events.
 use Rattle.std.proofs.Common.{◌≡◌, ℕ, Bool, true, false, cond, List, [], ◌∷◌, length, refl, Option, Some, None}
-use Rattle.std.specs.Prelude.{fold, nat_lt}
-use Rattle.std.specs.Option.{option_map_or}
-use Rattle.hs_base.specs.declared.ids.TraceId.{TraceId}
-use Rattle.hs_base.specs.declared.told.Ask.{Ask}
-use Rattle.hs_base.specs.declared.told.Crumb.{Crumb}
-use Rattle.hs_base.specs.declared.told.Group.{Group}
-use Rattle.hs_base.specs.declared.told.Told.{Told}
-use Rattle.hs_base.specs.declared.told.Trigger.{Trigger}
-use Rattle.hs_journal.specs.declared.journal.Step.{Step}
-use Rattle.hs_records.specs.Plain.{PlainSettings}
-use Rattle.hs_sched.specs.declared.share.Share.{Share}
-use Rattle.hs_words.specs.Pages.{Sheet}
-use Rattle.hs_law_agent.specs.State.{AgentState, ClaimedTrace, start, claim_of, is_claimed, is_abandoned}
-use Rattle.hs_law_agent.specs.Evicting.{is_over, evict_trace, evict_from, evict}
-use Rattle.hs_law_agent.specs.Claiming.{claim_trace, claim_unclaimed, traces_of, claim_each}
-use Rattle.hs_law_agent.specs.Abandoning.{pinned_groups, next_to_go, abandon_group, abandon_within, abandon}
-use Rattle.hs_law_agent.specs.Turning.{visit, with_shares, shares_after}
-use Rattle.hs_law_agent.specs.Messages.{has_crumb, say, told_of}
-use Rattle.hs_law_agent.specs.Stepping.{Input, Chunk, Crumbed, Triggered, Asked, Turn, Answered, Given, Missed, Unread, AgentEvent, Took, Gave, with_indexed, with_pinned, with_abandoned, pin_chunk, with_touched, tell_late, late_crumb, admits, group_of, claim_for, note_trigger, count_admitted, admit, take_trigger, note, take_input, give_place, give_back, take_answer, after_event, after_from, after}
+use Rattle.hs_law_agent.proofs.Prelude.{fold, nat_lt, option_map_or, TraceId, Ask, Crumb, Group, Told, Trigger, Step, PlainSettings, Share, Sheet, AgentState, ClaimedTrace, start, claim_of, is_claimed, is_abandoned, is_over, evict_trace, evict_from, evict, claim_trace, claim_unclaimed, traces_of, claim_each, pinned_groups, next_to_go, abandon_group, abandon_within, abandon, visit, has_crumb, told_of, Input, Chunk, Crumbed, Triggered, Asked, Turn, Answered, Given, Missed, Unread, AgentEvent, Took, Gave, with_indexed, with_pinned, with_abandoned, pin_chunk, with_touched, tell_late, late_crumb, admits, group_of, claim_for, note_trigger, count_admitted, admit, take_input, give_place, give_back, take_answer, after_event, after_from, after}
+use Rattle.hs_law_agent.specs.Turning.{with_shares, shares_after}
+use Rattle.hs_law_agent.specs.Messages.{say}
+use Rattle.hs_law_agent.specs.Stepping.{take_trigger, note}
 
 -- What is kept by each small step of a node's agent.
 pub record IsKept (settings : PlainSettings) (node : ℕ) (P : AgentState → Type 0) : Type 0 where

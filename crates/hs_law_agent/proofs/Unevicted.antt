@@ -1,17 +1,9 @@
 -- No chunk of a claimed trace is evicted.
 use Rattle.std.proofs.Common.{◌≡◌, ℕ, ◌+◌, ◌<◌, ◌≤◌, Bool, true, false, cond, List, [], ◌∷◌, ◌++◌, length, take, filter, refl, sym, ap, ◌∙◌, arith, inl, inr, subst, true≢false}
+use Rattle.hs_law_agent.proofs.Prelude.{one_if, TraceId, same_trace, PlainSettings, count_sent, ChunkStanding, Pinned, Evicted, Abandoned, Taken, trace_of, is_indexed, is_pinned, is_indexed_of, is_of_trace, is_pinned_for, indexed_places, passes, stands, is_among, moved, AgentState, is_claimed, evict_trace, order_of, costs_of, reported_standing, after, count_of, count_traces, claimed_traces, PlacesMatch}
 use Rattle.std.proofs.lemmas.Bool.{cases_lt, and_right}
-use Rattle.hs_lists.proofs.Counts.{one_if}
-use Rattle.hs_base.specs.declared.ids.TraceId.{TraceId}
-use Rattle.hs_base.specs.Ids.{same_trace}
-use Rattle.hs_records.specs.Plain.{PlainSettings}
-use Rattle.hs_sched.specs.Visits.{count_sent}
-use Rattle.hs_law_agent.specs.Standings.{ChunkStanding, Pinned, Evicted, Abandoned, Taken, trace_of, is_indexed, is_pinned, is_evicted, is_indexed_of, is_of_trace, is_pinned_for, indexed_places, passes, stands, is_among, moved}
-use Rattle.hs_law_agent.specs.State.{AgentState, is_claimed}
-use Rattle.hs_law_agent.specs.Evicting.{evict_trace}
-use Rattle.hs_law_agent.specs.Turning.{order_of, costs_of, reported_standing}
-use Rattle.hs_law_agent.specs.Stepping.{after}
-use Rattle.hs_law_agent.specs.Laws.{count_of, count_traces, claimed_traces, PlacesMatch, NothingClaimedIsEvicted}
+use Rattle.hs_law_agent.specs.Standings.{is_evicted}
+use Rattle.hs_law_agent.specs.Laws.{NothingClaimedIsEvicted}
 use Rattle.hs_law_agent.proofs.Counts.{among_counted, passes_too, passes_moved_at, passes_before, passes_past, places_counted_at, count-filter-le}
 use Rattle.hs_law_agent.proofs.Traces.{same_trace-refl, same_trace-true, claimed-counted, claimed-stays}
 use Rattle.hs_law_agent.proofs.Traversal.{IsKept, kept_event}

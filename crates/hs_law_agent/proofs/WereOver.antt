@@ -1,12 +1,7 @@
 -- What was evicted was so where more was indexed than may stay: an eviction begins with that, and no other change evicts.
 use Rattle.std.proofs.Common.{◌≡◌, ◌⊎◌, inl, inr, ℕ, suc, ◌<◌, Bool, true, false, ◌||◌, cond, List, [], ◌∷◌, ◌++◌, length}
-use Rattle.std.specs.Prelude.{nat_lt}
-use Rattle.std.proofs.lemmas.Bool.{ltb-true, or_cases}
-use Rattle.hs_records.specs.Plain.{PlainSettings}
+use Rattle.hs_law_agent.proofs.Prelude.{nat_lt, ltb-true, or_cases, PlainSettings, ChunkStanding, Indexed, Pinned, Reported, Evicted, Abandoned, Taken, indexed_count, is_among, moved_from, AgentState, reported_standing}
 use Rattle.hs_law_agent.specs.Laws.{WasOver, AllWereOver, EvictedWereOver}
-use Rattle.hs_law_agent.specs.Standings.{ChunkStanding, Indexed, Pinned, Reported, Evicted, Abandoned, Taken, indexed_count, is_among, moved_from}
-use Rattle.hs_law_agent.specs.State.{AgentState}
-use Rattle.hs_law_agent.specs.Turning.{reported_standing}
 use Rattle.hs_law_agent.proofs.Traversal.{IsKept, kept_after}
 
 module _ (settings : PlainSettings) where

@@ -1,16 +1,7 @@
 -- Evictions and abandonment go on while there is too much, and no longer.
 use Rattle.std.proofs.Common.{◌≡◌, ℕ, ◌+◌, ◌<◌, ◌≤◌, Bool, true, false, cond, List, [], ◌∷◌, ◌++◌, length, refl, ap, arith, Option, Some, None}
-use Rattle.std.specs.Prelude.{nat_lt}
-use Rattle.std.specs.Option.{option_map_or}
-use Rattle.std.proofs.lemmas.Bool.{ltb-true, ltb-false}
-use Rattle.hs_base.specs.declared.ids.TraceId.{TraceId}
-use Rattle.hs_base.specs.declared.told.Group.{Group}
-use Rattle.hs_records.specs.Plain.{PlainSettings}
-use Rattle.hs_law_agent.specs.State.{AgentState, start}
-use Rattle.hs_law_agent.specs.Evicting.{is_over, evict_trace, evict_from}
-use Rattle.hs_law_agent.specs.Abandoning.{pinned_groups, next_to_go, abandon_group, abandon_within}
-use Rattle.hs_law_agent.specs.Stepping.{AgentEvent, after_event, after_from}
-use Rattle.hs_law_agent.specs.Laws.{PlacesMatch, MatchNextToGo, IndexedAreTouched, Evicts, Stays, Goes, EvictsWhileOver, Abandons, Remains, Leaves, AbandonsWhileOver, IndexedStayTouched, EventsGoOn}
+use Rattle.hs_law_agent.proofs.Prelude.{nat_lt, option_map_or, ltb-true, ltb-false, TraceId, Group, PlainSettings, AgentState, start, is_over, evict_trace, evict_from, pinned_groups, next_to_go, abandon_group, abandon_within, AgentEvent, after_event, after_from, PlacesMatch, MatchNextToGo}
+use Rattle.hs_law_agent.specs.Laws.{IndexedAreTouched, Evicts, Stays, Goes, EvictsWhileOver, Abandons, Remains, Leaves, AbandonsWhileOver, IndexedStayTouched, EventsGoOn}
 use Rattle.hs_law_agent.proofs.Traversal.{kept_after}
 use Rattle.hs_law_agent.proofs.Placed.{match_kept}
 use Rattle.hs_law_agent.proofs.Least.{the_least_goes}

@@ -1,13 +1,8 @@
 -- No clause fails exactly where each of them holds.
 use Rattle.std.proofs.Common.{◌≡◌, ℕ, Bool, true, false, cond, List, [], ◌∷◌, refl, Option, Some, None}
-use Rattle.std.specs.Prelude.{not, find, option_map, reverse}
-use Rattle.std.specs.List.{AllByRecursion, list_all}
-use Rattle.std.specs.Cmp.Derive.{both_true}
-use Rattle.std.proofs.lemmas.Bool.{and_parts}
-use Rattle.hs_journal.specs.Views.{PlainJournal}
-use Rattle.hs_records.specs.Plain.{PlainWorkload}
+use Rattle.hs_law_journal.proofs.Prelude.{option_map, reverse, AllByRecursion, list_all, both_true, and_parts, PlainJournal, PlainWorkload, NodeRun, followed}
+use Rattle.std.specs.Prelude.{not, find}
 use Rattle.hs_words.specs.PoolHistory.{IsPoolHistory}
-use Rattle.hs_law_journal.specs.Following.{NodeRun, followed}
 use Rattle.hs_law_journal.specs.Lawful.{IsLawful, Clause, clauses}
 use Rattle.hs_law_journal.specs.Laws.{LawfulIsDecided}
 use Rattle.hs_law_journal.specs.Played.{Played, played}

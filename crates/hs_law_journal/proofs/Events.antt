@@ -1,15 +1,8 @@
 -- Each agent of a journal that is followed stands as its events lead to: step by step.
 use Rattle.std.proofs.Common.{ℕ, zero, suc, List, [], ◌∷◌, ◌++◌, refl, sym, ap, ◌∙◌, Option, Some, None}
-use Rattle.std.specs.Prelude.{map, option_map}
-use Rattle.std.specs.List.{AllByRecursion, range_with_len}
-use Rattle.hs_base.specs.declared.ids.NodeId.{NodeId}
-use Rattle.hs_coord.specs.Following.{Message, Messages}
-use Rattle.hs_journal.specs.declared.journal.Step.{Step}
-use Rattle.hs_journal.specs.Views.{PlainJournal}
+use Rattle.hs_law_journal.proofs.Prelude.{option_map, AllByRecursion, range_with_len, NodeId, Message, Messages, Step, PlainJournal, AgentEvent, after_event, PlainSettings, PlainWorkload, NodeRun, Run, node_start, run_start, event_of, perform, step_of, step_node, step_lowest, message_of, hear, step_run, follow, step_count}
+use Rattle.std.specs.Prelude.{map}
 use Rattle.hs_law_agent.specs.Laws.{EventsGoOn}
-use Rattle.hs_law_agent.specs.Stepping.{AgentEvent, after_event}
-use Rattle.hs_records.specs.Plain.{PlainSettings, PlainWorkload}
-use Rattle.hs_law_journal.specs.Following.{NodeRun, Run, node_start, run_start, event_of, perform, step_of, step_node, step_lowest, message_of, hear, step_run, follow, step_count}
 use Rattle.hs_law_journal.specs.Laws.{ComesByEvents, AgentsComeByEvents}
 
 -- what is there has the property

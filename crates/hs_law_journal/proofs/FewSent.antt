@@ -1,19 +1,8 @@
 -- An operation sends one crumb or one trigger at most.
 use Rattle.std.proofs.Common.{◌≡◌, ℕ, ◌+◌, ◌≤◌, List, [], ◌∷◌, length, Option, Some, None, arith, map, slice_get, length-append}
-use Rattle.std.specs.List.{flat_map}
-use Rattle.std.specs.Option.{option_map_or}
-use Rattle.std.proofs.lemmas.List.{length-map}
-use Rattle.hs_base.specs.declared.ids.TraceId.{TraceId}
-use Rattle.hs_base.specs.declared.settings.AutoRule.{AutoRule}
-use Rattle.hs_records.specs.Plain.{Operation, Begin, Point, End, Fire, Sample}
+use Rattle.hs_law_journal.proofs.Prelude.{flat_map, option_map_or, length-map, TraceId, AutoRule, Operation, Begin, Point, End, Fire, Sample, NumberedOperation, numbered_from, open_behind, sampled, Sampled, Crumb, Trigger, Sent, crumb_in, trigger_of, samples_of, trigger_in, triggers_behind}
 use Rattle.hs_records.specs.Plain as plain
-use Rattle.hs_records.specs.Records.{NumberedOperation, numbered_from, open_behind}
-use Rattle.hs_auto.specs.Firing.{sampled}
-use Rattle.hs_auto.specs.declared.sampled.Sampled.{Sampled}
 use Rattle.hs_auto.specs.declared.sampled.Sampled.TheVariants as answers
-use Rattle.hs_base.specs.declared.told.Crumb.{Crumb}
-use Rattle.hs_base.specs.declared.told.Trigger.{Trigger}
-use Rattle.hs_law_sends.specs.Sending.{Sent, crumb_in, trigger_of, samples_of, trigger_in, triggers_behind}
 
 trigger_few : (moment : ℕ) (rule : AutoRule) (trace : TraceId) (answer : Sampled) → length (trigger_of moment rule trace answer) ≤ 1
 trigger_few moment rule trace answers.Quiet = omega arith

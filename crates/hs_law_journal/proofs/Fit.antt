@@ -1,38 +1,13 @@
 -- What an agent takes on its way may be taken: chunks are their clients' own, and crumbs, triggers and asks name nodes and trigger ids of
 -- the workload.
 use Rattle.std.proofs.Common.{◌≡◌, ℕ, zero, suc, ◌+◌, ◌<◌, ◌^◌, Bool, true, false, cond, List, [], ◌∷◌, refl, sym, ap, subst, ◌∙◌, Option, Some, None, arith, map, filter, option_map, slice_get, unwrap_or}
-use Rattle.std.specs.List.{AllByRecursion, flat_map, range_with_len}
-use Rattle.std.specs.Option.{option_and_then, option_map_or}
+use Rattle.hs_law_journal.proofs.Prelude.{AllByRecursion, flat_map, range_with_len, option_and_then, option_map_or, same_Some, option_unmap, all_append, all_at, sampled, Sampled, is_declared, ClientId, TraceId, AutoRule, Ask, Crumb, Trigger, Messages, Draw, PlainJournal, Step, AgentState, AgentEvent, Took, Gave, Answered, Given, Missed, Unread, Chunk, Crumbed, Triggered, Asked, Turn, Operation, PlainSettings, PlainWorkload, NumberedOperation, numbered_from, open_behind, DrawnPage, has_buffer, drawn_from, Sent, ClientSends, sheet_of, sent_chunks, crumb_in, samples_of, trigger_of, trigger_in, triggers_behind, client_sends, node_sends, draws_at, operations_at, place_of, TimedPage, timed_pages, Sheet, IsValid, Queue, Chunks, Crumbs, Triggers, Asks, taken, asks_to, NodeRun, next_of, event_of}
 use Rattle.std.proofs.lemmas.List.Elements.{recursion_from_All}
-use Rattle.std.proofs.lemmas.Option.{same_Some}
-use Rattle.hs_lists.proofs.Options.{option_unmap}
-use Rattle.hs_lists.proofs.Alls.{all_append, all_at}
-use Rattle.hs_auto.specs.Firing.{sampled}
-use Rattle.hs_auto.specs.declared.sampled.Sampled.{Sampled}
 use Rattle.hs_auto.specs.declared.sampled.Sampled.TheVariants as answers
-use Rattle.hs_base.specs.Rules.{is_declared, fired_by}
-use Rattle.hs_base.specs.declared.ids.ClientId.{ClientId}
-use Rattle.hs_base.specs.declared.ids.TraceId.{TraceId}
-use Rattle.hs_base.specs.declared.settings.AutoRule.{AutoRule}
-use Rattle.hs_base.specs.declared.told.Ask.{Ask}
-use Rattle.hs_base.specs.declared.told.Crumb.{Crumb}
-use Rattle.hs_base.specs.declared.told.Trigger.{Trigger}
-use Rattle.hs_coord.specs.Following.{Messages}
-use Rattle.hs_journal.specs.declared.journal.Draw.{Draw}
-use Rattle.hs_journal.specs.Views.{PlainJournal}
-use Rattle.hs_journal.specs.declared.journal.Step.{Step}
+use Rattle.hs_base.specs.Rules.{fired_by}
 use Rattle.hs_journal.specs.declared.journal.Step.TheVariants as steps
-use Rattle.hs_law_agent.specs.State.{AgentState}
-use Rattle.hs_law_agent.specs.Stepping.{AgentEvent, Took, Gave, Answered, Given, Missed, Unread, Chunk, Crumbed, Triggered, Asked, Turn}
-use Rattle.hs_records.specs.Plain.{Operation, PlainSettings, PlainWorkload}
 use Rattle.hs_records.specs.Plain as plain
-use Rattle.hs_records.specs.Records.{NumberedOperation, numbered_from, open_behind}
-use Rattle.hs_law_sends.specs.Drawn.{DrawnPage, has_buffer, drawn_from}
-use Rattle.hs_law_sends.specs.Sending.{Sent, ClientSends, sheet_of, sent_chunks, crumb_in, samples_of, trigger_of, trigger_in, triggers_behind, client_sends, node_sends, draws_at, operations_at, place_of}
-use Rattle.hs_law_sends.specs.Timing.{TimedPage, timed_pages}
-use Rattle.hs_words.specs.Pages.{Sheet}
-use Rattle.hs_workload.specs.Validity.{IsOperation, IsClient, IsValid}
-use Rattle.hs_law_journal.specs.Following.{Queue, Chunks, Crumbs, Triggers, Asks, taken, asks_to, NodeRun, next_of, event_of}
+use Rattle.hs_workload.specs.Validity.{IsOperation, IsClient}
 use Rattle.hs_law_journal.specs.Fitting.{MayTake}
 
 -- ---- what clients send

@@ -1,23 +1,14 @@
 -- An input gives no buffer back; a give that was made gives one. So the buffers that were given back bear the stamps of the gives in the
 -- log, in order.
 use Rattle.std.proofs.Common.{◌≡◌, ℕ, ◌<◌, List, [], ◌∷◌, ◌++◌, length, refl, sym, ap, subst, ◌∙◌, Option, Some, None, inl, inr, arith, map, filter_map, option_map, slice_get, append-nil}
-use Rattle.std.specs.List.{AllByRecursion, cons_option, range_with_len}
-use Rattle.std.proofs.lemmas.List.{map-append}
-use Rattle.std.proofs.lemmas.List.Elements.{filter_map-append}
-use Rattle.hs_lists.proofs.Alls.{all_set, all_at}
-use Rattle.hs_coord.specs.Following.{Messages}
-use Rattle.hs_journal.specs.declared.journal.Step.{Step}
+use Rattle.hs_law_journal.proofs.Prelude.{AllByRecursion, range_with_len, map-append, filter_map-append, all_set, all_at, Messages, Step, PlainJournal, PlainSettings, PlainWorkload, NodeRun, Run, event_of, step_node, node_start, run_start, Performs, Leads, Stays, Goes, EventsAddThis, AgentState, Input, Chunk, Crumbed, Triggered, Asked, Turn, Answered, Given, Missed, Unread, AgentEvent, Took, Gave, after_event}
+use Rattle.std.specs.List.{cons_option}
 use Rattle.hs_journal.specs.declared.journal.Step.TheVariants as steps
-use Rattle.hs_journal.specs.Views.{PlainJournal}
-use Rattle.hs_records.specs.Plain.{PlainSettings, PlainWorkload}
-use Rattle.hs_law_journal.specs.Following.{NodeRun, Run, event_of, step_node, node_start, run_start}
 use Rattle.hs_law_journal.specs.Gives.{given_stamp, GivesAsNoted, GivesAreNoted}
-use Rattle.hs_law_journal.specs.Orders.{Performs, Leads, Stays, Goes}
 use Rattle.hs_law_journal.proofs.Extending.{noted_step}
 use Rattle.hs_law_journal.proofs.Steps.{step_from, heard_from}
-use Rattle.hs_law_agent.specs.Laws.{EventsAddThis}
-use Rattle.hs_law_agent.specs.State.{AgentState, GivenPlace}
-use Rattle.hs_law_agent.specs.Stepping.{Input, Chunk, Crumbed, Triggered, Asked, Turn, Answered, Given, Missed, Unread, AgentEvent, Took, Gave, step_of, give_back, after_event}
+use Rattle.hs_law_agent.specs.State.{GivenPlace}
+use Rattle.hs_law_agent.specs.Stepping.{step_of, give_back}
 
 abbrev IsGive : AgentEvent → Type 0
 IsGive (Gave (Given stamp)) = Unit {0}

@@ -1,44 +1,28 @@
 -- Every group of which an agent or the coordinator speaks was admitted at its node, for a declared trigger id; and an agent admits no more
 -- than the triggers that it took. Shares keep their ids and weights.
 use Rattle.std.proofs.Common.{◌≡◌, inl, inr, ℕ, zero, suc, ◌+◌, ◌<◌, ◌≤◌, Bool, true, false, ◌&&◌, ◌||◌, cond, List, [], ◌∷◌, ◌++◌, length, set, refl, sym, ap, subst, ◌∙◌, Option, Some, None, arith, map, option_map, slice_get, unwrap_or, count_by, find, eqb, eq-eqb, ltb, ltb-true, lt-ltb, append-nil, nat_le}
-use Rattle.std.specs.List.{AllByRecursion, list_any, range_with_len}
-use Rattle.std.specs.Option.{option_and_then, option_map_or, option_to_list}
-use Rattle.std.specs.Cmp.Derive.{both_true}
-use Rattle.std.proofs.lemmas.Bool.{and_parts}
-use Rattle.std.proofs.lemmas.Option.{same_Some}
-use Rattle.hs_lists.proofs.Alls.{all_find, all_append, all_each, all_at}
-use Rattle.hs_lists.proofs.Options.{option_unmap}
-use Rattle.hs_lists.proofs.Counts.{one_if, count_cons, count_append}
-use Rattle.hs_base.specs.Rules.{is_declared}
-use Rattle.hs_base.specs.declared.ids.NodeId.{NodeId}
+use Rattle.hs_law_journal.proofs.Prelude.{AllByRecursion, range_with_len, option_and_then, option_map_or, option_to_list, both_true, and_parts, same_Some, all_append, all_each, all_at, option_unmap, one_if, is_declared, NodeId, Ask, Crumb, Told, Trigger, Message, Messages, message, Step, PlainJournal, noted_as, EventsAddThis, StepsSayWhatTheyTell, AgentState, Input, Chunk, Crumbed, Triggered, Asked, Turn, Given, Missed, Unread, AgentEvent, Took, Gave, told_by, after_event, PlainSettings, PlainWorkload, ClientSends, node_sends, Chunks, Crumbs, Triggers, Asks, takes, taken, ask_by, asks_behind, asks_to, is_from, NodeRun, Run, next_of, event_of, perform, step_of, step_node, node_start, run_start, message_of, hear, Performs, Leads, Stays, Goes}
+use Rattle.std.specs.List.{list_any}
+use Rattle.hs_lists.proofs.Alls.{all_find}
+use Rattle.hs_lists.proofs.Counts.{count_cons, count_append}
 use Rattle.hs_base.specs.declared.ids.TriggerId.{TriggerId}
 use Rattle.hs_base.specs.declared.settings.TriggerRule.{TriggerRule}
-use Rattle.hs_base.specs.declared.told.Ask.{Ask}
-use Rattle.hs_base.specs.declared.told.Crumb.{Crumb}
 use Rattle.hs_base.specs.declared.told.Group.{Group}
-use Rattle.hs_base.specs.declared.told.Told.{Told}
-use Rattle.hs_base.specs.declared.told.Trigger.{Trigger}
 use Rattle.hs_base.specs.declared.told.Why.TheVariants.{Fired, Answer}
-use Rattle.hs_coord.specs.Following.{Message, Messages, message, is_of, first_of, is_newly_asked}
-use Rattle.hs_journal.specs.declared.journal.Step.{Step}
+use Rattle.hs_coord.specs.Following.{is_of, first_of, is_newly_asked}
 use Rattle.hs_journal.specs.declared.journal.Step.TheVariants as steps
-use Rattle.hs_journal.specs.Views.{PlainJournal}
-use Rattle.hs_law_agent.specs.Laws.{claimed_by, admitted_by, shares_by, AllPass, IsPassed, AddsFew, EventsAddFew, noted_as, EventsAddThis, SaysWhatItTells, StepsSayWhatTheyTell}
+use Rattle.hs_law_agent.specs.Laws.{claimed_by, admitted_by, shares_by, AllPass, IsPassed, AddsFew, EventsAddFew, SaysWhatItTells}
 use Rattle.hs_law_agent.specs.Messages.{has_crumb, told_of, late_of}
 use Rattle.hs_base.specs.declared.limits.TheConstants.{TOKEN}
 use Rattle.hs_base.specs.Ids.{same_trace}
 use Rattle.hs_pins.specs.Buckets.{level_found}
 use Rattle.hs_pins.specs.Remembered.{Tried, moments_of}
-use Rattle.hs_law_agent.specs.State.{AgentState, ClaimedTrace, claim_of}
-use Rattle.hs_law_agent.specs.Stepping.{Input, Chunk, Crumbed, Triggered, Asked, Turn, Given, Missed, Unread, AgentEvent, Took, Gave, rule_of, admits, group_of, told_by, after_event}
+use Rattle.hs_law_agent.specs.State.{ClaimedTrace, claim_of}
+use Rattle.hs_law_agent.specs.Stepping.{rule_of, admits, group_of}
 use Rattle.hs_law_agent.specs.Turning.{costs_of, shares_after}
-use Rattle.hs_records.specs.Plain.{PlainSettings, PlainWorkload}
 use Rattle.hs_sched.specs.declared.share.Share.{Share}
 use Rattle.hs_sched.specs.Turns.{shares_of}
 use Rattle.hs_sched.specs.Visits.{visited}
-use Rattle.hs_law_sends.specs.Sending.{ClientSends, node_sends}
-use Rattle.hs_law_journal.specs.Following.{Chunks, Crumbs, Triggers, Asks, takes, taken, ask_by, asks_behind, asks_to, is_from, NodeRun, Run, next_of, event_of, perform, step_of, step_node, node_start, run_start, message_of, hear}
-use Rattle.hs_law_journal.specs.Orders.{Performs, Leads, Stays, Goes}
 use Rattle.hs_law_journal.proofs.Sums.{sum_to, sum_le, sum_lt}
 
 -- ---- tests

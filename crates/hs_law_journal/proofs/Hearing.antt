@@ -1,9 +1,6 @@
 -- A fact of all nodes, when one of them has changed and when a message is heard.
 use Rattle.std.proofs.Common.{◌≡◌, List, [], ◌∷◌, ◌++◌, sym, ap, Option, Some, None, option_map}
-use Rattle.std.proofs.lemmas.Option.{same_Some}
-use Rattle.hs_base.specs.declared.ids.NodeId.{NodeId}
-use Rattle.hs_coord.specs.Following.{Message}
-use Rattle.hs_law_journal.specs.Following.{Run, message_of, hear}
+use Rattle.hs_law_journal.proofs.Prelude.{same_Some, NodeId, Message, Run, message_of, hear}
 
 hear_case : (run next : Run) (rest : List NodeId) (o : Option Message) → option_map (λ (m : Message). record run { left = rest; heard = run.heard ++ m ∷ [] }) o ≡ Some next → next.nodes ≡ run.nodes
 hear_case run next rest None h = let no : None ≡ Some next = h in absurd cc

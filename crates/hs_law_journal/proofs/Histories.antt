@@ -1,10 +1,8 @@
 -- The test of a pool's history, event by event.
 use Rattle.std.proofs.Common.{◌≡◌, ℕ, true, false, List, [], ◌∷◌, length, refl, sym, ap, subst, Option, Some, None}
-use Rattle.std.specs.Prelude.{◌==◌, reverse, count_by, slice_get}
-use Rattle.std.specs.Option.{option_map_or}
-use Rattle.std.specs.Cmp.Derive.{both_true}
-use Rattle.std.proofs.lemmas.Bool.{eqb-true, eq-eqb, ltb-true, lt-ltb, and_parts}
-use Rattle.std.proofs.lemmas.List.{nil_from_length}
+use Rattle.hs_law_journal.proofs.Prelude.{reverse, count_by, option_map_or, both_true, and_parts, nil_from_length}
+use Rattle.std.specs.Prelude.{◌==◌, slice_get}
+use Rattle.std.proofs.lemmas.Bool.{eqb-true, eq-eqb, ltb-true, lt-ltb}
 use Rattle.hs_words.specs.PoolHistory.{PoolEvent, Got, Empty, Given, Missed, is_got, is_empty, is_given, is_missed, queue_after, MayFollow, IsHistoryBack}
 use Rattle.hs_law_journal.specs.Laws.{HistoriesAreDecided}
 use Rattle.hs_law_journal.specs.Pooled.{may_follow, is_history_back}

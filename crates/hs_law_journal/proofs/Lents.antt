@@ -1,9 +1,7 @@
 -- The turns of a giver stay as they are when more chunks come.
 use Rattle.std.proofs.Common.{ℕ, List, ◌++◌}
-use Rattle.hs_lists.proofs.Places.{get_front}
-use Rattle.hs_law_agent.specs.State.{AgentState}
-use Rattle.hs_law_agent.specs.Stepping.{Answered, Given, Missed, Unread, AgentEvent, after}
-use Rattle.hs_records.specs.Plain.{PlainSettings}
+use Rattle.hs_law_journal.proofs.Prelude.{get_front, AgentState, Answered, Given, Missed, Unread, AgentEvent, PlainSettings}
+use Rattle.hs_law_agent.specs.Stepping.{after}
 use Rattle.hs_words.specs.Ends.{GiverTurn}
 use Rattle.hs_law_journal.specs.Turns.{Lent, IsOffered, AreTurns, Begins, Takes, Offers, Meets}
 

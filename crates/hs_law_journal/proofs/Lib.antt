@@ -1,3 +1,4 @@
+mod Prelude
 pub mod Histories
 pub mod Decided
 pub mod Events

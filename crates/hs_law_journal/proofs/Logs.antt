@@ -1,19 +1,11 @@
 -- Steps and logs: that they are themselves, what they take, and their stamps.
 use Rattle.std.proofs.Common.{◌≡◌, true, refl, eq-eqb, List, [], ◌∷◌, false, ℕ, ◌<◌, arith, nat_lt, ltb-true, ◌++◌, sym, ap, ◌∙◌, append_assoc, append-nil, ◌+◌, suc, ◌-◌, ◌*◌, ◌≤◌}
+use Rattle.hs_law_journal.proofs.Prelude.{and_from, and_parts, filter_map-append, sum_by-append, AllByRecursion, all_each, one_if, Step, Ask, same_steps, is_turn, is_offer, asks_behind, ask_by, Queue, takes, taken}
 use Rattle.std.proofs.Math.Nat.{div-lt_iff_lt-mul, suc-mul}
-use Rattle.std.proofs.lemmas.Bool.{and_from, and_parts}
-use Rattle.std.proofs.lemmas.List.Elements.{filter_map-append}
-use Rattle.std.proofs.lemmas.List.Sums.{sum_by-append}
-use Rattle.std.specs.List.{AllByRecursion}
-use Rattle.hs_lists.proofs.Alls.{all_each}
-use Rattle.hs_lists.proofs.Counts.{one_if}
-use Rattle.hs_journal.specs.declared.journal.Step.{Step}
 use Rattle.hs_journal.specs.declared.journal.Step.TheVariants as steps
-use Rattle.hs_base.specs.declared.told.Ask.{Ask}
 use Rattle.hs_coord.specs.Messages.{Message, Messages}
-use Rattle.hs_law_journal.specs.Passes.{same_step, same_steps, is_turn, is_offer}
+use Rattle.hs_law_journal.specs.Passes.{same_step}
 use Rattle.hs_law_journal.specs.Shape.{rise_above, step_stamp, log_stamps}
-use Rattle.hs_law_journal.specs.Following.{asks_behind, ask_by, Queue, takes, taken}
 use Rattle.hs_law_journal.specs.Ends.{rounds_for}
 
 pub same_step_refl : (step : Step) → same_step step step ≡ true

@@ -1,24 +1,11 @@
 -- Two steps that are ready at once can be performed one after the other, in either order, and come to the same run. So all orders
 -- that lead to rest come to one run; and each step leaves one step less.
 use Rattle.std.proofs.Common.{◌≡◌, ◌≢◌, ◌⊎◌, inl, inr, ℕ, zero, suc, ◌+◌, ◌≤◌, true, List, [], ◌∷◌, ◌++◌, length, set, drop, refl, sym, ap, subst, ◌∙◌, Option, Some, None, arith, map, option_map, slice_get, unwrap_or, sum_by, eqb, eqb-true, get_or}
-use Rattle.std.specs.List.{list_all, range_with_len}
-use Rattle.std.proofs.lemmas.Bool.{and_parts, cases_eq}
-use Rattle.std.proofs.lemmas.List.{nil_from_length}
-use Rattle.std.proofs.lemmas.List.Sums.{sum_by-set, sum_by-cons}
-use Rattle.std.proofs.lemmas.Option.{slice_get_within, get_or_from_slice_get, same_Some}
-use Rattle.hs_base.specs.declared.ids.NodeId.{NodeId}
-use Rattle.hs_coord.specs.Following.{Message, Messages, message}
-use Rattle.hs_journal.specs.declared.journal.Step.{Step}
-use Rattle.hs_journal.specs.Views.{PlainJournal}
-use Rattle.hs_law_agent.specs.Laws.{StepsSayWhatTheyTell}
-use Rattle.hs_records.specs.Plain.{PlainSettings, PlainWorkload}
-use Rattle.hs_law_journal.specs.Following.{NodeRun, Run, is_from, node_start, run_start, step_of, step_node, step_lowest, message_of, hear, step_run, follow, step_count}
-use Rattle.hs_law_journal.specs.Orders.{with_node, StepsNode, Hears, Performs, Leads, Stays, Goes, IsAtRest, FollowingPlaysOut, OrdersAgree, DoneIsAtRest}
+use Rattle.hs_law_journal.proofs.Prelude.{list_all, range_with_len, and_parts, cases_eq, nil_from_length, sum_by-cons, slice_get_within, same_Some, NodeId, Message, Messages, message, Step, PlainJournal, StepsSayWhatTheyTell, PlainSettings, PlainWorkload, NodeRun, Run, is_from, node_start, run_start, step_of, step_node, step_lowest, message_of, hear, step_run, follow, step_count, Performs, Leads, Stays, Goes, FollowingPlaysOut, option_and_then, count_by, get_set, get_other, mapped_from}
+use Rattle.std.proofs.lemmas.List.Sums.{sum_by-set}
+use Rattle.std.proofs.lemmas.Option.{get_or_from_slice_get}
+use Rattle.hs_law_journal.specs.Orders.{with_node, StepsNode, Hears, IsAtRest, OrdersAgree, DoneIsAtRest}
 use Rattle.hs_law_journal.proofs.Steps.{step_from, step_stays, said_stays, heard_from, heard_to}
-use Rattle.std.specs.Option.{option_and_then}
-use Rattle.std.specs.Prelude.{count_by}
-use Rattle.hs_lists.proofs.Places.{get_set, get_other}
-use Rattle.hs_lists.proofs.Options.{mapped_from}
 
 -- ---- places
 

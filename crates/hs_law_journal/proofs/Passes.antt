@@ -1,26 +1,18 @@
 -- A pass of the loop is a whole pass: of each queue it takes what stands for that queue, in order. And a log of such passes is cut where
 -- they end.
 use Rattle.std.proofs.Common.{◌≡◌, ℕ, zero, suc, ◌+◌, ◌<◌, ◌≤◌, Bool, true, false, ◌&&◌, ◌||◌, not, cond, List, [], ◌∷◌, ◌++◌, length, replicate, refl, sym, ap, subst, ◌∙◌, arith, map, filter, count_by, eq-eqb, nat_eq, nat_le, le-leb, append-nil, append_assoc}
-use Rattle.std.specs.List.{AllByRecursion, flat_map, range_with_len, list_all}
+use Rattle.hs_law_journal.proofs.Prelude.{AllByRecursion, flat_map, range_with_len, list_all, and_from, map-append, filter-append, sum_by-cons, sum_by-append, all_each, all_append, one_if, Step, noted_as, Answered, Given, Missed, Unread, AgentEvent, step_of_answer, PlainWorkload, Queue, Chunks, Crumbs, Triggers, Asks, takes, taken, is_turn, is_offer, same_steps}
 use Rattle.std.proofs.Math.Bool.{and-false}
-use Rattle.std.proofs.lemmas.Bool.{and_from}
 use Rattle.std.proofs.lemmas.Bool.Decides.{nat_tests}
-use Rattle.std.proofs.lemmas.List.{length-replicate, map-append}
-use Rattle.std.proofs.lemmas.List.Elements.{filter-append}
-use Rattle.std.proofs.lemmas.List.Sums.{sum_by-cons, sum_by-append, length-filter}
+use Rattle.std.proofs.lemmas.List.{length-replicate}
+use Rattle.std.proofs.lemmas.List.Sums.{length-filter}
 use Rattle.hs_lists.proofs.Tests.{list_all_from}
-use Rattle.hs_lists.proofs.Alls.{all_each, all_append, all_replicate}
-use Rattle.hs_lists.proofs.Counts.{one_if}
+use Rattle.hs_lists.proofs.Alls.{all_replicate}
 use Rattle.hs_lists.proofs.Filters.{filter_all, filter_none}
 use Rattle.hs_lists.proofs.Numbers.{nat_eq_below}
 use Rattle.hs_base.specs.declared.limits.TheConstants.{MAX_TAKEN}
-use Rattle.hs_journal.specs.declared.journal.Step.{Step}
 use Rattle.hs_journal.specs.declared.journal.Step.TheVariants as steps
-use Rattle.hs_law_agent.specs.Laws.{noted_as}
-use Rattle.hs_law_agent.specs.Stepping.{Answered, Given, Missed, Unread, AgentEvent, step_of_answer}
-use Rattle.hs_records.specs.Plain.{PlainWorkload}
-use Rattle.hs_law_journal.specs.Following.{Queue, Chunks, Crumbs, Triggers, Asks, takes, taken}
-use Rattle.hs_law_journal.specs.Passes.{is_turn, is_offer, ends_between, put_step, passes_of, client_queues, queues_of, same_steps, arranged, is_whole_pass}
+use Rattle.hs_law_journal.specs.Passes.{ends_between, put_step, passes_of, client_queues, queues_of, arranged, is_whole_pass}
 use Rattle.hs_law_journal.proofs.Logs.{same_steps_refl, IsTake}
 use Rattle.hs_law_journal.specs.Doings.{joined, steps_of}
 use Rattle.hs_law_journal.specs.LoopPasses.{step_from, IsPass}

@@ -1,29 +1,11 @@
 -- Whatever journal is followed, what is ready may be taken, and what is told leads to nodes that there are. Few triggers are admitted,
 -- since few are sent.
 use Rattle.std.proofs.Common.{◌≡◌, ℕ, zero, suc, ◌+◌, ◌*◌, ◌<◌, ◌≤◌, ◌^◌, true, List, [], ◌∷◌, length, refl, sym, ap, subst, ◌∙◌, Some, None, arith, map, option_map, slice_get, ltb}
-use Rattle.std.specs.List.{AllByRecursion, range_with_len}
-use Rattle.std.specs.Option.{option_map_or}
-use Rattle.std.proofs.lemmas.Bool.{and_parts}
-use Rattle.std.proofs.lemmas.List.{length-map}
+use Rattle.hs_law_journal.proofs.Prelude.{AllByRecursion, range_with_len, option_map_or, and_parts, length-map, slice_get-map, all_each, all_at, is_declared, Ask, PlainJournal, Step, CrumbsLeadBelow, Input, Took, PlainWorkload, ClientSends, client_sends, node_sends, operations_at, place_of, IsValid, IsOfJournal, Queue, Triggers, taken, asks_to, NodeRun, Run, run_start, event_of, Leads, sent_to, supply}
 use Rattle.std.proofs.lemmas.List.FromFn.{length-range_with_len}
-use Rattle.std.proofs.lemmas.Option.{slice_get-map}
-use Rattle.hs_lists.proofs.Alls.{all_each, all_at}
 use Rattle.hs_lists.proofs.Ranges.{range_at}
 use Rattle.hs_base.specs.declared.limits.TheConstants.{MAX_OPERATIONS}
-use Rattle.hs_base.specs.Rules.{is_declared}
-use Rattle.hs_base.specs.declared.told.Ask.{Ask}
-use Rattle.hs_journal.specs.Views.{PlainJournal}
-use Rattle.hs_journal.specs.declared.journal.Step.{Step}
-use Rattle.hs_law_agent.specs.Leading.{CrumbsLeadBelow}
-use Rattle.hs_law_agent.specs.Stepping.{Input, Took}
-use Rattle.hs_records.specs.Plain.{PlainWorkload}
-use Rattle.hs_law_sends.specs.Sending.{ClientSends, client_sends, node_sends, operations_at, place_of}
-use Rattle.hs_workload.specs.Validity.{IsValid}
 use Rattle.hs_workload.specs.declared.word.Setting.TheVariants as settings
-use Rattle.hs_law_journal.specs.Extending.{IsOfJournal}
-use Rattle.hs_law_journal.specs.Following.{Queue, Triggers, taken, asks_to, NodeRun, Run, run_start, event_of}
-use Rattle.hs_law_journal.specs.Orders.{Leads}
-use Rattle.hs_law_journal.specs.Supply.{sent_to, supply}
 use Rattle.hs_law_journal.specs.Fitting.{Fits, RunsFit}
 use Rattle.hs_law_journal.specs.Known.{Known}
 use Rattle.hs_law_journal.proofs.FewSent.{sends_few}

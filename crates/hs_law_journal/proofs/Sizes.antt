@@ -1,10 +1,9 @@
 -- A client has no more pages than its points have pieces, and no more operations than these count.
 use Rattle.std.proofs.Common.{◌≡◌, ℕ, zero, suc, ◌+◌, ◌*◌, ◌≤◌, Bool, true, false, cond, List, [], ◌∷◌, length, arith, drop, slice_get, unwrap_or, length-append}
-use Rattle.std.specs.List.{AllByRecursion, flat_map, sum_by}
-use Rattle.std.proofs.lemmas.List.{length-map}
-use Rattle.std.proofs.lemmas.List.Sums.{sum_by-cons}
+use Rattle.hs_law_journal.proofs.Prelude.{AllByRecursion, flat_map, length-map, sum_by-cons, Operation, Begin, Point, End, Fire, Sample}
+use Rattle.std.specs.List.{sum_by}
 use Rattle.hs_records.specs.Pages.{PlainPage, segment_pages, pages_of, runs_within, fits}
-use Rattle.hs_records.specs.Plain.{Operation, Begin, Point, Crumb, End, Fire, Sample}
+use Rattle.hs_records.specs.Plain.{Crumb}
 use Rattle.hs_records.specs.Records.{AreBracketed, Piece, Segment, payload_pieces, pieces_until_end, record_pieces, segments_from}
 use Rattle.hs_workload.specs.Validity.{client_pieces, workload_pieces}
 use Rattle.hs_law_journal.specs.Known.{PiecesCounted}

@@ -1,11 +1,6 @@
 -- Steps and messages, performed one after another.
 use Rattle.std.proofs.Common.{◌≡◌, List, [], ◌∷◌, ◌++◌, refl, Option, Some, None}
-use Rattle.std.specs.Option.{option_and_then}
-use Rattle.hs_base.specs.declared.ids.NodeId.{NodeId}
-use Rattle.hs_coord.specs.Following.{Message, Messages}
-use Rattle.hs_journal.specs.declared.journal.Step.{Step}
-use Rattle.hs_records.specs.Plain.{PlainSettings}
-use Rattle.hs_law_journal.specs.Following.{NodeRun, message_of}
+use Rattle.hs_law_journal.proofs.Prelude.{option_and_then, NodeId, Message, Messages, Step, PlainSettings, NodeRun, message_of}
 use Rattle.hs_law_journal.proofs.Logs.{behind_more}
 use Rattle.hs_law_journal.specs.Performing.{after_step, after_steps, after_names, StepByStep}
 

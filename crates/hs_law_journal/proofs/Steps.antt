@@ -1,20 +1,8 @@
 -- A step that is ready at a node, taken apart, and what it leaves alone: the node's name, what its clients send, and the messages
 -- that its agent said before. More messages heard make no step less ready.
 use Rattle.std.proofs.Common.{◌≡◌, ℕ, List, [], ◌∷◌, ◌++◌, refl, sym, ap, ◌∙◌, Option, Some, None, append_assoc, append-nil, option_map, slice_get}
-use Rattle.std.specs.Option.{option_to_list}
-use Rattle.hs_lists.proofs.Places.{get_front}
-use Rattle.hs_lists.proofs.Options.{mapped_from}
-use Rattle.hs_base.specs.declared.ids.NodeId.{NodeId}
-use Rattle.hs_base.specs.declared.told.Ask.{Ask}
-use Rattle.hs_base.specs.declared.told.Told.{Told}
-use Rattle.hs_coord.specs.Following.{Message, Messages}
-use Rattle.hs_journal.specs.declared.journal.Step.{Step}
+use Rattle.hs_law_journal.proofs.Prelude.{option_to_list, get_front, mapped_from, NodeId, Ask, Told, Message, Messages, Step, StepsSayWhatTheyTell, AgentState, AgentEvent, Took, Gave, Asked, told_by, after_event, PlainSettings, Asks, taken, ask_by, asks_behind, asks_to, NodeRun, Run, event_of, perform, step_of, step_node, message_of, hear}
 use Rattle.hs_journal.specs.declared.journal.Step.TheVariants as steps
-use Rattle.hs_law_agent.specs.Laws.{StepsSayWhatTheyTell}
-use Rattle.hs_law_agent.specs.State.{AgentState}
-use Rattle.hs_law_agent.specs.Stepping.{AgentEvent, Took, Gave, Asked, told_by, after_event}
-use Rattle.hs_records.specs.Plain.{PlainSettings}
-use Rattle.hs_law_journal.specs.Following.{Asks, taken, ask_by, asks_behind, asks_to, NodeRun, Run, event_of, perform, step_of, step_node, message_of, hear}
 
 -- ---- options
 

@@ -1,27 +1,8 @@
 -- A step takes an item that is there, so what was taken grows with it up to what is there; and what is there only grows.
 use Rattle.std.proofs.Common.{◌≡◌, ◌⊎◌, inl, inr, ℕ, zero, suc, ◌+◌, ◌<◌, ◌≤◌, Bool, true, false, List, [], ◌∷◌, ◌++◌, length, set, refl, sym, ap, subst, ◌∙◌, Option, Some, None, arith, map, option_map, slice_get, count_by, eqb, eqb-true, length-append}
-use Rattle.std.specs.List.{AllByRecursion, range_with_len}
-use Rattle.std.specs.Option.{option_and_then, option_map_or}
-use Rattle.std.proofs.lemmas.Bool.{cases_eq}
-use Rattle.std.proofs.lemmas.List.Sums.{sum_by-cons, sum_by-append}
-use Rattle.std.proofs.lemmas.Option.{slice_get_within}
-use Rattle.hs_lists.proofs.Alls.{all_set, all_at}
-use Rattle.hs_lists.proofs.Places.{get_set, get_other}
-use Rattle.hs_lists.proofs.Options.{mapped_from}
-use Rattle.hs_lists.proofs.Counts.{one_if}
-use Rattle.hs_base.specs.declared.ids.NodeId.{NodeId}
-use Rattle.hs_base.specs.declared.told.Told.{Told}
-use Rattle.hs_coord.specs.Following.{Message, Messages, message}
-use Rattle.hs_journal.specs.declared.journal.Step.{Step}
+use Rattle.hs_law_journal.proofs.Prelude.{AllByRecursion, range_with_len, option_and_then, option_map_or, cases_eq, sum_by-cons, sum_by-append, slice_get_within, all_set, all_at, get_set, get_other, mapped_from, one_if, NodeId, Told, Message, Messages, message, Step, PlainJournal, EventsAddThis, StepsSayWhatTheyTell, AgentEvent, Took, Chunk, Crumbed, Triggered, Asked, PlainSettings, PlainWorkload, Sent, ClientSends, Queue, Chunks, Crumbs, Triggers, Asks, takes, taken, asks_behind, asks_to, is_from, NodeRun, Run, next_of, event_of, step_node, node_start, run_start, Performs, Leads, Stays, Goes, sent_to, supply}
 use Rattle.hs_journal.specs.declared.journal.Step.TheVariants as steps
-use Rattle.hs_journal.specs.Views.{PlainJournal}
-use Rattle.hs_law_agent.specs.Laws.{EventsAddThis, StepsSayWhatTheyTell}
-use Rattle.hs_law_agent.specs.Stepping.{AgentEvent, Took, Chunk, Crumbed, Triggered, Asked}
-use Rattle.hs_records.specs.Plain.{PlainSettings, PlainWorkload}
-use Rattle.hs_law_sends.specs.Sending.{Sent, ClientSends}
-use Rattle.hs_law_journal.specs.Following.{Queue, Chunks, Crumbs, Triggers, Asks, takes, taken, asks_behind, asks_to, is_from, NodeRun, Run, next_of, event_of, step_node, node_start, run_start}
-use Rattle.hs_law_journal.specs.Orders.{Performs, Leads, Stays, Goes}
-use Rattle.hs_law_journal.specs.Supply.{sent_to, supply, said_at, TakesWhatIsThere, NothingIsTakenUnsent}
+use Rattle.hs_law_journal.specs.Supply.{said_at, TakesWhatIsThere, NothingIsTakenUnsent}
 use Rattle.hs_law_journal.proofs.Extending.{steps_are_noted}
 use Rattle.hs_law_journal.proofs.Steps.{asks_more, step_from, said_stays, heard_from}
 

@@ -1,30 +1,11 @@
 -- A step takes the next chunk of its client, or none. So what was taken of a client grows along what it sent, whose pages rise.
 use Rattle.std.proofs.Common.{◌≡◌, ◌⊎◌, inl, inr, ℕ, zero, suc, ◌+◌, ◌<◌, ◌≤◌, Bool, true, false, cond, List, [], ◌∷◌, ◌++◌, take, refl, sym, ap, ap₂, subst, ◌∙◌, Option, Some, None, arith, map, filter, option_map, slice_get, eqb, eqb-true, eq-eqb, append-nil}
-use Rattle.std.specs.List.{AllByRecursion, range_with_len}
-use Rattle.std.specs.Option.{option_and_then, option_map_or}
-use Rattle.std.proofs.lemmas.List.Elements.{filter-append}
-use Rattle.std.proofs.lemmas.List.Sums.{sum_by-cons, sum_by-append}
-use Rattle.std.proofs.lemmas.Option.{slice_get-map, same_Some}
-use Rattle.hs_lists.proofs.Alls.{all_set, all_take, all_at}
-use Rattle.hs_lists.proofs.Options.{mapped_from}
+use Rattle.hs_law_journal.proofs.Prelude.{AllByRecursion, range_with_len, option_and_then, option_map_or, filter-append, sum_by-cons, sum_by-append, slice_get-map, same_Some, all_set, all_at, mapped_from, one_if, ClientId, Messages, Draw, Step, PlainJournal, EventsAddThis, AgentEvent, Took, Gave, Chunk, Crumbed, Triggered, Asked, Turn, PlainWorkload, drawn_from, Sent, ClientSends, client_sends, node_sends, sent_chunks, operations_at, draws_at, place_of, TimedPage, timed_pages, Sheet, Chunks, Crumbs, Triggers, Asks, takes, taken, asks_to, NodeRun, Run, next_of, event_of, step_node, perform, node_start, run_start, Performs, Leads, Stays, Goes}
+use Rattle.hs_lists.proofs.Alls.{all_take}
 use Rattle.hs_lists.proofs.Ranges.{range_found}
-use Rattle.hs_lists.proofs.Counts.{one_if}
-use Rattle.hs_base.specs.declared.ids.ClientId.{ClientId}
-use Rattle.hs_coord.specs.Following.{Messages}
-use Rattle.hs_journal.specs.declared.journal.Draw.{Draw}
 use Rattle.hs_journal.specs.declared.journal.Draw.TheVariants.{Got, Empty}
-use Rattle.hs_journal.specs.declared.journal.Step.{Step}
 use Rattle.hs_journal.specs.declared.journal.Step.TheVariants as steps
-use Rattle.hs_journal.specs.Views.{PlainJournal}
-use Rattle.hs_law_agent.specs.Laws.{PagesRise, sheets_of, brought_by, EventsAddThis}
-use Rattle.hs_law_agent.specs.Stepping.{AgentEvent, Took, Gave, Chunk, Crumbed, Triggered, Asked, Turn}
-use Rattle.hs_records.specs.Plain.{PlainWorkload}
-use Rattle.hs_law_sends.specs.Drawn.{drawn_from}
-use Rattle.hs_law_sends.specs.Sending.{Sent, ClientSends, client_sends, node_sends, sent_chunks, operations_at, draws_at, place_of}
-use Rattle.hs_law_sends.specs.Timing.{TimedPage, timed_pages}
-use Rattle.hs_words.specs.Pages.{Sheet}
-use Rattle.hs_law_journal.specs.Following.{Chunks, Crumbs, Triggers, Asks, takes, taken, asks_to, NodeRun, Run, next_of, event_of, step_node, perform, node_start, run_start}
-use Rattle.hs_law_journal.specs.Orders.{Performs, Leads, Stays, Goes}
+use Rattle.hs_law_agent.specs.Laws.{PagesRise, sheets_of, brought_by}
 use Rattle.hs_law_journal.specs.Taking.{is_by, sheets_sent, TakesInOrder, ChunksAreTakenInOrder, TakenPagesRise}
 use Rattle.hs_law_journal.proofs.Extending.{steps_are_noted}
 use Rattle.hs_law_journal.proofs.Steps.{step_from, heard_from}

@@ -1,22 +1,9 @@
 -- What agents tell leads to nodes that there are, whatever journal is followed.
 use Rattle.std.proofs.Common.{◌≡◌, inl, inr, ℕ, ◌<◌, List, [], ◌∷◌, refl, sym, subst, Option, Some, None, map, option_map, slice_get}
-use Rattle.std.specs.List.{AllByRecursion}
-use Rattle.std.specs.Option.{option_and_then}
-use Rattle.std.proofs.lemmas.Option.{same_Some}
-use Rattle.hs_lists.proofs.Alls.{all_by_place, all_at, all_set}
-use Rattle.hs_lists.proofs.Options.{option_unmap}
-use Rattle.hs_base.specs.declared.told.Crumb.{Crumb}
-use Rattle.hs_coord.specs.Following.{Messages}
-use Rattle.hs_journal.specs.Views.{PlainJournal}
-use Rattle.hs_journal.specs.declared.journal.Step.{Step}
+use Rattle.hs_law_journal.proofs.Prelude.{AllByRecursion, option_and_then, same_Some, all_at, all_set, option_unmap, Crumb, Messages, PlainJournal, Step, CrumbsLeadBelow, AgentEvent, Took, Gave, Given, Missed, Unread, Chunk, Crumbed, Triggered, Asked, Turn, PlainSettings, PlainWorkload, Sent, ClientSends, node_sends, IsValid, Chunks, Crumbs, Triggers, Asks, taken, asks_to, NodeRun, Run, next_of, event_of, node_start, step_node, Performs, Leads, Stays, Goes}
+use Rattle.hs_lists.proofs.Alls.{all_by_place}
 use Rattle.hs_journal.specs.declared.journal.Step.TheVariants as steps
-use Rattle.hs_law_agent.specs.Leading.{LeadsBelow, BringsBelow, CrumbsLeadBelow}
-use Rattle.hs_law_agent.specs.Stepping.{AgentEvent, Took, Gave, Given, Missed, Unread, Chunk, Crumbed, Triggered, Asked, Turn}
-use Rattle.hs_records.specs.Plain.{PlainSettings, PlainWorkload}
-use Rattle.hs_law_sends.specs.Sending.{Sent, ClientSends, node_sends}
-use Rattle.hs_workload.specs.Validity.{IsValid}
-use Rattle.hs_law_journal.specs.Following.{Chunks, Crumbs, Triggers, Asks, taken, asks_to, NodeRun, Run, next_of, event_of, node_start, step_node}
-use Rattle.hs_law_journal.specs.Orders.{Performs, Leads, Stays, Goes}
+use Rattle.hs_law_agent.specs.Leading.{LeadsBelow, BringsBelow}
 use Rattle.hs_law_journal.proofs.Steps.{step_from}
 use Rattle.hs_law_journal.proofs.Fit.{node_sends_fit}
 use Rattle.hs_law_journal.proofs.Hearing.{hear_nodes}

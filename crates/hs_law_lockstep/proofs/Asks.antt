@@ -1,29 +1,8 @@
 -- Each coordinator's pass hears of every node what it said, or 64 messages, and each agent's pass takes of the asks what was sent up to
 -- the pass before, or 64.
 use Rattle.std.proofs.Common.{◌≡◌, ◌⊎◌, inl, inr, ℕ, zero, suc, ◌+◌, ◌-◌, ◌/◌, ◌<◌, ◌≤◌, min, Bool, true, false, cond, List, [], ◌∷◌, ◌++◌, length, refl, sym, ap, subst, ◌∙◌, Option, Some, None, arith, map, take, find, option_map, slice_get, unwrap_or, replicate, count_by, leb, le-leb, eqb, eqb-true, eq-eqb, nat_le, length-append}
-use Rattle.std.specs.List.{flat_map, range_with_len}
-use Rattle.std.specs.Option.{option_map_or}
-use Rattle.std.proofs.lemmas.Bool.{leb-true}
-use Rattle.std.proofs.lemmas.Option.{slice_get-map, slice_get_within, same_Some}
-use Rattle.hs_lists.proofs.Alls.{all_by_place}
-use Rattle.hs_lists.proofs.Ranges.{list_all_range}
-use Rattle.hs_lists.proofs.Counts.{one_if, count_cons, count_append}
-use Rattle.hs_lists.proofs.Tests.{list_all_from}
-use Rattle.hs_base.specs.declared.ids.NodeId.{NodeId}
-use Rattle.hs_base.specs.declared.limits.TheConstants.{MAX_TAKEN}
-use Rattle.hs_coord.specs.Following.{Messages}
-use Rattle.hs_journal.specs.declared.journal.Step.{Step}
-use Rattle.hs_law_agent.specs.State.{AgentState}
-use Rattle.hs_law_agent.specs.Stepping.{AgentEvent, after}
-use Rattle.hs_records.specs.Plain.{PlainWorkload}
-use Rattle.hs_law_sends.specs.Sending.{operations_at}
-use Rattle.hs_law_journal.specs.Extending.{node_behind}
-use Rattle.hs_law_journal.specs.Following.{Asks, ask_by, asks_behind, asks_to, is_from, NodeRun, Run, log_at, followed}
-use Rattle.hs_law_journal.specs.Pace.{said_in, due_of, due_by, has_due, heard_by, asks_enough, asks_in_pace}
-use Rattle.hs_law_journal.specs.Passes.{passes_of, taken_in, steps_in}
-use Rattle.hs_law_lockstep.specs.Clauses.{IsLaidOut}
-use Rattle.hs_law_journal.specs.Known.{Known}
-use Rattle.hs_law_lockstep.specs.Lockstep.{Machine, machine_start, done_at, draws_in, pages_started, client_goes, pass_steps, agents_take, agents_give, told_of, coordinator_hears, passes, lockstep}
+use Rattle.hs_law_lockstep.proofs.Prelude.{flat_map, range_with_len, option_map_or, leb-true, slice_get-map, slice_get_within, same_Some, all_by_place, list_all_range, one_if, count_cons, count_append, list_all_from, NodeId, MAX_TAKEN, Messages, Step, AgentState, AgentEvent, after, PlainWorkload, operations_at, node_behind, Asks, ask_by, asks_behind, asks_to, is_from, NodeRun, Run, log_at, followed, asks_in_pace, passes_of, taken_in, steps_in, IsLaidOut, Known, Machine, machine_start, done_at, draws_in, pages_started, client_goes, pass_steps, agents_take, agents_give, told_of, coordinator_hears, passes, lockstep}
+use Rattle.hs_law_journal.specs.Pace.{said_in, due_of, due_by, has_due, heard_by, asks_enough}
 use Rattle.hs_law_lockstep.proofs.Followed.{number_is, count_nodes, nodes_of_journal, fits, take_there, give_there, hear_there, draws_are, starts_at, IsDone}
 use Rattle.hs_law_lockstep.proofs.Items.{taken_before, taken_whole, taken_last, asks_taken}
 use Rattle.hs_law_lockstep.proofs.Offers.{joined, take_front, take_all, steps_within, steps_of_all, done_given, done_taken}

@@ -1,37 +1,10 @@
 -- The gives of a pass come behind all draws of the rounds so far, and before those of the rounds to come.
 use Rattle.std.proofs.Common.{◌≡◌, ◌⊎◌, inl, inr, ◌≢◌, ℕ, zero, suc, ◌+◌, ◌-◌, ◌*◌, ◌/◌, ◌<◌, ◌≤◌, min, Bool, true, false, cond, List, [], ◌∷◌, ◌++◌, length, refl, sym, ap, subst, ◌∙◌, Some, None, arith, option_map, slice_get, zip, ltb, ltb-true, lt-ltb}
-use Rattle.std.specs.List.{AllByRecursion, flat_map, range_with_len, list_all, cons_option}
-use Rattle.std.specs.Option.{option_map_or}
-use Rattle.std.specs.Cmp.Derive.{both_true}
-use Rattle.std.proofs.Math.Nat.{div-lt_iff_lt-mul}
-use Rattle.std.proofs.lemmas.List.{length-map}
-use Rattle.std.proofs.lemmas.List.FromFn.{length-range_with_len}
-use Rattle.std.proofs.lemmas.Nat.{div-mul-add, mul-add-lt}
-use Rattle.std.proofs.lemmas.Option.{slice_get-map, slice_get_within, same_Some}
-use Rattle.hs_lists.proofs.Alls.{all_by_place, all_append, all_at}
-use Rattle.hs_lists.proofs.Tests.{list_all_from}
-use Rattle.hs_lists.proofs.Ranges.{range_at}
-use Rattle.hs_base.specs.declared.ids.ClientId.{ClientId}
-use Rattle.hs_base.specs.declared.limits.TheConstants.{MIN_SIZE}
-use Rattle.hs_journal.specs.declared.journal.Draw.{Draw}
-use Rattle.hs_journal.specs.declared.journal.Step.{Step}
+use Rattle.hs_law_lockstep.proofs.Prelude.{AllByRecursion, flat_map, range_with_len, list_all, cons_option, option_map_or, both_true, div-lt_iff_lt-mul, length-map, length-range_with_len, div-mul-add, mul-add-lt, slice_get-map, slice_get_within, same_Some, all_by_place, all_append, all_at, list_all_from, range_at, ClientId, MIN_SIZE, Draw, Step, PlainJournal, sheets_of, PlainWorkload, DrawnPage, stamp_of, drawn_from, ClientSends, client_sends, node_sends, operations_at, draws_at, place_of, TimedPage, timed_pages, NodeRun, log_at, followed, gives_in_pace, passes_of, node_pages, step_stamp, log_stamps, IsLaidOut, Known, Machine, machine_start, done_at, next_draws, draws_by, draws_in, pages_started, client_goes, pass_steps, passes, lockstep}
 use Rattle.hs_journal.specs.declared.journal.Step.TheVariants as steps
-use Rattle.hs_journal.specs.Views.{PlainJournal}
-use Rattle.hs_law_agent.specs.Laws.{sheets_of}
-use Rattle.hs_records.specs.Plain.{PlainWorkload}
-use Rattle.hs_law_sends.specs.Drawn.{DrawnPage, stamp_of, drawn_from}
-use Rattle.hs_law_sends.specs.Sending.{ClientSends, client_sends, node_sends, operations_at, draws_at, place_of}
-use Rattle.hs_law_sends.specs.Timing.{TimedPage, timed_pages}
-use Rattle.hs_law_journal.specs.Following.{NodeRun, log_at, followed}
-use Rattle.hs_law_journal.specs.Pace.{is_beside, gives_in_pace}
-use Rattle.hs_law_journal.specs.Passes.{passes_of}
-use Rattle.hs_law_journal.specs.Pooled.{node_pages}
-use Rattle.hs_law_journal.specs.Shape.{step_stamp, log_stamps}
+use Rattle.hs_law_journal.specs.Pace.{is_beside}
 use Rattle.hs_law_journal.specs.Unreads.{round_of}
 use Rattle.hs_law_journal.proofs.Logs.{stamps_both}
-use Rattle.hs_law_lockstep.specs.Clauses.{IsLaidOut}
-use Rattle.hs_law_journal.specs.Known.{Known}
-use Rattle.hs_law_lockstep.specs.Lockstep.{Machine, machine_start, done_at, next_draws, draws_by, draws_in, pages_started, client_goes, pass_steps, passes, lockstep}
 use Rattle.hs_law_lockstep.proofs.Followed.{log_of, none_at}
 use Rattle.hs_law_lockstep.proofs.Held.{node_events, IsHeld}
 use Rattle.hs_law_lockstep.proofs.Holding.{InFront, Behind, in_either, below_given}

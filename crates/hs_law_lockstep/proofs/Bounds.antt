@@ -1,32 +1,13 @@
 -- Valid workloads are small: stamps and the numbers of groups fit with much room.
 use Rattle.std.proofs.Common.{◌≡◌, ◌⊎◌, inl, inr, ℕ, zero, suc, ◌+◌, ◌*◌, ◌<◌, ◌≤◌, ◌^◌, List, [], ◌∷◌, ◌++◌, length, sym, ap, ◌∙◌, Some, arith, map, length-append}
-use Rattle.std.specs.List.{range_with_len}
-use Rattle.std.specs.Option.{option_map_or}
-use Rattle.std.proofs.lemmas.List.{length-map, map-append}
-use Rattle.std.proofs.lemmas.Grind.{flat_map-append}
-use Rattle.std.proofs.lemmas.Nat.{mul-add-lt}
-use Rattle.std.proofs.lemmas.Option.{slice_get_within}
-use Rattle.hs_base.specs.declared.limits.TheConstants.{MAX_OPERATIONS}
-use Rattle.hs_base.specs.declared.ids.ClientId.{ClientId}
-use Rattle.hs_journal.specs.Views.{PlainJournal}
-use Rattle.hs_records.specs.Plain.{PlainWorkload}
-use Rattle.hs_law_sends.specs.Sending.{ClientSends, client_sends, node_sends, draws_at, operations_at, place_of}
-use Rattle.hs_law_sends.specs.Timing.{TimedPage, timed_pages}
-use Rattle.hs_workload.specs.Validity.{IsValid}
-use Rattle.hs_law_journal.specs.Following.{NodeRun, followed}
-use Rattle.hs_law_lockstep.specs.Clauses.{IsRunnable}
-use Rattle.hs_law_journal.specs.Known.{Known}
-use Rattle.hs_law_lockstep.specs.Lockstep.{Machine}
-use Rattle.hs_law_lockstep.specs.Parts.{node_at}
+use Rattle.hs_law_lockstep.proofs.Prelude.{range_with_len, option_map_or, length-map, map-append, flat_map-append, mul-add-lt, slice_get_within, MAX_OPERATIONS, ClientId, PlainJournal, PlainWorkload, ClientSends, client_sends, node_sends, draws_at, operations_at, place_of, TimedPage, timed_pages, IsValid, NodeRun, followed, IsRunnable, Known, Machine, node_at, sum_to, all_few}
 use Rattle.hs_law_lockstep.proofs.Closing.{drawn_few, size_of, all_of, sizes_are, admitted_few}
 use Rattle.hs_law_lockstep.proofs.Counting.{events_few}
-use Rattle.hs_law_journal.proofs.Sums.{sum_to}
 use Rattle.hs_law_lockstep.proofs.Followed.{count_nodes}
 use Rattle.hs_law_lockstep.proofs.Held.{node_events, IsHeld}
 use Rattle.hs_law_lockstep.proofs.Holding.{pages_in}
 use Rattle.hs_law_lockstep.proofs.Keeping.{range_parts, own_sends}
 use Rattle.hs_law_lockstep.proofs.Shapes.{ends_at}
-use Rattle.hs_law_journal.proofs.Sizes.{all_few}
 use Rattle.hs_law_lockstep.proofs.Standing.{number_at}
 
 -- one of the terms is no more than the sum

@@ -1,45 +1,14 @@
 -- Closing ends: each pass that finds something to do works something off, and there is only so much. So nothing is left over.
 use Rattle.std.proofs.Common.{◌≡◌, ◌⊎◌, inl, inr, ℕ, zero, suc, ◌+◌, ◌-◌, ◌*◌, ◌/◌, ◌<◌, ◌≤◌, min, Bool, true, false, cond, List, [], ◌∷◌, ◌++◌, length, refl, sym, ap, subst, ◌∙◌, Option, Some, None, arith, map, filter, option_map, slice_get, unwrap_or, count_by, eq-eqb, ltb, lt-ltb, ltb-true}
+use Rattle.hs_law_lockstep.proofs.Prelude.{AllByRecursion, range_with_len, option_map_or, both_true, suc-mul, mul-le-mul_right, and_parts, length-map, length-range_with_len, mul-add-lt, slice_get-map, slice_get_within, same_Some, filter_few, all_by_place, all_each, all_at, count_append, list_all_from, range_at, ClientId, MIN_SIZE, MAX_TAKEN, Message, Draw, Step, pages_of, PlainWorkload, DrawnPage, has_buffer, drawn_from, Sent, ClientSends, sent_chunks, sent_within, client_sends, node_sends, operations_at, draws_at, place_of, TimedPage, timed_pages, is_bare, rounds_of, Queue, Chunks, Crumbs, Triggers, Asks, takes, taken, asks_to, is_from, NodeRun, Run, node_start, run_start, followed, node_behind, run_behind, played, sent_to, supply, IsLaidOut, ScheduleIsBare, Known, Machine, machine_start, done_at, draws_in, pages_started, client_goes, pass_steps, passes, rounds, closing, closing_limit, lockstep, sum_to, sum_le, sum_lt, admitted_at, is_known, Speaks}
 use Rattle.std.specs.Prelude.{sum_by}
-use Rattle.std.specs.List.{AllByRecursion, range_with_len}
-use Rattle.std.specs.Option.{option_map_or}
-use Rattle.std.specs.Cmp.Derive.{both_true}
-use Rattle.std.proofs.Math.Nat.{suc-mul, mul-le-mul_right}
-use Rattle.std.proofs.lemmas.Bool.{and_parts}
-use Rattle.std.proofs.lemmas.List.{length-map}
-use Rattle.std.proofs.lemmas.List.FromFn.{length-range_with_len}
 use Rattle.std.proofs.lemmas.List.Sums.{sum_by-cons}
-use Rattle.std.proofs.lemmas.Nat.{mul-add-lt}
-use Rattle.std.proofs.lemmas.Option.{slice_get-map, slice_get_within, same_Some}
-use Rattle.hs_lists.proofs.Filters.{filter_few}
-use Rattle.hs_lists.proofs.Alls.{all_by_place, all_each, all_at}
-use Rattle.hs_lists.proofs.Counts.{count_append}
-use Rattle.hs_lists.proofs.Tests.{list_all_from}
-use Rattle.hs_lists.proofs.Ranges.{range_at}
-use Rattle.hs_base.specs.declared.ids.ClientId.{ClientId}
-use Rattle.hs_base.specs.declared.limits.TheConstants.{MIN_SIZE, MAX_TAKEN}
-use Rattle.hs_coord.specs.Following.{Message}
-use Rattle.hs_journal.specs.declared.journal.Draw.{Draw}
-use Rattle.hs_journal.specs.declared.journal.Step.{Step}
-use Rattle.hs_records.specs.Pages.{pages_of}
-use Rattle.hs_records.specs.Plain.{PlainWorkload}
-use Rattle.hs_law_sends.specs.Drawn.{DrawnPage, has_buffer, drawn_from}
-use Rattle.hs_law_sends.specs.Sending.{Sent, ClientSends, sent_chunks, sent_within, client_sends, node_sends, operations_at, draws_at, place_of}
-use Rattle.hs_law_sends.specs.Timing.{TimedPage, timed_pages}
-use Rattle.hs_law_journal.specs.Ends.{took_all, is_left_bare, is_bare, rounds_of}
-use Rattle.hs_law_journal.specs.Following.{Queue, Chunks, Crumbs, Triggers, Asks, takes, taken, asks_to, is_from, NodeRun, Run, node_start, run_start, followed}
-use Rattle.hs_law_journal.specs.Extending.{node_behind, run_behind}
-use Rattle.hs_law_journal.specs.Played.{played}
-use Rattle.hs_law_journal.specs.Supply.{sent_to, supply}
-use Rattle.hs_law_lockstep.specs.Clauses.{IsLaidOut, ScheduleIsBare}
-use Rattle.hs_law_journal.specs.Known.{Known}
-use Rattle.hs_law_lockstep.specs.Lockstep.{Machine, machine_start, done_at, draws_in, pages_started, client_goes, pass_steps, passes, rounds, closing, closing_limit, lockstep}
+use Rattle.hs_law_journal.specs.Ends.{took_all, is_left_bare}
 use Rattle.hs_law_lockstep.proofs.Asks.{more, heard_more, heard_now}
 use Rattle.hs_law_lockstep.proofs.Beside.{zipped_all}
-use Rattle.hs_law_journal.proofs.Sums.{sum_to, sum_le, sum_lt}
 use Rattle.hs_law_lockstep.proofs.FewAsks.{asks_few, IsNumbered}
 use Rattle.hs_law_lockstep.proofs.Followed.{number_is, count_nodes, fits, draws_are, starts_at}
-use Rattle.hs_law_journal.proofs.Groups.{admitted_at, triggers_in, is_known, Speaks}
+use Rattle.hs_law_journal.proofs.Groups.{triggers_in}
 use Rattle.hs_law_lockstep.proofs.Items.{IsWithin, timely_at, crumbs_within, triggers_within, chunks_all, drawn_all, in_time, chunks_taken, crumbs_taken, triggers_taken, asks_taken}
 use Rattle.hs_law_lockstep.proofs.Passing.{gives}
 use Rattle.hs_law_lockstep.proofs.Pins.{HaveWeights}

@@ -1,19 +1,8 @@
 -- A pool has no more gives than draws that got a buffer, so its events are at most two for each page.
 use Rattle.std.proofs.Common.{◌≡◌, ◌⊎◌, inl, inr, ℕ, zero, suc, ◌+◌, ◌*◌, ◌<◌, ◌≤◌, Bool, true, false, cond, List, [], ◌∷◌, ◌++◌, length, refl, sym, ap, ◌∙◌, Option, Some, None, arith, map, filter, reverse, count_by, eqb, eqb-true, eq-eqb, length-append}
-use Rattle.std.specs.List.{AllByRecursion, flat_map, range_with_len, cons_option}
-use Rattle.std.proofs.lemmas.List.{length-map, reverse-append}
-use Rattle.hs_lists.proofs.Counts.{count_map, one_if, count_cons, count_append}
-use Rattle.hs_lists.proofs.Options.{option_unmap}
-use Rattle.hs_law_agent.specs.Laws.{sheets_of}
-use Rattle.hs_law_agent.specs.State.{GivenPlace}
-use Rattle.hs_records.specs.Plain.{PlainSettings}
-use Rattle.hs_law_sends.specs.Sending.{ClientSends}
-use Rattle.hs_words.specs.Pages.{Sheet}
-use Rattle.hs_words.specs.PoolHistory.{PoolEvent, Got, Empty, Given, Missed, is_got, is_given}
-use Rattle.hs_law_journal.specs.Following.{NodeRun}
-use Rattle.hs_law_journal.specs.Pooled.{StampedPoolEvent, by_stamp, drawn_event}
+use Rattle.hs_law_lockstep.proofs.Prelude.{AllByRecursion, flat_map, range_with_len, cons_option, length-map, reverse-append, one_if, count_cons, count_append, option_unmap, sheets_of, GivenPlace, PlainSettings, ClientSends, Sheet, PoolEvent, Got, Empty, Given, Missed, is_got, is_given, NodeRun, StampedPoolEvent, by_stamp, drawn_event, sum_to, sum_le}
+use Rattle.hs_lists.proofs.Counts.{count_map}
 use Rattle.hs_law_lockstep.proofs.Closing.{sum_both}
-use Rattle.hs_law_journal.proofs.Sums.{sum_to, sum_le}
 use Rattle.hs_law_lockstep.proofs.Growing.{events_back, history_of, IsBelow}
 use Rattle.hs_law_lockstep.proofs.Held.{node_events, IsHeld}
 use Rattle.hs_law_lockstep.proofs.Holding.{given_as, event_at, pages_in, gives_in}

@@ -1,27 +1,9 @@
 -- A client draws: with the next stamps, the front of the queue or none where it is empty. What is held is held then, and the new
 -- buffers too.
 use Rattle.std.proofs.Common.{◌≡◌, ◌⊎◌, inl, inr, ℕ, zero, suc, ◌+◌, ◌<◌, ◌≤◌, Bool, true, false, cond, List, [], ◌∷◌, ◌++◌, length, refl, sym, ap, subst, ◌∙◌, Some, None, arith, map, filter, drop, reverse, slice_get, append_assoc, append-nil, length-append}
-use Rattle.std.specs.List.{AllByRecursion, cons_option}
-use Rattle.std.specs.Option.{option_and_then}
-use Rattle.std.proofs.lemmas.List.{map-append, reverse-append, reverse-reverse}
-use Rattle.std.proofs.lemmas.List.Elements.{filter-append}
-use Rattle.std.proofs.lemmas.Grind.{flat_map-append}
-use Rattle.std.proofs.lemmas.Option.{slice_get_within, same_Some}
-use Rattle.hs_lists.proofs.Places.{get_front, get_mid}
-use Rattle.hs_base.specs.declared.ids.ClientId.{ClientId}
-use Rattle.hs_journal.specs.declared.journal.Draw.{Draw}
+use Rattle.hs_law_lockstep.proofs.Prelude.{AllByRecursion, cons_option, option_and_then, map-append, reverse-append, filter-append, flat_map-append, slice_get_within, same_Some, get_front, get_mid, ClientId, Draw, Step, GivenPlace, DrawnPage, stamp_of, has_buffer, drawn_from, Sent, ClientSends, sheet_of, sent_chunks, TimedPage, Sheet, PoolEvent, Got, Empty, queue_after, StampedPoolEvent, drawn_event, event_drawn, rise, Chunks, taken, next_draws}
+use Rattle.std.proofs.lemmas.List.{reverse-reverse}
 use Rattle.hs_journal.specs.declared.journal.Draw.TheVariants as draws
-use Rattle.hs_journal.specs.declared.journal.Step.{Step}
-use Rattle.hs_law_agent.specs.State.{GivenPlace}
-use Rattle.hs_law_sends.specs.Drawn.{DrawnPage, stamp_of, has_buffer, drawn_from}
-use Rattle.hs_law_sends.specs.Sending.{Sent, ClientSends, sheet_of, sent_chunks}
-use Rattle.hs_law_sends.specs.Timing.{TimedPage}
-use Rattle.hs_words.specs.Pages.{Sheet}
-use Rattle.hs_words.specs.PoolHistory.{PoolEvent, Got, Empty, queue_after}
-use Rattle.hs_law_journal.specs.Pooled.{StampedPoolEvent, drawn_event, event_drawn}
-use Rattle.hs_law_journal.specs.Shape.{rise}
-use Rattle.hs_law_journal.specs.Following.{Chunks, taken}
-use Rattle.hs_law_lockstep.specs.Lockstep.{next_draws}
 use Rattle.hs_law_lockstep.proofs.Growing.{events_back, history_of, IsPooled, IsOut, IsAnswered, next, after, back, answered, longer, got_kept, got_out, got_stays, empty_kept, empty_stays}
 use Rattle.hs_law_lockstep.proofs.Holding.{page_in, pages_in, gives_in, events_in, event_at, event_there, WasGiven, IsDrawn, GiveAnswers, ClientHolds, Holds, InFront, Behind, in_either, rises_more, FoundPage, page_found, at_page, all_answers}
 

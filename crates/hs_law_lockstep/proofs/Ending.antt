@@ -1,22 +1,14 @@
 -- The rounds end where every client is through, and the closing where nothing waits any more.
 use Rattle.std.proofs.Common.{◌≡◌, ◌⊎◌, inl, inr, ℕ, zero, suc, ◌+◌, ◌*◌, ◌<◌, ◌≤◌, ◌^◌, min, max, Bool, true, false, List, [], ◌∷◌, length, fold, refl, sym, ap, subst, ◌∙◌, arith, map, slice_get, unwrap_or}
-use Rattle.std.proofs.Math.Nat.{mul-le-mul_left, mul-le-mul_right}
+use Rattle.hs_law_lockstep.proofs.Prelude.{mul-le-mul_right, MAX_OPERATIONS, pages_of, Operation, PlainWorkload, operations_at, is_bare, rounds_for, rounds_of, played, IsValid, IsLaidOut, ValidWorkloadsRun, ScheduleIsBare, Known, Machine, machine_start, done_at, round, rounds, closing, closing_limit, all_few}
+use Rattle.std.proofs.Math.Nat.{mul-le-mul_left}
 use Rattle.std.specs.List.{sum_by}
-use Rattle.hs_base.specs.declared.limits.TheConstants.{MAX_OPERATIONS}
-use Rattle.hs_records.specs.Pages.{pages_of}
-use Rattle.hs_records.specs.Plain.{Operation, PlainWorkload}
-use Rattle.hs_law_sends.specs.Sending.{operations_at}
-use Rattle.hs_law_journal.specs.Ends.{is_bare, rounds_for, rounds_of}
-use Rattle.hs_law_journal.specs.Played.{played}
 use Rattle.hs_law_journal.proofs.Logs.{rounds_few}
-use Rattle.hs_workload.specs.Validity.{IsValid}
 use Rattle.hs_workload.specs.declared.word.Setting.TheVariants as settings
-use Rattle.hs_law_lockstep.specs.Clauses.{IsLaidOut, ValidWorkloadsRun, ScheduleIsBare}
 use Rattle.hs_law_lockstep.specs.Ending.{HasRounds, RoundsEnd, behind_rounds, passed, ClosingEnds}
-use Rattle.hs_law_journal.specs.Known.{Known, PiecesCounted}
-use Rattle.hs_law_lockstep.specs.Lockstep.{Machine, machine_start, done_at, round, rounds, closing, closing_limit}
+use Rattle.hs_law_journal.specs.Known.{PiecesCounted}
 use Rattle.hs_law_lockstep.proofs.Shapes.{begins, rounds_go, all_covered}
-use Rattle.hs_law_journal.proofs.Sizes.{all_few, client_few}
+use Rattle.hs_law_journal.proofs.Sizes.{client_few}
 
 -- ---- rounds
 

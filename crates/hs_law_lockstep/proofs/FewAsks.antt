@@ -1,16 +1,12 @@
 -- A node gets one ask of a group at most. So where the groups that were spoken of are numbered at their nodes, there are no more asks than
 -- groups.
 use Rattle.std.proofs.Common.{◌≡◌, ℕ, zero, suc, ◌+◌, ◌<◌, ◌≤◌, Bool, true, false, ◌&&◌, ◌||◌, not, cond, [], ◌∷◌, ◌++◌, length, refl, ap, ◌∙◌, Some, arith, find, eqb, append-nil, append_assoc, length-append}
-use Rattle.std.specs.List.{AllByRecursion}
-use Rattle.std.specs.Option.{option_map_or}
-use Rattle.std.proofs.lemmas.Bool.{and_parts, not-true}
-use Rattle.hs_lists.proofs.Counts.{one_few, one_le, one_if}
+use Rattle.hs_law_lockstep.proofs.Prelude.{AllByRecursion, option_map_or, and_parts, one_if, Ask, Message, Messages, ask_by, asks_behind, asks_to, sum_le, sum_lt, sum_to}
+use Rattle.std.proofs.lemmas.Bool.{not-true}
+use Rattle.hs_lists.proofs.Counts.{one_few, one_le}
 use Rattle.hs_base.specs.declared.ids.GroupId.{GroupId}
-use Rattle.hs_base.specs.declared.told.Ask.{Ask}
 use Rattle.hs_base.specs.NodeSets.{has_node}
-use Rattle.hs_coord.specs.Following.{Message, Messages, is_of, is_first_sender, has_crumb, has_ask, first_of, is_newly_asked}
-use Rattle.hs_law_journal.specs.Following.{ask_by, asks_behind, asks_to}
-use Rattle.hs_law_journal.proofs.Sums.{sum_le, sum_lt, sum_to}
+use Rattle.hs_coord.specs.Following.{is_of, is_first_sender, has_crumb, has_ask, first_of, is_newly_asked}
 
 -- ---- sums
 

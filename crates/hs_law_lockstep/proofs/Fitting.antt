@@ -1,32 +1,16 @@
 -- The laws of the parts of a round for valid workloads: all that they ask for is there at every machine on its way.
 use Rattle.std.proofs.Common.{◌≡◌, ℕ, ◌+◌, ◌<◌, ◌^◌, Bool, true, false, cond, List, [], refl, sym, ap, subst, ◌∙◌, Some, arith, map, slice_get, ltb, nat_eq, eqb-true, eq-eqb}
-use Rattle.std.specs.List.{AllByRecursion}
-use Rattle.std.proofs.lemmas.Bool.{and_parts}
-use Rattle.std.proofs.lemmas.Option.{same_Some}
-use Rattle.hs_lists.proofs.Alls.{all_each}
-use Rattle.hs_base.specs.Rules.{is_declared}
-use Rattle.hs_base.specs.declared.told.Ask.{Ask}
-use Rattle.hs_journal.specs.declared.journal.Step.{Step}
-use Rattle.hs_law_agent.specs.Stepping.{Input, Took}
-use Rattle.hs_records.specs.Plain.{PlainWorkload}
-use Rattle.hs_law_sends.specs.Sending.{ClientSends, node_sends, place_of}
-use Rattle.hs_workload.specs.Validity.{IsValid}
-use Rattle.hs_law_journal.specs.Following.{NodeRun, asks_to, event_of, followed}
-use Rattle.hs_law_lockstep.specs.Clauses.{IsRunnable, ValidWorkloadsRun}
+use Rattle.hs_law_lockstep.proofs.Prelude.{AllByRecursion, and_parts, same_Some, all_each, is_declared, Ask, Step, Input, Took, PlainWorkload, ClientSends, node_sends, place_of, IsValid, NodeRun, asks_to, event_of, followed, IsRunnable, ValidWorkloadsRun, Known, Machine, with_steps, client_goes, node_at, heard_in, after_steps, IsReached, is_known, admitted_at}
 use Rattle.hs_law_journal.specs.Fitting.{MayTake}
 use Rattle.hs_law_lockstep.specs.Conditions.{IsFit, MachinesFit}
-use Rattle.hs_law_journal.specs.Known.{Known}
-use Rattle.hs_law_lockstep.specs.Lockstep.{Machine, with_steps, client_goes}
-use Rattle.hs_law_lockstep.specs.Parts.{node_at, heard_in, ClientsGoSo, AgentsGiveSo}
-use Rattle.hs_law_journal.specs.Performing.{after_steps}
+use Rattle.hs_law_lockstep.specs.Parts.{ClientsGoSo, AgentsGiveSo}
 use Rattle.hs_law_lockstep.specs.Reaching as reaching
-use Rattle.hs_law_lockstep.specs.Reaching.{IsReached}
 use Rattle.hs_law_lockstep.proofs.Bounds.{stamps_few, groups_few, place_low}
 use Rattle.hs_law_lockstep.proofs.Followed.{left_is}
 use Rattle.hs_law_journal.proofs.Fit.{node_sends_fit, event_fits}
 use Rattle.hs_law_lockstep.proofs.Giving.{history_long, agent_gives}
 use Rattle.hs_law_lockstep.proofs.Going.{client_goes_so}
-use Rattle.hs_law_journal.proofs.Groups.{is_known, asks_known, admitted_at}
+use Rattle.hs_law_journal.proofs.Groups.{asks_known}
 use Rattle.hs_law_lockstep.proofs.Held.{IsHeld}
 use Rattle.hs_law_lockstep.proofs.Keeping.{own_sends}
 use Rattle.hs_law_lockstep.proofs.Performed.{bare, bare_is, performed_walk, steps_keep}

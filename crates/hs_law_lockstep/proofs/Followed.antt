@@ -1,37 +1,16 @@
 -- The schedule is followed to its end, piece by piece: each time a client has drawn, agents have taken or given, or the coordinator
 -- has heard, the run of the longer journal is that of the shorter one with these steps performed.
 use Rattle.std.proofs.Common.{◌≡◌, ℕ, zero, suc, ◌+◌, ◌-◌, ◌/◌, min, ◌<◌, ◌≤◌, true, false, List, [], ◌∷◌, ◌++◌, length, set, drop, replicate, refl, sym, ap, subst, ◌∙◌, Option, Some, None, arith, map, option_map, slice_get, unwrap_or, count_by, append-nil, eq-eqb, nat_eq}
-use Rattle.std.specs.List.{AllByRecursion, flat_map, range_with_len}
-use Rattle.std.specs.Cmp.Derive.{both_true}
-use Rattle.std.specs.Option.{option_map_or}
-use Rattle.std.proofs.lemmas.List.{length-map, length-replicate}
-use Rattle.std.proofs.lemmas.List.FromFn.{length-range_with_len}
-use Rattle.std.proofs.lemmas.Option.{slice_get-map, slice_get_within}
-use Rattle.hs_lists.proofs.Alls.{all_by_place, all_map, all_append, all_each, all_at}
+use Rattle.hs_law_lockstep.proofs.Prelude.{AllByRecursion, flat_map, range_with_len, both_true, option_map_or, length-map, length-replicate, length-range_with_len, slice_get-map, slice_get_within, all_by_place, all_map, all_append, all_each, all_at, drop_length, count_append, list_all_from, NodeId, Messages, Draw, Step, PlainJournal, PlainWorkload, draws_at, operations_at, node_behind, run_behind, IsOfJournal, Queue, takes, taken, is_from, NodeRun, Run, log_at, node_start, run_start, followed, Leads, Stays, is_offer, played, pool_events, supply, said_at, same_supply, Known, Machine, machine_start, done_at, draws_in, pages_started, client_goes, pass_steps, give_steps, with_steps, agents_take, agents_give, told_of, coordinator_hears, passes, lockstep}
 use Rattle.hs_lists.proofs.Ranges.{range_found}
-use Rattle.hs_lists.proofs.Parts.{drop_front, drop_length}
-use Rattle.hs_lists.proofs.Counts.{count_append}
-use Rattle.hs_lists.proofs.Tests.{list_all_from}
-use Rattle.hs_base.specs.declared.ids.NodeId.{NodeId}
-use Rattle.hs_coord.specs.Following.{Messages}
-use Rattle.hs_journal.specs.declared.journal.Draw.{Draw}
-use Rattle.hs_journal.specs.declared.journal.Step.{Step}
+use Rattle.hs_lists.proofs.Parts.{drop_front}
 use Rattle.hs_journal.specs.declared.journal.Step.TheVariants as steps
-use Rattle.hs_journal.specs.Views.{PlainJournal}
-use Rattle.hs_records.specs.Plain.{PlainWorkload}
-use Rattle.hs_law_sends.specs.Sending.{draws_at, operations_at}
 use Rattle.hs_law_journal.specs.Ends.{is_followed}
-use Rattle.hs_law_journal.specs.Extending.{HasMore, GoesOn, node_behind, run_behind, IsOfJournal, NodesAreOfJournal}
-use Rattle.hs_law_journal.specs.Following.{Queue, takes, taken, is_from, NodeRun, Run, log_at, node_start, run_start, followed, is_done}
-use Rattle.hs_law_journal.specs.Orders.{Leads, Stays}
-use Rattle.hs_law_journal.specs.Passes.{is_offer}
-use Rattle.hs_law_journal.specs.Played.{played}
-use Rattle.hs_law_journal.specs.Pooled.{pool_events}
-use Rattle.hs_law_journal.specs.Supply.{supply, said_at, TakesWhatIsThere}
-use Rattle.hs_law_journal.proofs.Supplied.{same_supply}
+use Rattle.hs_law_journal.specs.Extending.{HasMore, GoesOn, NodesAreOfJournal}
+use Rattle.hs_law_journal.specs.Following.{is_done}
+use Rattle.hs_law_journal.specs.Supply.{TakesWhatIsThere}
 use Rattle.hs_law_lockstep.specs.Clauses.{ScheduleIsFollowed}
-use Rattle.hs_law_journal.specs.Known.{Known}
-use Rattle.hs_law_lockstep.specs.Lockstep.{Machine, machine_start, done_at, draws_in, pages_started, with_draws, client_goes, pass_steps, give_steps, with_steps, agents_take, agents_give, told_of, coordinator_hears, passes, lockstep}
+use Rattle.hs_law_lockstep.specs.Lockstep.{with_draws}
 use Rattle.hs_law_lockstep.proofs.Lists.{length_extended, extended_at, extended_more}
 use Rattle.hs_law_lockstep.proofs.Machines.{clients_keep, end_keeps, machine_end}
 use Rattle.hs_law_lockstep.proofs.Rooms.{pass_fits, told_fits}

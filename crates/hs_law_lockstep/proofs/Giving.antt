@@ -1,25 +1,10 @@
 -- What the agents give, step by step: from the front of the hand, each chunk with the buffer of its page and with the next stamp.
 use Rattle.std.proofs.Common.{◌≡◌, ℕ, zero, suc, ◌+◌, ◌<◌, ◌≤◌, ◌^◌, List, [], ◌∷◌, ◌++◌, length, refl, sym, ap, subst, ◌∙◌, Some, arith, map, option_map, drop, take, reverse, slice_get, append-nil}
-use Rattle.std.specs.List.{range_with_len}
-use Rattle.std.specs.Option.{option_and_then}
-use Rattle.std.proofs.lemmas.List.{map-append, length-drop, length-reverse, reverse-append}
-use Rattle.std.proofs.lemmas.List.FromFn.{length-range_with_len}
-use Rattle.std.proofs.lemmas.Option.{same_Some}
-use Rattle.hs_lists.proofs.Alls.{all_at}
-use Rattle.hs_coord.specs.Following.{Messages}
-use Rattle.hs_journal.specs.declared.journal.Step.{Step}
+use Rattle.hs_law_lockstep.proofs.Prelude.{range_with_len, option_and_then, map-append, length-reverse, reverse-append, length-range_with_len, same_Some, all_at, Messages, Step, Gave, PlainSettings, PlainWorkload, PoolEvent, Given, IsHistoryBack, MayFollow, NodeRun, event_of, perform, followed, StampedPoolEvent, by_stamp, pool_events, pool_history, Known, Machine, give_steps, agents_give, node_at, heard_in, after_steps, IsReached}
+use Rattle.std.proofs.lemmas.List.{length-drop}
 use Rattle.hs_journal.specs.declared.journal.Step.TheVariants as steps
-use Rattle.hs_law_agent.specs.Stepping.{Gave}
 use Rattle.hs_law_agent.specs.Stepping as model
-use Rattle.hs_records.specs.Plain.{PlainSettings, PlainWorkload}
-use Rattle.hs_words.specs.PoolHistory.{PoolEvent, Given, IsHistoryBack, MayFollow}
-use Rattle.hs_law_journal.specs.Following.{NodeRun, event_of, perform, followed}
-use Rattle.hs_law_journal.specs.Pooled.{StampedPoolEvent, by_stamp, pool_events, pool_history}
-use Rattle.hs_law_journal.specs.Known.{Known}
-use Rattle.hs_law_lockstep.specs.Lockstep.{Machine, give_steps, agents_give}
-use Rattle.hs_law_lockstep.specs.Parts.{node_at, heard_in, GivesNext, AgentGives}
-use Rattle.hs_law_journal.specs.Performing.{after_steps}
-use Rattle.hs_law_lockstep.specs.Reaching.{IsReached}
+use Rattle.hs_law_lockstep.specs.Parts.{GivesNext, AgentGives}
 use Rattle.hs_law_lockstep.proofs.Followed.{left_is, give_there, StepsThere}
 use Rattle.hs_law_lockstep.proofs.Growing.{events_back, history_of, IsBelow, comes_last}
 use Rattle.hs_law_lockstep.proofs.Held.{node_events, IsHeld, HeldUpTo, pool_is, buffer_given, buffer_there, give_held, give_events}

@@ -1,28 +1,7 @@
 -- A client's turn: its draws come behind what happened at the pool of its node, and all else stands as it stood.
 use Rattle.std.proofs.Common.{◌≡◌, ◌≢◌, ℕ, ◌/◌, ◌<◌, ◌≤◌, ◌^◌, List, [], ◌∷◌, ◌++◌, length, drop, reverse, refl, sym, ap, subst, ◌∙◌, Option, Some, None, arith, map, option_map, slice_get, length-append}
-use Rattle.std.specs.Option.{option_map_or}
-use Rattle.std.proofs.lemmas.List.{length-map}
-use Rattle.std.proofs.lemmas.Nat.{mul-add-lt, div-mul-add}
-use Rattle.std.proofs.lemmas.Option.{slice_get-map, slice_get_within}
-use Rattle.hs_lists.proofs.Parts.{drop_length}
-use Rattle.hs_lists.proofs.Places.{unwrap_set, unwrap_other}
-use Rattle.hs_journal.specs.declared.journal.Draw.{Draw}
-use Rattle.hs_journal.specs.declared.journal.Step.{Step}
-use Rattle.hs_law_agent.specs.Laws.{sheets_of}
-use Rattle.hs_records.specs.Plain.{PlainWorkload}
-use Rattle.hs_law_sends.specs.Drawn.{drawn_from}
-use Rattle.hs_law_sends.specs.Sending.{ClientSends, draws_at, node_sends, place_of}
-use Rattle.hs_law_sends.proofs.Order.{length_next}
-use Rattle.hs_words.specs.Pages.{Sheet}
-use Rattle.hs_words.specs.PoolHistory.{PoolEvent, queue_after}
-use Rattle.hs_law_journal.specs.Extending.{node_behind, run_behind}
-use Rattle.hs_law_journal.specs.Following.{NodeRun, Run, log_at, followed}
-use Rattle.hs_law_journal.specs.Pooled.{StampedPoolEvent, event_drawn, pool_history}
-use Rattle.hs_law_lockstep.specs.Clauses.{IsLaidOut}
-use Rattle.hs_law_journal.specs.Known.{Known}
-use Rattle.hs_law_lockstep.specs.Lockstep.{Machine, done_at, next_draws, draws_by, draws_in, client_goes}
-use Rattle.hs_law_lockstep.specs.Parts.{node_at, next_done, next_pages, next_drawn, sending, ClientGoes}
-use Rattle.hs_law_lockstep.specs.Reaching.{IsReached}
+use Rattle.hs_law_lockstep.proofs.Prelude.{option_map_or, length-map, mul-add-lt, div-mul-add, slice_get-map, slice_get_within, drop_length, unwrap_set, unwrap_other, Draw, Step, sheets_of, PlainWorkload, drawn_from, ClientSends, draws_at, node_sends, place_of, length_next, Sheet, PoolEvent, queue_after, node_behind, run_behind, NodeRun, Run, log_at, followed, StampedPoolEvent, event_drawn, pool_history, IsLaidOut, Known, Machine, done_at, next_draws, draws_by, draws_in, client_goes, node_at, IsReached}
+use Rattle.hs_law_lockstep.specs.Parts.{next_done, next_pages, next_drawn, sending, ClientGoes}
 use Rattle.hs_law_lockstep.specs.Reaching as reaching
 use Rattle.hs_law_lockstep.proofs.Drawing.{grown, draws_told}
 use Rattle.hs_law_lockstep.proofs.Followed.{draws_are}

@@ -1,16 +1,11 @@
 -- A pool with an event more. The event bears the next stamp: wherever it stands among the others, it comes last in the history. A
 -- buffer that is out waits nowhere, and nothing happened to it since it was got.
 use Rattle.std.proofs.Common.{◌≡◌, ℕ, zero, suc, ◌+◌, ◌<◌, ◌≤◌, Bool, true, false, ◌&&◌, ◌||◌, not, cond, List, [], ◌∷◌, ◌++◌, length, refl, sym, ap, subst, ◌∙◌, Some, None, arith, map, filter, drop, reverse, slice_get, count_by, eqb, eqb-true, eq-eqb, ltb, ltb-true, lt-ltb, append-nil, length-append}
-use Rattle.std.specs.List.{AllByRecursion, flat_map, range_with_len}
-use Rattle.std.specs.Cmp.Derive.{both_true}
+use Rattle.hs_law_lockstep.proofs.Prelude.{AllByRecursion, flat_map, range_with_len, both_true, map-append, reverse-append, filter-append, count_cons, count_append, all_append, all_each, PoolEvent, Got, Empty, Given, Missed, is_got, is_given, queue_after, MayFollow, IsHistoryBack, StampedPoolEvent, by_stamp, answers_draw}
 use Rattle.std.proofs.lemmas.Bool.{eqb-false}
-use Rattle.std.proofs.lemmas.List.{map-append, reverse-append}
-use Rattle.std.proofs.lemmas.List.Elements.{filter-append}
-use Rattle.hs_lists.proofs.Counts.{one_of_below, one_if as one, count_cons, count_append}
-use Rattle.hs_lists.proofs.Alls.{all_append, all_each}
+use Rattle.hs_lists.proofs.Counts.{one_of_below, one_if as one}
 use Rattle.hs_journal.specs.declared.journal.Draw.TheVariants as draws
-use Rattle.hs_words.specs.PoolHistory.{PoolEvent, Got, Empty, Given, Missed, is_got, is_given, queue_after, MayFollow, IsHistoryBack}
-use Rattle.hs_law_journal.specs.Pooled.{StampedPoolEvent, by_stamp, has_buffer, is_touched, answers_draw}
+use Rattle.hs_law_journal.specs.Pooled.{has_buffer, is_touched}
 
 -- what happened, the latest first
 abbrev pub events_back : List StampedPoolEvent → List PoolEvent

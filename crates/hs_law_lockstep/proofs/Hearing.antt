@@ -1,24 +1,8 @@
 -- What the coordinator hears, message by message, while the nodes stand as they stood.
 use Rattle.std.proofs.Common.{◌≡◌, inl, inr, ℕ, suc, List, [], ◌∷◌, ◌++◌, length, drop, refl, sym, ap, subst, ◌∙◌, Some, None, map, slice_get}
-use Rattle.std.specs.List.{AllByRecursion}
-use Rattle.std.specs.Option.{option_and_then}
-use Rattle.hs_lists.proofs.Parts.{drop_length}
-use Rattle.hs_lists.proofs.Options.{option_unmap}
-use Rattle.hs_lists.proofs.Alls.{all_at}
-use Rattle.hs_base.specs.declared.ids.NodeId.{NodeId}
-use Rattle.hs_coord.specs.Following.{Message}
-use Rattle.hs_journal.specs.declared.journal.Step.{Step}
-use Rattle.hs_journal.specs.Views.{PlainJournal}
-use Rattle.hs_records.specs.Plain.{PlainSettings, PlainWorkload}
-use Rattle.hs_law_sends.specs.Sending.{ClientSends, node_sends}
-use Rattle.hs_law_journal.specs.Extending.{node_behind, run_behind}
-use Rattle.hs_law_journal.specs.Following.{NodeRun, Run, log_at, step_of, message_of, hear, followed}
-use Rattle.hs_law_journal.specs.Orders.{Leads, Stays, Goes}
-use Rattle.hs_law_journal.specs.Known.{Known}
-use Rattle.hs_law_lockstep.specs.Lockstep.{Machine, coordinator_hears}
+use Rattle.hs_law_lockstep.proofs.Prelude.{AllByRecursion, option_and_then, drop_length, option_unmap, all_at, NodeId, Message, Step, PlainJournal, PlainSettings, PlainWorkload, ClientSends, node_sends, node_behind, run_behind, NodeRun, Run, log_at, step_of, message_of, hear, followed, Leads, Stays, Goes, Known, Machine, coordinator_hears, IsReached}
 use Rattle.hs_law_lockstep.specs.Parts.{CoordinatorHears, CoordinatorHearsSo}
 use Rattle.hs_law_journal.specs.Performing.{after_names}
-use Rattle.hs_law_lockstep.specs.Reaching.{IsReached}
 use Rattle.hs_law_lockstep.proofs.Followed.{behind_left, hear_there}
 use Rattle.hs_law_lockstep.proofs.Keeping.{own_sends}
 use Rattle.hs_law_lockstep.proofs.Standing.{kept, through_at}

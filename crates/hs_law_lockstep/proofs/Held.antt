@@ -1,30 +1,13 @@
 -- Each piece of the schedule keeps what is held: a client draws with the next stamps, an agent takes only what was sent, and what it
 -- gives bears the next stamps.
 use Rattle.std.proofs.Common.{◌≡◌, ℕ, zero, suc, ◌+◌, ◌<◌, ◌≤◌, Bool, true, false, cond, List, [], ◌∷◌, ◌++◌, length, refl, sym, ap, subst, ◌∙◌, Option, Some, None, arith, map, filter, filter_map, option_map, slice_get, eqb, eq-eqb, append-nil}
-use Rattle.std.specs.List.{cons_option}
-use Rattle.std.specs.Option.{option_and_then, option_map_or}
-use Rattle.std.proofs.lemmas.Option.{slice_get-map, same_Some}
-use Rattle.hs_lists.proofs.Options.{option_unmap}
-use Rattle.hs_lists.proofs.Counts.{one_if, count_cons, count_append}
-use Rattle.hs_coord.specs.Following.{Messages}
-use Rattle.hs_journal.specs.declared.journal.Draw.{Draw}
+use Rattle.hs_law_lockstep.proofs.Prelude.{cons_option, option_and_then, option_map_or, slice_get-map, same_Some, option_unmap, one_if, count_cons, count_append, Messages, Draw, Step, count_of, PlacesMatch, ListsHaveTheirChunks, sheets_of, brought_by, noted_as, EventsAddThis, Taken, stands, AgentState, GivenPlace, Input, Chunk, Crumbed, Triggered, Asked, Turn, AgentEvent, Took, Gave, after_event, PlainSettings, DrawnPage, has_buffer, Sent, ClientSends, sheet_of, sent_chunks, Sheet, Chunks, Crumbs, Triggers, Asks, taken, takes, asks_to, NodeRun, next_of, event_of, perform, ComesByEvents, is_offer, StampedPoolEvent, drawn_event, buffer_of, page_of, given_page, missed_event, node_pages, pool_events, step_stamp}
 use Rattle.hs_journal.specs.declared.journal.Draw.TheVariants as draws
-use Rattle.hs_journal.specs.declared.journal.Step.{Step}
 use Rattle.hs_journal.specs.declared.journal.Step.TheVariants as steps
-use Rattle.hs_law_agent.specs.Laws.{count_of, given_places, PlacesMatch, ListsHaveTheirChunks, EventsGoOn, sheets_of, brought_by, noted_as, EventsAddThis}
-use Rattle.hs_law_agent.specs.Standings.{Taken, is_let_go, stands}
-use Rattle.hs_law_agent.specs.State.{AgentState, GivenPlace}
-use Rattle.hs_law_agent.specs.Stepping.{Input, Chunk, Crumbed, Triggered, Asked, Turn, AgentEvent, Took, Gave, after_event}
+use Rattle.hs_law_agent.specs.Laws.{given_places, EventsGoOn}
+use Rattle.hs_law_agent.specs.Standings.{is_let_go}
 use Rattle.hs_law_agent.specs.Stepping as model
-use Rattle.hs_records.specs.Plain.{PlainSettings}
-use Rattle.hs_law_sends.specs.Drawn.{DrawnPage, has_buffer}
-use Rattle.hs_law_sends.specs.Sending.{Sent, ClientSends, sheet_of, sent_chunks}
-use Rattle.hs_words.specs.Pages.{Sheet}
-use Rattle.hs_law_journal.specs.Following.{Chunks, Crumbs, Triggers, Asks, taken, takes, asks_to, NodeRun, next_of, event_of, perform}
-use Rattle.hs_law_journal.specs.Laws.{ComesByEvents}
-use Rattle.hs_law_journal.specs.Passes.{is_offer}
-use Rattle.hs_law_journal.specs.Pooled.{StampedPoolEvent, drawn_event, buffer_of, page_of, given_page, given_buffer, given_event, missed_event, node_pages, pool_events}
-use Rattle.hs_law_journal.specs.Shape.{step_stamp}
+use Rattle.hs_law_journal.specs.Pooled.{given_buffer, given_event}
 use Rattle.hs_law_lockstep.proofs.Holding.{given_as, event_at, gives_in, events_in, IsDrawn, ClientHolds, Holds, Adds, same_events, takes_keep, given_drawn, now_is, gives_keep, given_longer}
 
 -- ---- a node

@@ -1,26 +1,13 @@
 -- Who holds which buffer at a node: each buffer that a client got for a page is out until the chunk of that page is given. A step of
 -- the agent keeps this, be it that it takes or that it gives with the next stamp.
 use Rattle.std.proofs.Common.{◌≡◌, ◌⊎◌, inl, inr, ℕ, zero, suc, ◌+◌, ◌<◌, ◌≤◌, Bool, true, false, ◌&&◌, List, [], ◌∷◌, ◌++◌, length, refl, sym, ap, subst, ◌∙◌, Option, Some, None, arith, map, filter_map, option_map, slice_get, count_by, eqb, eqb-true, eq-eqb, append_assoc, append-nil, length-append, lt-ltb}
-use Rattle.std.specs.List.{AllByRecursion, flat_map, cons_option}
-use Rattle.std.specs.Option.{option_and_then}
-use Rattle.std.specs.Cmp.Derive.{both_true}
-use Rattle.std.proofs.lemmas.List.{map-append}
+use Rattle.hs_law_lockstep.proofs.Prelude.{AllByRecursion, flat_map, cons_option, option_and_then, both_true, map-append, same_Some, get_front, get_mid, one_if, count_cons, count_append, all_append, all_front, Step, GivenPlace, DrawnPage, stamp_of, Sent, ClientSends, sheet_of, sent_chunks, Sheet, Given, Chunks, taken, takes, StampedPoolEvent, drawn_event, buffer_of, missed_event, step_stamp, log_stamps, rise}
 use Rattle.std.proofs.lemmas.List.Elements.{filter_map-append}
-use Rattle.std.proofs.lemmas.Option.{same_Some}
-use Rattle.hs_lists.proofs.Places.{get_front, get_behind, get_mid}
-use Rattle.hs_lists.proofs.Counts.{one_if, count_cons, count_append}
-use Rattle.hs_lists.proofs.Alls.{all_append, all_front}
+use Rattle.hs_lists.proofs.Places.{get_behind}
 use Rattle.hs_journal.specs.declared.journal.Draw.TheVariants as draws
-use Rattle.hs_journal.specs.declared.journal.Step.{Step}
 use Rattle.hs_journal.specs.declared.journal.Step.TheVariants as steps
-use Rattle.hs_law_agent.specs.State.{GivenPlace}
-use Rattle.hs_law_sends.specs.Drawn.{DrawnPage, stamp_of}
-use Rattle.hs_law_sends.specs.Sending.{Sent, ClientSends, sheet_of, sent_chunks}
-use Rattle.hs_words.specs.Pages.{Sheet}
-use Rattle.hs_words.specs.PoolHistory.{Given}
-use Rattle.hs_law_journal.specs.Following.{Chunks, taken, takes}
-use Rattle.hs_law_journal.specs.Pooled.{StampedPoolEvent, drawn_event, buffer_of, missed_event, has_buffer}
-use Rattle.hs_law_journal.specs.Shape.{step_stamp, log_stamps, rise_above, rise}
+use Rattle.hs_law_journal.specs.Pooled.{has_buffer}
+use Rattle.hs_law_journal.specs.Shape.{rise_above}
 use Rattle.hs_law_lockstep.proofs.Growing.{stamps_of, IsPooled, IsOut, IsAnswered, answered, given_kept, given_answers, given_stays}
 
 -- ---- what happened at the pool

@@ -1,38 +1,13 @@
 -- Each pass takes of a queue what the rounds so far have put there, or 64 items.
 use Rattle.std.proofs.Common.{◌≡◌, ◌⊎◌, inl, inr, ◌≢◌, ℕ, zero, suc, ◌+◌, ◌-◌, ◌*◌, ◌/◌, ◌<◌, ◌≤◌, min, Bool, true, false, cond, List, [], ◌∷◌, ◌++◌, length, refl, sym, ap, subst, ◌∙◌, Option, Some, None, arith, map, filter, take, zip, option_map, slice_get, replicate, count_by, ltb, ltb-true, ltb-false, eq-eqb, le-leb, append-nil, length-append}
-use Rattle.std.specs.List.{AllByRecursion, flat_map, range_with_len, list_all}
-use Rattle.std.specs.Cmp.Derive.{both_true}
-use Rattle.std.proofs.lemmas.List.Elements.{filter-append}
-use Rattle.std.proofs.Math.Nat.{mul-le-mul_right}
-use Rattle.std.proofs.lemmas.Nat.{mul-add-lt}
-use Rattle.std.proofs.lemmas.Option.{slice_get-map, same_Some}
-use Rattle.hs_lists.proofs.Filters.{filter_none}
-use Rattle.hs_lists.proofs.Places.{zipped_at, unwrap_set, unwrap_other}
-use Rattle.hs_lists.proofs.Ranges.{list_all_range, range_at}
-use Rattle.hs_lists.proofs.Counts.{one_if, count_cons, count_append}
-use Rattle.hs_base.specs.declared.ids.ClientId.{ClientId}
-use Rattle.hs_base.specs.declared.ids.TraceId.{TraceId}
-use Rattle.hs_base.specs.declared.limits.TheConstants.{MAX_TAKEN, MIN_SIZE}
+use Rattle.hs_law_lockstep.proofs.Prelude.{AllByRecursion, flat_map, range_with_len, list_all, both_true, filter-append, mul-le-mul_right, mul-add-lt, slice_get-map, same_Some, filter_none, unwrap_set, unwrap_other, list_all_range, range_at, one_if, count_cons, count_append, ClientId, TraceId, MAX_TAKEN, MIN_SIZE, Draw, Step, PlainJournal, Operation, PlainWorkload, NumberedOperation, numbered_from, open_behind, DrawnPage, has_buffer, drawn_from, IsTimely, Sent, ClientSends, sheet_of, sent_chunks, sent_within, client_sends, node_sends, operations_at, draws_at, place_of, TimedPage, timed_pages, Sheet, Queue, Chunks, Crumbs, Triggers, Asks, takes, taken, asks_to, NodeRun, log_at, followed, items_in_pace, passes_of, taken_in, IsLaidOut, Known, Machine, machine_start, done_at, draws_in, pages_started, client_goes, takes_from, takes_of, takes_all, pass_steps, passes, lockstep}
+use Rattle.hs_lists.proofs.Places.{zipped_at}
 use Rattle.hs_base.specs.declared.settings.AutoRule.{AutoRule}
 use Rattle.hs_base.specs.declared.told.Crumb.{Crumb}
 use Rattle.hs_base.specs.declared.told.Trigger.{Trigger}
-use Rattle.hs_journal.specs.declared.journal.Draw.{Draw}
-use Rattle.hs_journal.specs.declared.journal.Step.{Step}
 use Rattle.hs_journal.specs.declared.journal.Step.TheVariants as steps
-use Rattle.hs_journal.specs.Views.{PlainJournal}
-use Rattle.hs_records.specs.Plain.{Operation, PlainWorkload}
-use Rattle.hs_records.specs.Records.{NumberedOperation, numbered_from, open_behind}
-use Rattle.hs_law_sends.specs.Drawn.{DrawnPage, has_buffer, drawn_from}
-use Rattle.hs_law_sends.specs.Laws.{IsTimely}
-use Rattle.hs_law_sends.specs.Sending.{Sent, ClientSends, sheet_of, sent_chunks, crumb_in, trigger_in, triggers_behind, sent_within, client_sends, node_sends, operations_at, draws_at, place_of}
-use Rattle.hs_law_sends.specs.Timing.{TimedPage, timed_pages}
-use Rattle.hs_words.specs.Pages.{Sheet}
-use Rattle.hs_law_journal.specs.Following.{Queue, Chunks, Crumbs, Triggers, Asks, takes, taken, asks_to, NodeRun, log_at, followed}
-use Rattle.hs_law_journal.specs.Pace.{inner_passes, takes_enough, client_in_pace, items_in_pace}
-use Rattle.hs_law_journal.specs.Passes.{passes_of, taken_in}
-use Rattle.hs_law_lockstep.specs.Clauses.{IsLaidOut}
-use Rattle.hs_law_journal.specs.Known.{Known}
-use Rattle.hs_law_lockstep.specs.Lockstep.{Machine, machine_start, done_at, draws_in, pages_started, client_goes, takes_from, takes_of, takes_all, pass_steps, passes, lockstep}
+use Rattle.hs_law_sends.specs.Sending.{crumb_in, trigger_in, triggers_behind}
+use Rattle.hs_law_journal.specs.Pace.{inner_passes, takes_enough, client_in_pace}
 use Rattle.hs_law_lockstep.proofs.Drawing.{chunks_more}
 use Rattle.hs_law_lockstep.proofs.Keeping.{more_pages}
 use Rattle.hs_law_lockstep.proofs.Offers.{joined, joined_both, passes_joined, take_front, take_all}

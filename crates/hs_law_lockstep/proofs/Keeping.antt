@@ -1,32 +1,11 @@
 -- Through the whole schedule each node holds what it should: no buffer is got or given but by the history of its pool, and each give
 -- answers the draw of its chunk.
 use Rattle.std.proofs.Common.{◌≡◌, ◌≢◌, ℕ, zero, suc, ◌+◌, ◌-◌, ◌*◌, ◌/◌, ◌<◌, ◌≤◌, min, Bool, true, false, List, [], ◌∷◌, ◌++◌, length, reverse, refl, sym, ap, subst, ◌∙◌, Some, None, arith, map, slice_get, unwrap_or, ltb, ltb-true, ltb-false, leb}
-use Rattle.std.specs.List.{AllByRecursion, flat_map, range_with_len}
-use Rattle.std.specs.Option.{option_map_or}
-use Rattle.std.proofs.lemmas.Bool.{leb-true, leb-false}
-use Rattle.std.proofs.lemmas.List.{length-map, map-append, length-reverse, set_past}
-use Rattle.std.proofs.lemmas.List.FromFn.{length-range_with_len}
-use Rattle.std.proofs.lemmas.Nat.{div-mul-add}
-use Rattle.hs_lists.proofs.Alls.{all_by_place, all_map, all_append, all_each, all_at}
-use Rattle.hs_lists.proofs.Places.{unwrap_set, unwrap_other}
-use Rattle.hs_base.specs.declared.ids.ClientId.{ClientId}
-use Rattle.hs_journal.specs.declared.journal.Draw.{Draw}
-use Rattle.hs_journal.specs.declared.journal.Step.{Step}
+use Rattle.hs_law_lockstep.proofs.Prelude.{AllByRecursion, flat_map, range_with_len, option_map_or, leb-true, length-map, map-append, length-reverse, length-range_with_len, div-mul-add, all_by_place, all_map, all_append, all_each, all_at, unwrap_set, unwrap_other, ClientId, Draw, Step, PlainJournal, sheets_of, Operation, PlainWorkload, DrawnPage, stamp_of, drawn_from, drawn_pages, ClientSends, sent_chunks, client_sends, node_sends, operations_at, draws_at, place_of, TimedPage, timed_pages, queue_after, node_behind, IsOfJournal, NodeRun, Run, node_start, followed, is_offer, drawn_event, pool_events, pool_history, rise, Known, Machine, machine_start, done_at, next_draws, draws_by, draws_in, pages_started, client_goes, pass_steps, give_steps, agents_take, agents_give, coordinator_hears, passes}
+use Rattle.std.proofs.lemmas.Bool.{leb-false}
+use Rattle.std.proofs.lemmas.List.{set_past}
 use Rattle.hs_journal.specs.declared.journal.Step.TheVariants as steps
-use Rattle.hs_journal.specs.Views.{PlainJournal}
-use Rattle.hs_law_agent.specs.Laws.{sheets_of}
-use Rattle.hs_records.specs.Plain.{Operation, PlainWorkload}
-use Rattle.hs_law_sends.specs.Drawn.{DrawnPage, stamp_of, drawn_from, drawn_pages}
-use Rattle.hs_law_sends.specs.Sending.{ClientSends, sent_chunks, sends_of, client_sends, node_sends, operations_at, draws_at, place_of}
-use Rattle.hs_law_sends.specs.Timing.{TimedPage, timed_pages}
-use Rattle.hs_words.specs.PoolHistory.{queue_after}
-use Rattle.hs_law_journal.specs.Extending.{node_behind, IsOfJournal}
-use Rattle.hs_law_journal.specs.Following.{NodeRun, Run, node_start, followed}
-use Rattle.hs_law_journal.specs.Passes.{is_offer}
-use Rattle.hs_law_journal.specs.Pooled.{drawn_event, pool_events, pool_history}
-use Rattle.hs_law_journal.specs.Shape.{rise}
-use Rattle.hs_law_journal.specs.Known.{Known}
-use Rattle.hs_law_lockstep.specs.Lockstep.{Machine, machine_start, done_at, next_draws, draws_by, draws_in, pages_started, client_goes, pass_steps, give_steps, agents_take, agents_give, coordinator_hears, passes}
+use Rattle.hs_law_sends.specs.Sending.{sends_of}
 use Rattle.hs_law_lockstep.proofs.Drawing.{grown, draws_keep}
 use Rattle.hs_law_lockstep.proofs.Followed.{IsDone, number_is, draws_are, passed, enough_of, left_is, steps_there, StepsThere, take_keeps, give_keeps, hear_there, hear_keeps, client_keeps, begins, starts_at, nodes_of_journal}
 use Rattle.hs_law_lockstep.proofs.Growing.{events_back, IsPooled, none_pooled}

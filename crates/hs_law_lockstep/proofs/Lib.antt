@@ -1,3 +1,4 @@
+mod Prelude
 pub mod Versions
 pub mod Lists
 pub mod Machines

@@ -1,9 +1,6 @@
 -- Lists that are extended, tested and counted.
 use Rattle.std.proofs.Common.{◌≡◌, ℕ, zero, suc, ◌+◌, ◌<◌, Bool, false, List, [], ◌∷◌, ◌++◌, length, set, refl, sym, ap, arith, map, slice_get, unwrap_or, count_by, append-nil}
-use Rattle.std.specs.List.{AllByRecursion}
-use Rattle.hs_lists.proofs.Counts.{one_if, count_cons, count_append}
-use Rattle.hs_lists.proofs.Alls.{all_append}
-use Rattle.hs_law_lockstep.specs.Lockstep.{extended}
+use Rattle.hs_law_lockstep.proofs.Prelude.{AllByRecursion, one_if, count_cons, count_append, all_append, extended}
 
 module _ {X : Type 0} where
   -- ---- places

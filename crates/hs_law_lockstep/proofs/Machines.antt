@@ -1,10 +1,6 @@
 -- What each round and each pass keeps, the whole schedule keeps.
 use Rattle.std.proofs.Common.{ℕ, zero, suc, Bool, true, false, List, [], ◌∷◌, length, fold}
-use Rattle.std.specs.List.{range_with_len}
-use Rattle.hs_records.specs.Plain.{PlainWorkload}
-use Rattle.hs_law_journal.specs.Ends.{is_bare, rounds_of}
-use Rattle.hs_law_journal.specs.Played.{played}
-use Rattle.hs_law_lockstep.specs.Lockstep.{Machine, machine_start, client_goes, clients_go, passes, round, rounds, closing, closing_limit}
+use Rattle.hs_law_lockstep.proofs.Prelude.{range_with_len, PlainWorkload, is_bare, rounds_of, played, Machine, machine_start, client_goes, clients_go, passes, round, rounds, closing, closing_limit}
 
 abbrev pub machine_end : PlainWorkload → Machine
 machine_end W = closing (closing_limit W) W (rounds (rounds_of W) W (machine_start W))

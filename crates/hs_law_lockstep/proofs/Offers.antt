@@ -1,30 +1,11 @@
 -- Behind each pass of the schedule every hand is empty: in the pass that was made last, since all that was in the hand was given,
 -- and in each earlier one, since what an agent met then it met before all that came later.
 use Rattle.std.proofs.Common.{◌≡◌, ◌⊎◌, inl, inr, ℕ, zero, suc, ◌+◌, ◌-◌, ◌/◌, ◌<◌, ◌≤◌, min, Bool, true, false, ◌&&◌, ◌||◌, not, cond, List, [], ◌∷◌, ◌++◌, length, take, drop, replicate, refl, sym, ap, subst, ◌∙◌, Some, arith, map, option_map, slice_get, unwrap_or, zip, append_assoc, append-nil, length-append, eq-eqb, nat_eq, eq-or-lt_of_le}
-use Rattle.std.specs.List.{AllByRecursion, flat_map, range_with_len, list_all, list_any}
-use Rattle.std.specs.Cmp.Derive.{both_true}
-use Rattle.std.proofs.lemmas.List.{length-map, take-append-drop}
-use Rattle.std.proofs.lemmas.List.FromFn.{length-range_with_len}
-use Rattle.std.proofs.lemmas.Option.{slice_get-map, slice_get_within, same_Some}
-use Rattle.hs_lists.proofs.Alls.{all_at}
-use Rattle.hs_lists.proofs.Places.{get_there}
-use Rattle.hs_lists.proofs.Tests.{list_all_from}
-use Rattle.hs_journal.specs.declared.journal.Step.{Step}
-use Rattle.hs_journal.specs.Views.{PlainJournal}
-use Rattle.hs_law_agent.specs.State.{AgentState}
-use Rattle.hs_law_agent.specs.Stepping.{AgentEvent, after}
-use Rattle.hs_records.specs.Plain.{PlainWorkload}
-use Rattle.hs_law_sends.specs.Sending.{client_sends, operations_at}
-use Rattle.hs_law_journal.specs.Extending.{node_behind, run_behind, IsOfJournal}
-use Rattle.hs_law_journal.specs.Following.{NodeRun, log_at, run_start, followed}
-use Rattle.hs_law_journal.specs.Laws.{ComesByEvents}
-use Rattle.hs_law_journal.specs.Orders.{Leads}
-use Rattle.hs_law_journal.specs.Passes.{is_unread, put_step, passes_of, steps_in, but_last, last_of, pass_ends, offers_end, has_offers, ends_between}
-use Rattle.hs_law_journal.specs.Played.{played, state_behind}
-use Rattle.hs_law_journal.specs.Pooled.{pool_events}
+use Rattle.hs_law_lockstep.proofs.Prelude.{AllByRecursion, flat_map, range_with_len, list_all, list_any, both_true, length-map, length-range_with_len, slice_get-map, slice_get_within, same_Some, all_at, get_there, list_all_from, Step, PlainJournal, AgentState, AgentEvent, after, PlainWorkload, client_sends, operations_at, node_behind, run_behind, IsOfJournal, NodeRun, log_at, run_start, followed, ComesByEvents, Leads, is_unread, put_step, passes_of, steps_in, ends_between, played, pool_events, Known, Machine, machine_start, done_at, draws_in, pages_started, client_goes, pass_steps, give_steps, agents_take, agents_give, coordinator_hears, passes, lockstep}
+use Rattle.std.proofs.lemmas.List.{take-append-drop}
+use Rattle.hs_law_journal.specs.Passes.{but_last, last_of, pass_ends, offers_end, has_offers}
+use Rattle.hs_law_journal.specs.Played.{state_behind}
 use Rattle.hs_law_lockstep.specs.Clauses.{ScheduleHasOffers}
-use Rattle.hs_law_journal.specs.Known.{Known}
-use Rattle.hs_law_lockstep.specs.Lockstep.{Machine, machine_start, done_at, draws_in, pages_started, client_goes, pass_steps, give_steps, agents_take, agents_give, coordinator_hears, passes, lockstep}
 use Rattle.hs_law_lockstep.proofs.Followed.{IsDone, draws_there, take_there, take_keeps, give_there, give_keeps, hear_there, hear_keeps, client_keeps, begins, count_nodes, log_of}
 use Rattle.hs_law_lockstep.proofs.Lists.{extended_at, length_extended}
 use Rattle.hs_law_lockstep.proofs.Machines.{clients_keep, end_keeps, machine_end}

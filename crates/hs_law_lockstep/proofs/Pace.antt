@@ -1,17 +1,7 @@
 -- Agents and coordinator keep pace: the gives of each pass beside the draws, and what is taken of the items and of the asks.
 use Rattle.std.proofs.Common.{◌≡◌, ℕ, ◌<◌, ◌≤◌, true, ◌&&◌, ap, ◌∙◌, Some, arith, slice_get}
-use Rattle.std.specs.Cmp.Derive.{both_true}
-use Rattle.std.proofs.lemmas.Option.{slice_get_within}
-use Rattle.hs_lists.proofs.Alls.{all_by_place}
-use Rattle.hs_lists.proofs.Tests.{list_all_from}
-use Rattle.hs_base.specs.declared.limits.TheConstants.{MIN_SIZE}
-use Rattle.hs_records.specs.Plain.{PlainWorkload}
-use Rattle.hs_law_sends.specs.Sending.{node_sends}
-use Rattle.hs_law_journal.specs.Following.{NodeRun, followed}
-use Rattle.hs_law_journal.specs.Pace.{gives_in_pace, items_in_pace, asks_in_pace}
-use Rattle.hs_law_lockstep.specs.Clauses.{IsLaidOut, ScheduleHasPace}
-use Rattle.hs_law_journal.specs.Known.{Known}
-use Rattle.hs_law_lockstep.specs.Lockstep.{lockstep}
+use Rattle.hs_law_lockstep.proofs.Prelude.{both_true, slice_get_within, all_by_place, list_all_from, MIN_SIZE, PlainWorkload, node_sends, NodeRun, followed, gives_in_pace, items_in_pace, asks_in_pace, IsLaidOut, Known, lockstep}
+use Rattle.hs_law_lockstep.specs.Clauses.{ScheduleHasPace}
 use Rattle.hs_law_lockstep.proofs.Asks.{asks_kept}
 use Rattle.hs_law_lockstep.proofs.Beside.{gives_kept}
 use Rattle.hs_law_lockstep.proofs.Followed.{count_nodes, number_is, log_of, ends_done}

@@ -1,23 +1,9 @@
 -- Each pass of the schedule adds a whole pass to each log.
 use Rattle.std.proofs.Common.{◌≡◌, ℕ, zero, suc, true, List, [], ◌∷◌, ◌++◌, length, replicate, refl, sym, ap, subst, ◌∙◌, arith, map, slice_get, unwrap_or, append_assoc}
-use Rattle.std.specs.List.{AllByRecursion, range_with_len, list_all}
-use Rattle.std.proofs.lemmas.List.{length-map, length-replicate}
-use Rattle.std.proofs.lemmas.List.FromFn.{length-range_with_len}
-use Rattle.hs_lists.proofs.Alls.{all_append, all_each, all_map, all_always}
-use Rattle.hs_lists.proofs.Tests.{list_all_from}
-use Rattle.hs_lists.proofs.Ranges.{list_all_range_below}
-use Rattle.hs_journal.specs.declared.journal.Step.{Step}
-use Rattle.hs_journal.specs.Views.{PlainJournal}
-use Rattle.hs_records.specs.Plain.{PlainWorkload}
-use Rattle.hs_law_sends.specs.Sending.{client_sends}
-use Rattle.hs_law_journal.specs.Extending.{IsOfJournal, RunsAreOfTheJournal}
-use Rattle.hs_law_journal.specs.Following.{NodeRun, log_at, followed}
-use Rattle.hs_law_journal.specs.Orders.{FollowingPlaysOut}
-use Rattle.hs_law_journal.specs.Passes.{passes_of, queues_of, is_whole_pass, has_passes}
-use Rattle.hs_law_journal.specs.Played.{played}
-use Rattle.hs_law_journal.specs.Pooled.{pool_events}
+use Rattle.hs_law_lockstep.proofs.Prelude.{AllByRecursion, range_with_len, list_all, length-map, length-replicate, length-range_with_len, all_append, all_each, all_map, list_all_from, list_all_range_below, Step, PlainJournal, PlainWorkload, client_sends, IsOfJournal, RunsAreOfTheJournal, NodeRun, log_at, followed, FollowingPlaysOut, passes_of, queues_of, is_whole_pass, played, pool_events, Machine, extended, pass_steps, give_steps, agents_take, passes, lockstep}
+use Rattle.hs_lists.proofs.Alls.{all_always}
+use Rattle.hs_law_journal.specs.Passes.{has_passes}
 use Rattle.hs_law_lockstep.specs.Clauses.{ScheduleHasPasses}
-use Rattle.hs_law_lockstep.specs.Lockstep.{Machine, extended, pass_steps, give_steps, agents_take, passes, lockstep}
 use Rattle.hs_law_lockstep.proofs.Lists.{length_extended}
 use Rattle.hs_law_lockstep.proofs.Machines.{clients_keep, end_keeps, machine_end}
 use Rattle.hs_law_lockstep.proofs.Passing.{ends_pass, IsOnePass, one_more, ends_more, gives, is_one, is_whole}

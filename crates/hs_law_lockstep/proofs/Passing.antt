@@ -1,26 +1,13 @@
 -- A log is cut where passes end: a whole pass behind whole passes is one pass more. And what an agent takes, turns and gives is a
 -- whole pass.
 use Rattle.std.proofs.Common.{◌≡◌, ◌≢◌, ℕ, zero, suc, ◌+◌, ◌-◌, ◌<◌, ◌≤◌, min, Bool, true, false, ◌&&◌, ◌||◌, not, cond, List, [], ◌∷◌, ◌++◌, length, replicate, refl, sym, ap, subst, ◌∙◌, Some, None, arith, map, filter, zip, slice_get, append_assoc, append-nil, eq-eqb, eqb, eqb-true, nat_le, le-leb}
-use Rattle.std.specs.List.{AllByRecursion, flat_map, range_with_len, list_all}
-use Rattle.std.specs.Cmp.Derive.{both_true}
+use Rattle.hs_law_lockstep.proofs.Prelude.{AllByRecursion, flat_map, range_with_len, list_all, both_true, length-replicate, filter-append, flat_map-append, same_Some, all_append, all_replicate, all_flat_map, filter_all, filter_none, MAX_TAKEN, Step, PlainWorkload, ClientSends, place_of, sent_within, Queue, Chunks, Crumbs, Triggers, Asks, takes, taken, asks_to, NodeRun, Run, is_turn, is_offer, ends_between, put_step, passes_of, queues_of, is_whole_pass, Machine, takes_from, takes_of, takes_all, pass_steps, done_at}
 use Rattle.std.proofs.Math.Bool.{and-false}
-use Rattle.std.proofs.lemmas.List.{length-replicate}
-use Rattle.std.proofs.lemmas.List.Elements.{filter-append}
 use Rattle.std.proofs.lemmas.List.Sums.{length-filter}
-use Rattle.std.proofs.lemmas.Grind.{flat_map-append}
-use Rattle.std.proofs.lemmas.Option.{same_Some}
-use Rattle.hs_lists.proofs.Alls.{all_append, all_replicate, all_flat_map}
-use Rattle.hs_lists.proofs.Filters.{filter_all, filter_none}
-use Rattle.hs_base.specs.declared.limits.TheConstants.{MAX_TAKEN}
-use Rattle.hs_journal.specs.declared.journal.Step.{Step}
 use Rattle.hs_journal.specs.declared.journal.Step.TheVariants as steps
-use Rattle.hs_records.specs.Plain.{PlainWorkload}
-use Rattle.hs_law_sends.specs.Sending.{ClientSends, place_of, sent_within}
-use Rattle.hs_law_journal.specs.Following.{Queue, Chunks, Crumbs, Triggers, Asks, takes, taken, asks_to, NodeRun, Run}
-use Rattle.hs_law_journal.specs.Passes.{is_turn, is_offer, ends_between, put_step, passes_of, client_queues, queues_of, same_steps, arranged, is_whole_pass}
+use Rattle.hs_law_journal.specs.Passes.{client_queues, same_steps, arranged}
 use Rattle.hs_law_journal.specs.Played.{clients_of}
 use Rattle.hs_law_journal.proofs.Logs.{same_steps_refl}
-use Rattle.hs_law_lockstep.specs.Lockstep.{Machine, takes_from, takes_of, takes_all, pass_steps, done_at}
 use Rattle.hs_law_lockstep.proofs.Lists.{all_map}
 use Rattle.hs_law_lockstep.proofs.Takes.{all_takes}
 

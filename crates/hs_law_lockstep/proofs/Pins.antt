@@ -1,36 +1,19 @@
 -- What is pinned can be reported: its group is of a declared trigger id, which has a share, and the budget of a share pays for a page.
 use Rattle.std.proofs.Common.{◌≡◌, ℕ, zero, suc, ◌+◌, ◌*◌, ◌<◌, ◌≤◌, Bool, true, false, ◌||◌, cond, List, [], ◌∷◌, refl, sym, ap, subst, ◌∙◌, Option, Some, None, arith, option_map, slice_get, find, eqb, eqb-true, eq-eqb}
-use Rattle.std.specs.List.{AllByRecursion, list_any, range_with_len}
-use Rattle.std.specs.Option.{option_map_or}
-use Rattle.std.proofs.Math.Nat.{suc-mul}
-use Rattle.std.proofs.lemmas.Bool.{and_parts}
-use Rattle.std.proofs.lemmas.List.{length-map}
-use Rattle.std.proofs.lemmas.List.FromFn.{length-range_with_len}
-use Rattle.std.proofs.lemmas.Option.{slice_get-map, slice_get_within, same_Some}
-use Rattle.hs_lists.proofs.Alls.{all_at}
-use Rattle.hs_lists.proofs.Ranges.{range_at}
-use Rattle.hs_base.specs.Rules.{is_declared}
+use Rattle.hs_law_lockstep.proofs.Prelude.{AllByRecursion, list_any, range_with_len, option_map_or, suc-mul, and_parts, length-map, length-range_with_len, slice_get-map, slice_get_within, same_Some, all_at, range_at, is_declared, MIN_SIZE, TriggerRule, PlainJournal, count_of, PlacesMatch, ListsHaveTheirChunks, sheets_of, CanReport, Taken, stands, PlainWorkload, ClientSends, sheet_of, client_sends, node_sends, operations_at, draws_at, place_of, timed_pages, NodeRun, ComesByEvents, is_known, Speaks}
 use Rattle.hs_base.specs.declared.ids.TriggerId.{TriggerId}
-use Rattle.hs_base.specs.declared.limits.TheConstants.{MIN_SIZE}
-use Rattle.hs_base.specs.declared.settings.TriggerRule.{TriggerRule}
 use Rattle.hs_base.specs.declared.told.Group.{Group}
 use Rattle.hs_base.specs.Ids.{same_trace}
-use Rattle.hs_journal.specs.Views.{PlainJournal}
-use Rattle.hs_law_agent.specs.Laws.{count_of, PlacesMatch, ListsHaveTheirChunks, claiming_group, StandsByClaim, AllStandByClaim, ChunksStandByTheirClaim, sheets_of, CanReport}
-use Rattle.hs_law_agent.specs.Standings.{ChunkStanding, Indexed, Pinned, Reported, Evicted, Abandoned, Taken, trace_of, is_pinned, stands}
+use Rattle.hs_law_agent.specs.Laws.{claiming_group, StandsByClaim, AllStandByClaim, ChunksStandByTheirClaim}
+use Rattle.hs_law_agent.specs.Standings.{ChunkStanding, Indexed, Pinned, Reported, Evicted, Abandoned, trace_of, is_pinned}
 use Rattle.hs_law_agent.specs.State.{ClaimedTrace}
 use Rattle.hs_law_agent.specs.Turning.{is_pinned_under, used_at}
-use Rattle.hs_records.specs.Plain.{PlainWorkload}
 use Rattle.hs_sched.specs.declared.share.Share.{Share}
 use Rattle.hs_sched.specs.Visits.{budget_of}
 use Rattle.hs_law_sends.specs.Laws.{PagesFit}
-use Rattle.hs_law_sends.specs.Sending.{ClientSends, sheet_of, client_sends, node_sends, operations_at, draws_at, place_of}
-use Rattle.hs_law_sends.specs.Timing.{timed_pages}
 use Rattle.hs_words.specs.Chunks.{used_of}
-use Rattle.hs_law_journal.specs.Following.{NodeRun}
-use Rattle.hs_law_journal.specs.Laws.{ComesByEvents}
 use Rattle.hs_law_lockstep.proofs.Beside.{drawn_at}
-use Rattle.hs_law_journal.proofs.Groups.{is_known, AreOfRules, Speaks}
+use Rattle.hs_law_journal.proofs.Groups.{AreOfRules}
 use Rattle.hs_law_lockstep.proofs.Held.{HoldsAt}
 use Rattle.hs_law_lockstep.proofs.Holding.{page_found}
 

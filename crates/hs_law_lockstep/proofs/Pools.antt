@@ -1,33 +1,12 @@
 -- What is held at the end shows the three clauses of pools: the stamps number the events, the events are a history, and each give
 -- answers the draw of its chunk.
 use Rattle.std.proofs.Common.{◌≡◌, ℕ, zero, suc, ◌+◌, ◌<◌, ◌≤◌, true, false, List, [], ◌∷◌, ◌++◌, length, refl, sym, ap, subst, ◌∙◌, Some, arith, map, option_map, slice_get, count_by, eqb, nat_eq, eq-eqb}
-use Rattle.std.specs.List.{AllByRecursion, flat_map, range_with_len, list_all, cons_option}
-use Rattle.std.specs.Option.{option_and_then, option_map_or}
-use Rattle.std.specs.Cmp.Derive.{both_true}
-use Rattle.std.proofs.lemmas.List.{map-append, length-map}
-use Rattle.std.proofs.lemmas.Nat.{mul-add-lt}
-use Rattle.std.proofs.lemmas.Option.{slice_get-map}
-use Rattle.hs_lists.proofs.Alls.{all_each, all_at}
-use Rattle.hs_lists.proofs.Places.{get_there}
-use Rattle.hs_lists.proofs.Tests.{list_all_from, list_all_map}
-use Rattle.hs_lists.proofs.Ranges.{list_all_range_below, range_at}
-use Rattle.hs_base.specs.declared.ids.ClientId.{ClientId}
-use Rattle.hs_journal.specs.declared.journal.Draw.{Draw}
-use Rattle.hs_journal.specs.Views.{PlainJournal}
-use Rattle.hs_law_agent.specs.Laws.{sheets_of}
-use Rattle.hs_law_agent.specs.State.{GivenPlace}
-use Rattle.hs_records.specs.Plain.{PlainWorkload}
-use Rattle.hs_law_sends.specs.Drawn.{DrawnPage, stamp_of, drawn_from}
-use Rattle.hs_law_sends.specs.Sending.{ClientSends, client_sends, node_sends, operations_at, draws_at, place_of}
-use Rattle.hs_law_sends.specs.Timing.{TimedPage, timed_pages}
-use Rattle.hs_words.specs.PoolHistory.{IsPoolHistory, IsHistoryBack}
-use Rattle.hs_law_journal.specs.Following.{NodeRun, followed, log_at}
-use Rattle.hs_law_journal.specs.Played.{played}
-use Rattle.hs_law_journal.specs.Pooled.{StampedPoolEvent, drawn_event, page_of, given_page, pool_events, pool_history, answers_draw, gives_answer, has_answers}
-use Rattle.hs_law_journal.specs.Shape.{log_stamps, node_draws, draw_stamps, node_stamps, are_numbered, rise, node_has_stamps, has_stamps}
-use Rattle.hs_law_lockstep.specs.Clauses.{IsLaidOut, ScheduleHasStamps, ScheduleHasHistory, ScheduleHasAnswers}
-use Rattle.hs_law_journal.specs.Known.{Known}
-use Rattle.hs_law_lockstep.specs.Lockstep.{lockstep}
+use Rattle.hs_law_lockstep.proofs.Prelude.{AllByRecursion, flat_map, range_with_len, list_all, cons_option, option_and_then, option_map_or, both_true, map-append, length-map, mul-add-lt, slice_get-map, all_each, all_at, get_there, list_all_from, list_all_range_below, range_at, ClientId, Draw, PlainJournal, sheets_of, GivenPlace, PlainWorkload, DrawnPage, stamp_of, drawn_from, ClientSends, client_sends, node_sends, operations_at, draws_at, place_of, TimedPage, timed_pages, IsHistoryBack, NodeRun, followed, log_at, played, StampedPoolEvent, drawn_event, page_of, given_page, pool_events, pool_history, answers_draw, log_stamps, rise, IsLaidOut, Known, lockstep}
+use Rattle.hs_lists.proofs.Tests.{list_all_map}
+use Rattle.hs_words.specs.PoolHistory.{IsPoolHistory}
+use Rattle.hs_law_journal.specs.Pooled.{gives_answer, has_answers}
+use Rattle.hs_law_journal.specs.Shape.{node_draws, draw_stamps, node_stamps, are_numbered, node_has_stamps, has_stamps}
+use Rattle.hs_law_lockstep.specs.Clauses.{ScheduleHasStamps, ScheduleHasHistory, ScheduleHasAnswers}
 use Rattle.hs_law_lockstep.proofs.Followed.{count_nodes, number_is, log_of}
 use Rattle.hs_law_lockstep.proofs.Growing.{events_back, stamps_of, IsAnswered, answer_passes}
 use Rattle.hs_law_lockstep.proofs.Held.{node_events, HoldsAt, IsHeld, pool_is, sheet_at}

@@ -1,27 +1,8 @@
 -- What a pass does at each node: what the agent bears grows by what it takes at most, and where it takes nothing, a turn takes something
 -- off, if something was pinned.
 use Rattle.std.proofs.Common.{◌≡◌, ◌⊎◌, inl, inr, ℕ, ◌+◌, ◌<◌, ◌≤◌, false, List, [], ◌∷◌, length, refl, sym, ap, subst, ◌∙◌, Some, arith, slice_get, length-append}
-use Rattle.std.specs.List.{range_with_len}
-use Rattle.std.proofs.lemmas.List.{length-map}
-use Rattle.std.proofs.lemmas.List.FromFn.{length-range_with_len}
-use Rattle.std.proofs.lemmas.Option.{slice_get-map, same_Some}
-use Rattle.hs_lists.proofs.Alls.{all_by_place, all_map, all_append, all_at}
-use Rattle.hs_lists.proofs.Options.{option_unmap}
-use Rattle.hs_base.specs.declared.limits.TheConstants.{MIN_SIZE}
-use Rattle.hs_journal.specs.declared.journal.Step.{Step}
+use Rattle.hs_law_lockstep.proofs.Prelude.{range_with_len, length-map, length-range_with_len, slice_get-map, same_Some, all_by_place, all_map, all_append, all_at, option_unmap, MIN_SIZE, Step, noted_as, CanReport, AgentState, AgentEvent, PlainWorkload, client_sends, node_sends, node_behind, NodeRun, Run, followed, event_of, perform, is_offer, pool_events, IsLaidOut, Known, Machine, pass_steps, give_steps, agents_take, agents_give, coordinator_hears, passes}
 use Rattle.hs_journal.specs.declared.journal.Step.TheVariants as steps
-use Rattle.hs_law_agent.specs.Laws.{noted_as, CanReport}
-use Rattle.hs_law_agent.specs.State.{AgentState}
-use Rattle.hs_law_agent.specs.Stepping.{AgentEvent}
-use Rattle.hs_records.specs.Plain.{PlainWorkload}
-use Rattle.hs_law_sends.specs.Sending.{client_sends, node_sends}
-use Rattle.hs_law_journal.specs.Extending.{node_behind}
-use Rattle.hs_law_journal.specs.Following.{NodeRun, Run, followed, event_of, perform}
-use Rattle.hs_law_journal.specs.Passes.{is_offer}
-use Rattle.hs_law_journal.specs.Pooled.{pool_events}
-use Rattle.hs_law_lockstep.specs.Clauses.{IsLaidOut}
-use Rattle.hs_law_journal.specs.Known.{Known}
-use Rattle.hs_law_lockstep.specs.Lockstep.{Machine, pass_steps, give_steps, agents_take, agents_give, coordinator_hears, passes}
 use Rattle.hs_law_lockstep.proofs.Followed.{number_is, enough_of, left_is, steps_there, StepsThere, hear_there, IsDone}
 use Rattle.hs_law_journal.proofs.Groups.{Spoken, all_spoken}
 use Rattle.hs_law_lockstep.proofs.Held.{IsHeld}

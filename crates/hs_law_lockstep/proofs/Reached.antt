@@ -1,19 +1,10 @@
 -- How a node comes on while steps are performed: it keeps its name, its events only grow, and it has an event for each step of its
 -- log.
 use Rattle.std.proofs.Common.{◌≡◌, ◌⊎◌, ◌≢◌, inl, inr, ℕ, List, [], ◌∷◌, ◌++◌, length, set, refl, sym, ap, subst, ◌∙◌, Option, Some, None, arith, map, option_map, slice_get, append_assoc, append-nil, length-append}
-use Rattle.std.specs.List.{AllByRecursion}
+use Rattle.hs_law_lockstep.proofs.Prelude.{AllByRecursion, same_Some, all_at, Messages, Step, PlainJournal, AgentEvent, PlainSettings, PlainWorkload, StepsAreNoted, NodeRun, Run, event_of, perform, step_of, step_node, node_start, Performs, Leads, Stays, Goes}
 use Rattle.std.proofs.lemmas.Bool.{cases_eq}
-use Rattle.std.proofs.lemmas.Option.{same_Some}
 use Rattle.hs_lists.proofs.Places.{get_set, get_other}
-use Rattle.hs_lists.proofs.Alls.{all_set, all_at}
-use Rattle.hs_coord.specs.Following.{Messages}
-use Rattle.hs_journal.specs.declared.journal.Step.{Step}
-use Rattle.hs_journal.specs.Views.{PlainJournal}
-use Rattle.hs_law_agent.specs.Stepping.{AgentEvent}
-use Rattle.hs_records.specs.Plain.{PlainSettings, PlainWorkload}
-use Rattle.hs_law_journal.specs.Extending.{StepsAreNoted}
-use Rattle.hs_law_journal.specs.Following.{NodeRun, Run, event_of, perform, step_of, step_node, node_start}
-use Rattle.hs_law_journal.specs.Orders.{Performs, Leads, Stays, Goes}
+use Rattle.hs_lists.proofs.Alls.{all_set}
 use Rattle.hs_law_journal.proofs.Hearing.{hear_nodes}
 
 -- ---- one step

@@ -1,19 +1,8 @@
 -- What a pass takes is there to take: of each queue at most what is sent and was not taken before, and of each node's messages at
 -- most those that were said and not heard.
 use Rattle.std.proofs.Common.{◌≡◌, ℕ, zero, suc, ◌+◌, ◌-◌, ◌<◌, ◌≤◌, min, Bool, true, false, cond, List, [], ◌∷◌, ◌++◌, length, replicate, refl, ap, ◌∙◌, Option, Some, None, arith, map, zip, slice_get, count_by, eqb, eqb-true}
-use Rattle.std.specs.List.{flat_map, range_with_len}
-use Rattle.std.specs.Option.{option_map_or}
-use Rattle.hs_lists.proofs.Counts.{one_if, count_cons, count_append}
-use Rattle.hs_lists.proofs.Filters.{filter_few}
-use Rattle.hs_base.specs.declared.ids.NodeId.{NodeId}
-use Rattle.hs_base.specs.declared.limits.TheConstants.{MAX_TAKEN}
-use Rattle.hs_journal.specs.declared.journal.Step.{Step}
+use Rattle.hs_law_lockstep.proofs.Prelude.{flat_map, range_with_len, option_map_or, one_if, count_cons, count_append, filter_few, NodeId, MAX_TAKEN, Step, PlainWorkload, ClientSends, place_of, sent_within, Queue, Chunks, Crumbs, Triggers, Asks, takes, taken, asks_to, is_from, NodeRun, Run, sent_to, supply, said_at, Machine, takes_from, takes_of, takes_all, pass_steps, told_of, done_at}
 use Rattle.hs_journal.specs.declared.journal.Step.TheVariants as steps
-use Rattle.hs_records.specs.Plain.{PlainWorkload}
-use Rattle.hs_law_sends.specs.Sending.{ClientSends, place_of, sent_within}
-use Rattle.hs_law_journal.specs.Following.{Queue, Chunks, Crumbs, Triggers, Asks, takes, taken, asks_to, is_from, NodeRun, Run}
-use Rattle.hs_law_journal.specs.Supply.{sent_to, supply, said_at}
-use Rattle.hs_law_lockstep.specs.Lockstep.{Machine, takes_from, takes_of, takes_all, pass_steps, told_of, done_at}
 use Rattle.hs_law_lockstep.proofs.Walks.{is_node}
 
 module _ {X : Type 0} where

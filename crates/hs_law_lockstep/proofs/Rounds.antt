@@ -1,28 +1,7 @@
 -- Round by round: before a pass every client is as far as the round lets it be, and the pass adds itself to each log. What holds of a
 -- journal at its start, and is kept when a client of the round draws and when a pass is made, holds of the whole schedule.
 use Rattle.std.proofs.Common.{◌≡◌, ◌⊎◌, inl, inr, ◌≢◌, ℕ, zero, suc, ◌+◌, ◌*◌, ◌<◌, ◌≤◌, min, Bool, true, false, cond, List, [], ◌∷◌, ◌++◌, length, refl, sym, ap, subst, ◌∙◌, Some, None, arith, filter, fold, slice_get, ltb, ltb-true, ltb-false, length-append}
-use Rattle.std.specs.List.{range_with_len}
-use Rattle.std.proofs.Math.Nat.{suc-mul, mul-le-mul_right}
-use Rattle.std.proofs.lemmas.List.{length-map}
-use Rattle.std.proofs.lemmas.List.FromFn.{length-range_with_len}
-use Rattle.hs_lists.proofs.Alls.{all_at}
-use Rattle.hs_lists.proofs.Places.{get_there}
-use Rattle.hs_journal.specs.declared.journal.Step.{Step}
-use Rattle.hs_law_agent.specs.Laws.{sheets_of}
-use Rattle.hs_records.specs.Plain.{PlainWorkload}
-use Rattle.hs_law_sends.specs.Drawn.{DrawnPage, stamp_of}
-use Rattle.hs_law_sends.specs.Laws.{IsTimely}
-use Rattle.hs_law_sends.specs.Sending.{ClientSends, client_sends, node_sends, operations_at}
-use Rattle.hs_law_sends.specs.Timing.{TimedPage}
-use Rattle.hs_law_journal.specs.Ends.{is_bare, rounds_of}
-use Rattle.hs_law_journal.specs.Following.{NodeRun, log_at, followed}
-use Rattle.hs_law_journal.specs.Laws.{ComesByEvents}
-use Rattle.hs_law_journal.specs.Passes.{passes_of}
-use Rattle.hs_law_journal.specs.Played.{played}
-use Rattle.hs_law_journal.specs.Pooled.{StampedPoolEvent, pool_events}
-use Rattle.hs_law_lockstep.specs.Clauses.{IsLaidOut}
-use Rattle.hs_law_journal.specs.Known.{Known}
-use Rattle.hs_law_lockstep.specs.Lockstep.{Machine, machine_start, done_at, client_goes, clients_go, pass_steps, agents_take, passes, round, rounds, closing, closing_limit}
+use Rattle.hs_law_lockstep.proofs.Prelude.{range_with_len, suc-mul, mul-le-mul_right, length-map, length-range_with_len, all_at, get_there, Step, sheets_of, PlainWorkload, DrawnPage, stamp_of, IsTimely, ClientSends, client_sends, node_sends, operations_at, TimedPage, is_bare, rounds_of, NodeRun, log_at, followed, ComesByEvents, passes_of, played, StampedPoolEvent, pool_events, IsLaidOut, Known, Machine, machine_start, done_at, client_goes, clients_go, pass_steps, agents_take, passes, round, rounds, closing, closing_limit}
 use Rattle.hs_law_lockstep.proofs.Followed.{count_nodes, number_is, log_of, none_at}
 use Rattle.hs_law_lockstep.proofs.Held.{node_events, IsHeld, pool_is}
 use Rattle.hs_law_lockstep.proofs.Holding.{gives_in, at_page}

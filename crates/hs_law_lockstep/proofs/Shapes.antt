@@ -1,30 +1,15 @@
 -- Round by round each client does its next operations, and its draws are as many as the pages that they start. After all rounds it
 -- has done all of them.
 use Rattle.std.proofs.Common.{◌≡◌, ◌⊎◌, ◌≢◌, inl, inr, ℕ, zero, suc, ◌+◌, ◌-◌, ◌*◌, ◌/◌, ◌<◌, ◌≤◌, min, max, Bool, true, false, cond, List, [], ◌∷◌, ◌++◌, length, refl, sym, ap, subst, ◌∙◌, Option, None, arith, map, filter, fold, slice_get, unwrap_or, get_or, zip, ltb, ltb-true, lt-ltb, eq-eqb, length-append, eq-zero-or-pos, eq-or-lt_of_le}
-use Rattle.std.specs.List.{AllByRecursion, flat_map, range_with_len}
-use Rattle.std.specs.Option.{option_map_or}
-use Rattle.std.specs.Cmp.Derive.{both_true}
-use Rattle.std.proofs.Math.Nat.{div-lt_iff_lt-mul, lt-div-mul-add, suc-mul, mul-le-mul_right}
-use Rattle.std.proofs.lemmas.List.{length-map, length-replicate, length-set}
-use Rattle.hs_lists.proofs.Places.{get_there, unwrap_set, unwrap_other}
-use Rattle.hs_lists.proofs.Filters.{filter_few, filter_all}
-use Rattle.hs_lists.proofs.Alls.{all_append}
+use Rattle.hs_law_lockstep.proofs.Prelude.{AllByRecursion, flat_map, range_with_len, option_map_or, both_true, div-lt_iff_lt-mul, suc-mul, mul-le-mul_right, length-map, length-replicate, get_there, unwrap_set, unwrap_other, filter_few, filter_all, all_append, TraceId, Draw, pages_of, Operation, PlainWorkload, NumberedOperation, numbered_from, open_behind, operations_at, draws_at, TimedPage, timed_pages, length_next, rounds_for, rounds_of, NodeRun, followed, played, IsLaidOut, Known, Machine, machine_start, done_at, draws_by, draws_in, pages_started, client_goes, clients_go, pass_steps, give_steps, agents_take, passes, round, rounds, closing_limit, lockstep}
+use Rattle.std.proofs.Math.Nat.{lt-div-mul-add}
+use Rattle.std.proofs.lemmas.List.{length-set}
 use Rattle.hs_lists.proofs.Counts.{max_at_least}
-use Rattle.hs_base.specs.declared.ids.TraceId.{TraceId}
-use Rattle.hs_journal.specs.declared.journal.Draw.{Draw}
-use Rattle.hs_records.specs.Pages.{PlainPage, first_record, segment_pages, pages_of}
-use Rattle.hs_records.specs.Plain.{Operation, PlainWorkload}
-use Rattle.hs_records.specs.Records.{AreBracketed, NumberedOperation, Record, Segment, segments_of, numbered_from, open_behind, record_at}
-use Rattle.hs_law_sends.specs.Sending.{operations_at, draws_at}
-use Rattle.hs_law_sends.specs.Timing.{TimedPage, timed, started_by, point_numbers, end_numbers, timed_pages}
-use Rattle.hs_law_sends.proofs.Order.{length_next}
-use Rattle.hs_law_journal.specs.Ends.{rounds_for, rounds_of}
-use Rattle.hs_law_journal.specs.Following.{NodeRun, followed}
-use Rattle.hs_law_journal.specs.Played.{played}
+use Rattle.hs_records.specs.Pages.{PlainPage, first_record, segment_pages}
+use Rattle.hs_records.specs.Records.{AreBracketed, Record, Segment, segments_of, record_at}
+use Rattle.hs_law_sends.specs.Timing.{timed, started_by, point_numbers, end_numbers}
 use Rattle.hs_law_journal.specs.Shape.{same_counts, has_shape}
-use Rattle.hs_law_lockstep.specs.Clauses.{IsLaidOut, ScheduleHasShape}
-use Rattle.hs_law_journal.specs.Known.{Known}
-use Rattle.hs_law_lockstep.specs.Lockstep.{Machine, machine_start, done_at, draws_by, draws_in, pages_started, client_goes, clients_go, pass_steps, give_steps, agents_take, passes, round, rounds, closing_limit, lockstep}
+use Rattle.hs_law_lockstep.specs.Clauses.{ScheduleHasShape}
 use Rattle.hs_law_lockstep.proofs.Lists.{length_extended}
 use Rattle.hs_law_lockstep.proofs.Machines.{closing_keeps, machine_end}
 use Rattle.hs_law_lockstep.proofs.Turns.{nodes_counted}

@@ -1,21 +1,8 @@
 -- What stands at every machine on its way: each client has its draws, and each node is performed and holds what it should.
 use Rattle.std.proofs.Common.{◌≡◌, inl, inr, ℕ, zero, suc, ◌+◌, ◌≤◌, List, [], ◌∷◌, ◌++◌, length, refl, sym, ap, ◌∙◌, Option, Some, None, arith, map, fold, option_map, slice_get, count_by, append-nil}
-use Rattle.std.specs.List.{range_with_len}
-use Rattle.std.specs.Option.{option_and_then}
-use Rattle.hs_lists.proofs.Options.{option_unmap}
-use Rattle.hs_lists.proofs.Alls.{all_at}
-use Rattle.hs_base.specs.declared.ids.NodeId.{NodeId}
-use Rattle.hs_coord.specs.Following.{Message, Messages, message}
-use Rattle.hs_law_agent.specs.Stepping.{after}
-use Rattle.hs_records.specs.Plain.{PlainSettings, PlainWorkload}
-use Rattle.hs_law_sends.specs.Sending.{node_sends}
-use Rattle.hs_law_journal.specs.Following.{NodeRun, Run, is_from, message_of, hear, run_start, followed}
-use Rattle.hs_law_journal.specs.Orders.{Performs, Leads, Stays, Goes}
-use Rattle.hs_law_lockstep.specs.Clauses.{IsLaidOut, ValidWorkloadsRun}
-use Rattle.hs_law_journal.specs.Known.{Known}
-use Rattle.hs_law_lockstep.specs.Lockstep.{Machine, machine_start, client_goes, clients_go, pass_steps, give_steps, agents_take, agents_give, passes, round, rounds}
+use Rattle.hs_law_lockstep.proofs.Prelude.{range_with_len, option_and_then, option_unmap, all_at, NodeId, Message, Messages, message, after, PlainSettings, PlainWorkload, node_sends, NodeRun, Run, is_from, message_of, hear, run_start, followed, Performs, Leads, Stays, Goes, IsLaidOut, ValidWorkloadsRun, Known, Machine, machine_start, client_goes, clients_go, pass_steps, give_steps, agents_take, agents_give, passes, round, rounds, IsReached}
 use Rattle.hs_law_lockstep.specs.Reaching as reaching
-use Rattle.hs_law_lockstep.specs.Reaching.{IsReached, IsPerformed, IsWhole, MachinesAreWhole, MachinesLeadOn}
+use Rattle.hs_law_lockstep.specs.Reaching.{IsPerformed, IsWhole, MachinesAreWhole, MachinesLeadOn}
 use Rattle.hs_law_lockstep.proofs.Followed.{count_nodes, number_is, log_of}
 use Rattle.hs_law_lockstep.proofs.Held.{IsHeld}
 use Rattle.hs_law_lockstep.proofs.Keeping.{Keeps, own_sends, starts_keep, client_keeps_held, take_keeps_held, give_keeps_held, hear_keeps_held}

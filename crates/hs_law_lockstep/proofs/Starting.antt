@@ -1,15 +1,6 @@
 -- At the start nothing was performed, and nothing happened at the pools.
 use Rattle.std.proofs.Common.{◌≡◌, ℕ, ◌*◌, ◌≤◌, List, [], ◌∷◌, length, refl, sym, ap, ◌∙◌, Some, arith, slice_get}
-use Rattle.hs_base.specs.declared.ids.ClientId.{ClientId}
-use Rattle.hs_journal.specs.Views.{PlainJournal}
-use Rattle.hs_records.specs.Plain.{PlainWorkload}
-use Rattle.hs_law_sends.specs.Drawn.{drawn_pages}
-use Rattle.hs_law_sends.specs.Sending.{ClientSends, client_sends, node_sends, operations_at, place_of}
-use Rattle.hs_law_sends.specs.Timing.{timed_pages}
-use Rattle.hs_law_journal.specs.Following.{NodeRun, followed}
-use Rattle.hs_law_journal.specs.Pooled.{pool_history}
-use Rattle.hs_law_journal.specs.Known.{Known}
-use Rattle.hs_law_lockstep.specs.Lockstep.{machine_start}
+use Rattle.hs_law_lockstep.proofs.Prelude.{ClientId, PlainJournal, PlainWorkload, drawn_pages, ClientSends, client_sends, node_sends, operations_at, place_of, timed_pages, NodeRun, followed, pool_history, Known, machine_start}
 use Rattle.hs_law_lockstep.specs.Reaching as reaching
 use Rattle.hs_law_lockstep.specs.Reaching.{MachinesStartSo}
 use Rattle.hs_law_lockstep.proofs.Bounds.{pages_row}

@@ -1,23 +1,8 @@
 -- What the agents take, step by step: each node comes to where its steps lead, one after another, and its pool stands still meanwhile.
 use Rattle.std.proofs.Common.{◌≡◌, ℕ, false, List, [], ◌∷◌, refl, sym, ap, subst, ◌∙◌, Some, arith, map, slice_get}
-use Rattle.std.specs.List.{AllByRecursion}
-use Rattle.std.proofs.lemmas.Option.{slice_get_within, same_Some}
-use Rattle.hs_lists.proofs.Alls.{all_by_place, all_map, all_append, all_at}
-use Rattle.hs_lists.proofs.Places.{get_there}
-use Rattle.hs_coord.specs.Following.{Messages}
-use Rattle.hs_journal.specs.declared.journal.Step.{Step}
+use Rattle.hs_law_lockstep.proofs.Prelude.{AllByRecursion, slice_get_within, same_Some, all_by_place, all_map, all_append, all_at, get_there, Messages, Step, PlainSettings, PlainWorkload, ClientSends, node_behind, NodeRun, Run, perform, followed, is_offer, pool_history, Known, Machine, pass_steps, with_steps, agents_take, node_at, after_steps, IsReached}
 use Rattle.hs_journal.specs.declared.journal.Step.TheVariants as steps
-use Rattle.hs_records.specs.Plain.{PlainSettings, PlainWorkload}
-use Rattle.hs_law_sends.specs.Sending.{ClientSends}
-use Rattle.hs_law_journal.specs.Extending.{node_behind}
-use Rattle.hs_law_journal.specs.Following.{NodeRun, Run, perform, followed}
-use Rattle.hs_law_journal.specs.Passes.{is_offer}
-use Rattle.hs_law_journal.specs.Pooled.{pool_history}
-use Rattle.hs_law_journal.specs.Known.{Known}
-use Rattle.hs_law_lockstep.specs.Lockstep.{Machine, pass_steps, with_steps, agents_take}
-use Rattle.hs_law_lockstep.specs.Parts.{node_at, AgentTakes, AgentsTakeSo}
-use Rattle.hs_law_journal.specs.Performing.{after_steps}
-use Rattle.hs_law_lockstep.specs.Reaching.{IsReached}
+use Rattle.hs_law_lockstep.specs.Parts.{AgentTakes, AgentsTakeSo}
 use Rattle.hs_law_lockstep.proofs.Followed.{IsDone, count_nodes, enough_of, left_is, StepsThere, steps_there}
 use Rattle.hs_law_lockstep.proofs.Growing.{history_of}
 use Rattle.hs_law_lockstep.proofs.Held.{node_events, IsHeld, pool_is, take_held, take_events}

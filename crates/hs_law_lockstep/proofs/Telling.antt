@@ -1,9 +1,6 @@
 -- What agents tell leads to the nodes of the workload, in whatever order a journal is performed.
-use Rattle.std.specs.List.{range_with_len}
-use Rattle.hs_lists.proofs.Alls.{all_at}
+use Rattle.hs_law_lockstep.proofs.Prelude.{range_with_len, all_at, run_start, followed, FollowingPlaysOut}
 use Rattle.hs_law_agent.specs.Leading.{CrumbsLeadBelow}
-use Rattle.hs_law_journal.specs.Following.{run_start, followed}
-use Rattle.hs_law_journal.specs.Orders.{FollowingPlaysOut}
 use Rattle.hs_law_lockstep.specs.Conditions.{MachinesTellWithin}
 use Rattle.hs_law_journal.proofs.Telling.{Tells, leads_tell, starts_tell}
 

@@ -1,25 +1,9 @@
 -- Each pass adds one turn to each log.
 use Rattle.std.proofs.Common.{◌≡◌, ℕ, zero, suc, ◌+◌, ◌<◌, ◌≤◌, Bool, true, false, ◌&&◌, List, [], ◌∷◌, length, map, refl, sym, ap, subst, ◌∙◌, arith, unwrap_or, count_by, nat_eq, nat_le, eq-eqb, le-leb}
-use Rattle.std.specs.List.{AllByRecursion}
-use Rattle.std.specs.Cmp.Derive.{both_true}
-use Rattle.std.proofs.lemmas.List.{length-map, length-replicate}
-use Rattle.std.proofs.lemmas.List.FromFn.{length-range_with_len}
-use Rattle.hs_lists.proofs.Alls.{all_replicate, all_at}
-use Rattle.hs_lists.proofs.Places.{get_there}
-use Rattle.hs_lists.proofs.Counts.{count_append}
-use Rattle.hs_lists.proofs.Ranges.{list_all_range_below}
-use Rattle.hs_journal.specs.declared.journal.Step.{Step}
+use Rattle.hs_law_lockstep.proofs.Prelude.{AllByRecursion, both_true, length-map, length-replicate, length-range_with_len, all_replicate, all_at, get_there, count_append, list_all_range_below, Step, PlainJournal, PlainWorkload, is_bare, rounds_of, RunsAreOfTheJournal, NodeRun, Run, followed, FollowingPlaysOut, is_turn, played, Machine, machine_start, pass_steps, give_steps, agents_take, agents_give, passes, clients_go, round, rounds, closing, closing_limit, lockstep}
 use Rattle.hs_journal.specs.declared.journal.Step.TheVariants as steps
-use Rattle.hs_journal.specs.Views.{PlainJournal}
-use Rattle.hs_records.specs.Plain.{PlainWorkload}
-use Rattle.hs_law_journal.specs.Ends.{is_bare, rounds_of, turns_at, has_rounds}
-use Rattle.hs_law_journal.specs.Extending.{RunsAreOfTheJournal}
-use Rattle.hs_law_journal.specs.Following.{NodeRun, Run, followed}
-use Rattle.hs_law_journal.specs.Orders.{FollowingPlaysOut}
-use Rattle.hs_law_journal.specs.Passes.{is_turn}
-use Rattle.hs_law_journal.specs.Played.{played}
+use Rattle.hs_law_journal.specs.Ends.{turns_at, has_rounds}
 use Rattle.hs_law_lockstep.specs.Clauses.{ScheduleHasRounds}
-use Rattle.hs_law_lockstep.specs.Lockstep.{Machine, machine_start, pass_steps, give_steps, agents_take, agents_give, passes, clients_go, round, rounds, closing, closing_limit, lockstep}
 use Rattle.hs_law_lockstep.proofs.Lists.{all_map, count_none, count_extended, length_extended}
 use Rattle.hs_law_lockstep.proofs.Takes.{before_turn, all_takes}
 use Rattle.hs_law_lockstep.proofs.Machines.{clients_keep, machine_end}

@@ -1,18 +1,9 @@
 -- The schedule takes, turns and gives, so no step of it is unread.
 use Rattle.std.proofs.Common.{◌≡◌, ℕ, zero, suc, ◌+◌, true, false, cond, List, [], ◌∷◌, length, map, filter, take, zip, refl, sym, ap, subst, ◌∙◌, slice_get, unwrap_or}
-use Rattle.std.specs.List.{AllByRecursion, range_with_len, list_all}
-use Rattle.hs_lists.proofs.Alls.{all_append, all_front, all_replicate, all_each}
-use Rattle.hs_lists.proofs.Tests.{list_all_from}
-use Rattle.hs_journal.specs.declared.journal.Step.{Step}
+use Rattle.hs_law_lockstep.proofs.Prelude.{AllByRecursion, range_with_len, list_all, all_append, all_front, all_replicate, all_each, list_all_from, Step, PlainWorkload, IsOfJournal, RunsAreOfTheJournal, NodeRun, Run, followed, FollowingPlaysOut, is_unread, Machine, pass_steps, give_steps, agents_take, agents_give, passes, lockstep}
 use Rattle.hs_journal.specs.declared.journal.Step.TheVariants as steps
-use Rattle.hs_records.specs.Plain.{PlainWorkload}
-use Rattle.hs_law_journal.specs.Extending.{IsOfJournal, RunsAreOfTheJournal}
-use Rattle.hs_law_journal.specs.Following.{NodeRun, Run, followed}
-use Rattle.hs_law_journal.specs.Orders.{FollowingPlaysOut}
-use Rattle.hs_law_journal.specs.Passes.{is_unread}
 use Rattle.hs_law_journal.specs.Unreads.{may_be_unread, before_unreads}
 use Rattle.hs_law_lockstep.specs.Clauses.{ScheduleHasUnreads}
-use Rattle.hs_law_lockstep.specs.Lockstep.{Machine, pass_steps, give_steps, agents_take, agents_give, passes, lockstep}
 use Rattle.hs_law_lockstep.proofs.Lists.{all_map, all_extended}
 use Rattle.hs_law_lockstep.proofs.Takes.{before_turn, all_takes}
 use Rattle.hs_law_lockstep.proofs.Machines.{clients_keep, end_keeps, machine_end}

@@ -1,12 +1,10 @@
 -- A valid workload has all that the laws of the schedule ask for.
 use Rattle.std.proofs.Common.{◌≤◌, List, [], ◌∷◌}
-use Rattle.std.specs.List.{AllByRecursion}
+use Rattle.hs_law_lockstep.proofs.Prelude.{AllByRecursion, TriggerRule, ValidWorkloadsRun}
 use Rattle.std.proofs.lemmas.List.Elements.{recursion_from_All}
 use Rattle.hs_base.specs.Rules.{IsRule}
-use Rattle.hs_base.specs.declared.settings.TriggerRule.{TriggerRule}
 use Rattle.hs_workload.specs.declared.word.Setting.TheVariants as settings
 use Rattle.hs_workload.proofs.Sizes.{bracketed}
-use Rattle.hs_law_lockstep.specs.Clauses.{ValidWorkloadsRun}
 
 weighed : (rules : List TriggerRule) → AllByRecursion IsRule rules → AllByRecursion (λ (rule : TriggerRule). 1 ≤ rule.weight) rules
 weighed [] all = tt

@@ -1,10 +1,7 @@
 -- No step of the schedule looks at the version.
 use Rattle.std.proofs.Common.{◌≡◌, ℕ, zero, suc, Bool, true, false, refl, ap, ◌∙◌}
-use Rattle.hs_records.specs.Plain.{PlainWorkload}
-use Rattle.hs_law_journal.specs.Ends.{is_bare, rounds_of}
-use Rattle.hs_law_journal.specs.Played.{played}
+use Rattle.hs_law_lockstep.proofs.Prelude.{PlainWorkload, is_bare, rounds_of, played, Machine, passes, round, rounds, closing, closing_limit, machine_start}
 use Rattle.hs_law_lockstep.specs.Laws.{VersionsHaveOneSchedule}
-use Rattle.hs_law_lockstep.specs.Lockstep.{Machine, passes, round, rounds, closing, closing_limit, machine_start}
 
 module _ (W : PlainWorkload) (version : ℕ) where
   abbrev other : PlainWorkload

@@ -1,24 +1,9 @@
 -- A node performs its steps, one after another, while all else stands still; nodes can do so one after another. What a node is to
 -- take is ready as long as there is enough of it, and an offer as long as the hand has a buffer.
 use Rattle.std.proofs.Common.{◌≡◌, ℕ, zero, suc, ◌+◌, ◌<◌, ◌≤◌, Bool, true, false, List, [], ◌∷◌, ◌++◌, length, refl, sym, ap, subst, ◌∙◌, Option, Some, None, arith, map, option_map, slice_get, count_by, append_assoc, append-nil, eq-eqb, nat_eq, inl, inr}
-use Rattle.std.specs.List.{AllByRecursion, range_with_len}
-use Rattle.std.specs.Option.{option_and_then, option_map_or}
-use Rattle.hs_lists.proofs.Counts.{one_if, count_cons, count_append}
-use Rattle.hs_lists.proofs.Places.{get_mid, get_there}
-use Rattle.hs_base.specs.declared.ids.NodeId.{NodeId}
-use Rattle.hs_coord.specs.Following.{Message, Messages, message}
-use Rattle.hs_journal.specs.declared.journal.Step.{Step}
+use Rattle.hs_law_lockstep.proofs.Prelude.{AllByRecursion, range_with_len, option_and_then, option_map_or, one_if, count_cons, count_append, get_mid, get_there, NodeId, Message, Messages, message, Step, AgentState, AgentEvent, Took, Gave, Chunk, Crumbed, Triggered, Asked, Turn, PlainSettings, Sent, ClientSends, StepsAreNoted, Queue, Chunks, Crumbs, Triggers, Asks, takes, taken, asks_to, is_from, NodeRun, Run, next_of, event_of, perform, step_of, step_node, hear, Leads, Stays, Goes, is_offer, supply, said_at, same_supply}
 use Rattle.hs_journal.specs.declared.journal.Step.TheVariants as steps
-use Rattle.hs_law_agent.specs.State.{AgentState}
-use Rattle.hs_law_agent.specs.Stepping.{AgentEvent, Took, Gave, Chunk, Crumbed, Triggered, Asked, Turn, Given, give_back}
-use Rattle.hs_records.specs.Plain.{PlainSettings}
-use Rattle.hs_law_sends.specs.Sending.{Sent, ClientSends}
-use Rattle.hs_law_journal.specs.Extending.{StepsAreNoted}
-use Rattle.hs_law_journal.specs.Following.{Queue, Chunks, Crumbs, Triggers, Asks, takes, taken, asks_to, is_from, NodeRun, Run, next_of, event_of, perform, step_of, step_node, hear}
-use Rattle.hs_law_journal.specs.Orders.{Leads, Stays, Goes}
-use Rattle.hs_law_journal.specs.Passes.{is_offer}
-use Rattle.hs_law_journal.specs.Supply.{supply, said_at}
-use Rattle.hs_law_journal.proofs.Supplied.{same_supply}
+use Rattle.hs_law_agent.specs.Stepping.{Given, give_back}
 use Rattle.hs_law_lockstep.proofs.Lists.{set_at}
 
 -- ---- walks

@@ -1,23 +1,13 @@
 -- What a pass works off at a node: with each item that the agent takes it bears one thing more at most, and a turn takes something off
 -- where something is pinned.
 use Rattle.std.proofs.Common.{◌≡◌, ◌⊎◌, inl, inr, ℕ, zero, suc, ◌+◌, ◌<◌, ◌≤◌, true, false, List, [], ◌∷◌, ◌++◌, length, refl, sym, ap, subst, ◌∙◌, Option, Some, None, arith, option_map, slice_get, eq-eqb, length-append}
-use Rattle.std.specs.Option.{option_and_then, option_to_list}
-use Rattle.std.proofs.lemmas.Option.{same_Some}
-use Rattle.hs_lists.proofs.Options.{option_unmap}
-use Rattle.hs_lists.proofs.Counts.{one_if, count_cons, count_append}
+use Rattle.hs_law_lockstep.proofs.Prelude.{option_and_then, same_Some, option_unmap, one_if, count_cons, count_append, Messages, Step, brought_by, noted_as, EventsAddThis, CanReport, AgentState, Input, Chunk, Crumbed, Triggered, Asked, Turn, AgentEvent, Took, Gave, after_event, PlainSettings, ClientSends, Queue, Chunks, Crumbs, Triggers, Asks, takes, taken, asks_to, NodeRun, next_of, event_of, perform, is_offer, sum_to, sum_le, sum_lt}
+use Rattle.std.specs.Option.{option_to_list}
 use Rattle.hs_base.specs.declared.told.Told.{Told}
-use Rattle.hs_coord.specs.Following.{Messages}
-use Rattle.hs_journal.specs.declared.journal.Step.{Step}
 use Rattle.hs_journal.specs.declared.journal.Step.TheVariants as steps
-use Rattle.hs_law_agent.specs.Laws.{borne, brought_by, noted_as, EventsAddFew, EventsAddThis, StepsSayWhatTheyTell, CanReport, TurnsReport}
-use Rattle.hs_law_agent.specs.State.{AgentState}
-use Rattle.hs_law_agent.specs.Stepping.{Input, Chunk, Crumbed, Triggered, Asked, Turn, Answered, AgentEvent, Took, Gave, told_by, after_event}
+use Rattle.hs_law_agent.specs.Laws.{borne, EventsAddFew, StepsSayWhatTheyTell, TurnsReport}
+use Rattle.hs_law_agent.specs.Stepping.{Answered, told_by}
 use Rattle.hs_law_agent.specs.Stepping as model
-use Rattle.hs_records.specs.Plain.{PlainSettings}
-use Rattle.hs_law_sends.specs.Sending.{ClientSends}
-use Rattle.hs_law_journal.specs.Following.{Queue, Chunks, Crumbs, Triggers, Asks, takes, taken, asks_to, NodeRun, next_of, event_of, perform}
-use Rattle.hs_law_journal.specs.Passes.{is_offer}
-use Rattle.hs_law_journal.proofs.Sums.{sum_to, sum_le, sum_lt}
 
 -- ---- what is taken
 

@@ -1,35 +1,22 @@
 -- An event leads on with another limit on pins as it does with the own one, as far as all may be pinned; then abandonment follows,
 -- and where it stops no more is pinned than may be, since nothing more is behind any event.
 use Rattle.std.proofs.Common.{◌≡◌, inl, inr, ℕ, zero, suc, ◌<◌, ◌≤◌, Bool, true, false, ◌||◌, cond, List, [], ◌∷◌, ◌++◌, length, refl, sym, ap, subst, ◌∙◌, arith, Option, Some, None, take, filter}
-use Rattle.std.specs.Prelude.{fold, nat_lt, slice_get}
-use Rattle.std.specs.List.{AllByRecursion, list_any}
-use Rattle.std.specs.Option.{option_map_or}
-use Rattle.std.proofs.lemmas.Bool.{le-ltb, ltb-true}
+use Rattle.hs_law_outcome.proofs.Prelude.{nat_lt, AllByRecursion, list_any, option_map_or, ltb-true, all_each, TraceId, Ask, Crumb, Group, Told, Trigger, Fired, Step, PlainSettings, Sheet, ChunkStanding, Indexed, Pinned, Reported, Evicted, Abandoned, Taken, AgentState, ClaimedTrace, claim_of, is_claimed, told_of, Input, Chunk, Crumbed, Triggered, Asked, Turn, AgentEvent, Took, Gave, admits, group_of, after_event, after, LimitsHold, EventsGoOn, NodeRun, followed, ComesByEvents, AgentsComeByEvents}
+use Rattle.std.specs.Prelude.{fold, slice_get}
+use Rattle.std.proofs.lemmas.Bool.{le-ltb}
 use Rattle.std.proofs.lemmas.List.{take_all}
 use Rattle.hs_lists.proofs.Places.{take_more}
-use Rattle.hs_lists.proofs.Alls.{all_each}
-use Rattle.hs_base.specs.declared.ids.TraceId.{TraceId}
-use Rattle.hs_base.specs.declared.told.Ask.{Ask}
-use Rattle.hs_base.specs.declared.told.Crumb.{Crumb}
-use Rattle.hs_base.specs.declared.told.Group.{Group}
-use Rattle.hs_base.specs.declared.told.Told.{Told}
-use Rattle.hs_base.specs.declared.told.Trigger.{Trigger}
-use Rattle.hs_base.specs.declared.told.Why.TheVariants.{Fired, Answer}
-use Rattle.hs_journal.specs.declared.journal.Step.{Step}
-use Rattle.hs_records.specs.Plain.{PlainSettings}
+use Rattle.hs_base.specs.declared.told.Why.TheVariants.{Answer}
 use Rattle.hs_sched.specs.declared.share.Share.{Share}
-use Rattle.hs_words.specs.Pages.{Sheet}
-use Rattle.hs_law_agent.specs.Standings.{ChunkStanding, Indexed, Pinned, Reported, Evicted, Abandoned, Taken, same_group, is_pinned_for, is_among, indexed_places, indexed_count, moved_from}
-use Rattle.hs_law_agent.specs.State.{AgentState, ClaimedTrace, claim_of, is_claimed, is_abandoned}
+use Rattle.hs_law_agent.specs.Standings.{same_group, is_pinned_for, is_among, indexed_places, indexed_count, moved_from}
+use Rattle.hs_law_agent.specs.State.{is_abandoned}
 use Rattle.hs_law_agent.specs.Evicting.{is_over, evict_trace, evict_from, evict}
 use Rattle.hs_law_agent.specs.Claiming.{claim_trace, claim_unclaimed, traces_of, claim_each}
 use Rattle.hs_law_agent.specs.Abandoning.{pinned_groups, next_to_go, abandon_group, abandon_within, abandon}
 use Rattle.hs_law_agent.specs.Turning.{reported_standing, visit}
-use Rattle.hs_law_agent.specs.Messages.{has_crumb, say, told_of}
-use Rattle.hs_law_agent.specs.Stepping.{Input, Chunk, Crumbed, Triggered, Asked, Turn, Answered, Given, Missed, Unread, AgentEvent, Took, Gave, with_taken, with_indexed, with_pinned, with_abandoned, pin_chunk, with_touched, tell_late, late_crumb, admits, group_of, claim_for, note_trigger, count_admitted, admit, note, take_input, step_of, give_back, take_answer, after_event, after}
-use Rattle.hs_law_agent.specs.Laws.{TheLeastGoes, LimitsHold, EventsGoOn, MatchNextToGo, Abandons, Remains, Leaves}
-use Rattle.hs_law_journal.specs.Following.{NodeRun, followed}
-use Rattle.hs_law_journal.specs.Laws.{ComesByEvents, AgentsComeByEvents}
+use Rattle.hs_law_agent.specs.Messages.{has_crumb, say}
+use Rattle.hs_law_agent.specs.Stepping.{Answered, Given, Missed, Unread, with_taken, with_indexed, with_pinned, with_abandoned, pin_chunk, with_touched, tell_late, late_crumb, claim_for, note_trigger, count_admitted, admit, note, take_input, step_of, give_back, take_answer}
+use Rattle.hs_law_agent.specs.Laws.{TheLeastGoes, MatchNextToGo, Abandons, Remains, Leaves}
 use Rattle.hs_pins.proofs.Order.{same_group-true}
 use Rattle.hs_law_outcome.specs.Abandonment.{AbandonsTheLeast, IsOneToGo, WasChosen, StandsForChosen, GivesWayInOrder, OnlyTheLeastIsAbandoned}
 

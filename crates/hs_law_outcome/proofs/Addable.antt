@@ -1,32 +1,11 @@
 -- The reported pages can be added to a collector: those of one client differ in number, those of one client and trace go on one behind
 -- another, and no page goes past the last record.
 use Rattle.std.proofs.Common.{◌≡◌, ◌⊎◌, inl, inr, ℕ, zero, suc, ◌+◌, ◌<◌, ◌≤◌, ◌^◌, false, eq-or-lt_of_le, List, [], ◌∷◌, ◌++◌, length, sym, ap, subst, ◌∙◌, Some, arith, slice_get}
-use Rattle.std.specs.List.{AllByRecursion, AllPairs, flat_map, range_with_len}
-use Rattle.std.proofs.lemmas.List.{length-map, length-append}
-use Rattle.std.proofs.lemmas.List.Elements.{All-from_recursion}
+use Rattle.hs_law_outcome.proofs.Prelude.{AllByRecursion, AllPairs, flat_map, range_with_len, length-map, length-append, All-from_recursion, same_Some, all_by_place, all_each_both, all_each, all_filter, ClientId, written, sheet_for, GoesOn, KeepsRuns, ClientsPagesRise, PagesHoldThePieces, PlainPage, first_record, pages_of, Operation, PlainWorkload, AreBracketed, records_of, TimedPagesAreThePages, operations_at, place_of, Sheet, RunsAreOfTheJournal, AgentsComeByEvents, FollowingPlaysOut, TakenPagesRise, IsClientsPage, HasItsClients, TakenPagesWereDrawn, client_at, outcome_of, EndsItsTraces, client_records, all_records}
 use Rattle.std.proofs.lemmas.List.Kept.{AllPairs-cons}
-use Rattle.std.proofs.lemmas.Option.{same_Some}
-use Rattle.hs_lists.proofs.Alls.{all_by_place, all_each_both, all_each, all_filter}
-use Rattle.hs_base.specs.declared.ids.ClientId.{ClientId}
-use Rattle.hs_client.specs.Calls.{written, sheet_for}
-use Rattle.hs_collect.specs.Collected.{CanPrecede, CanBeAdded, GoesOn, KeepsRuns, end_of, is_by}
+use Rattle.hs_collect.specs.Collected.{CanPrecede, CanBeAdded, end_of, is_by}
 use Rattle.hs_collect.proofs.Reordered.{own_run}
-use Rattle.hs_law_agent.specs.Laws.{ClientsPagesRise}
-use Rattle.hs_records.specs.Laws.{PagesHoldThePieces}
-use Rattle.hs_records.specs.Pages.{PlainPage, first_record, pages_of}
-use Rattle.hs_records.specs.Plain.{Operation, PlainWorkload}
-use Rattle.hs_records.specs.Records.{AreBracketed, records_of}
-use Rattle.hs_law_sends.specs.Laws.{TimedPagesAreThePages}
-use Rattle.hs_law_sends.specs.Sending.{operations_at, place_of}
-use Rattle.hs_words.specs.Pages.{Sheet}
-use Rattle.hs_law_journal.specs.Extending.{RunsAreOfTheJournal}
-use Rattle.hs_law_journal.specs.Laws.{AgentsComeByEvents}
-use Rattle.hs_law_journal.specs.Orders.{FollowingPlaysOut}
-use Rattle.hs_law_journal.specs.Taking.{TakenPagesRise}
-use Rattle.hs_law_outcome.specs.CollectedReports.{IsClientsPage, ReportedPagesCanBeCollected}
-use Rattle.hs_law_outcome.specs.Origins.{HasItsClients, TakenPagesWereDrawn}
-use Rattle.hs_law_outcome.specs.Outcomes.{client_at, outcome_of}
-use Rattle.hs_law_outcome.specs.Records.{EndsItsTraces, client_records, all_records}
+use Rattle.hs_law_outcome.specs.CollectedReports.{ReportedPagesCanBeCollected}
 use Rattle.hs_law_outcome.proofs.ClientBooks.{length_named}
 use Rattle.hs_law_outcome.proofs.ClientPages.{page_carries, ends_within, goes_on}
 use Rattle.hs_law_outcome.proofs.Entries.{PagesCarryTheRecords, ends_at}

@@ -1,10 +1,6 @@
 -- What stands among the items of a list, and of a list that is filtered, mapped or searched.
 use Rattle.std.proofs.Common.{◌≡◌, ℕ, zero, suc, ◌<◌, Bool, true, false, ◌||◌, cond, List, [], ◌∷◌, length, Contains, refl, sym, ap, ◌∙◌, Option, Some, None, arith, filter, filter_map, slice_get, find}
-use Rattle.std.specs.Prelude.{slice_index_or}
-use Rattle.std.specs.List.{AllByRecursion, cons_option, list_any}
-use Rattle.std.proofs.lemmas.Option.{same_Some, slice_get_within}
-use Rattle.hs_lists.proofs.Places.{IsIn}
-use Rattle.hs_lists.proofs.Alls.{all_at}
+use Rattle.hs_law_outcome.proofs.Prelude.{slice_index_or, AllByRecursion, cons_option, list_any, same_Some, slice_get_within, IsIn, all_at}
 use Rattle.hs_law_outcome.proofs.GotPages.{index_of}
 
 module _ {X : Type 0} where

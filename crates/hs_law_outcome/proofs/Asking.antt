@@ -1,18 +1,10 @@
 -- Message by message a node has at most one ask more for a group, and only where it had none.
 use Rattle.std.proofs.Common.{◌≡◌, ℕ, ◌+◌, Bool, true, false, cond, not, ◌||◌, ◌&&◌, [], ◌∷◌, ◌++◌, Option, Some, None, find, refl, sym, ap, ◌∙◌, append-nil, append_assoc, arith, nat_eq}
+use Rattle.hs_law_outcome.proofs.Prelude.{option_map_or, or-false, and_parts, and_from, list_any-append, sum_by-append, one_if, GroupId, Ask, has_node, Message, Messages, same_group, has_crumb, has_ask, is_first_sender, first_of, is_newly_asked, same_group-true, ask_by, asks_behind}
 use Rattle.std.specs.Prelude.{count_by}
-use Rattle.std.specs.Option.{option_map_or, option_or}
-use Rattle.std.proofs.Math.Bool.{or-false}
-use Rattle.std.proofs.lemmas.Bool.{and_parts, and_from}
-use Rattle.std.proofs.lemmas.List.Folds.{find-append, list_any-append}
-use Rattle.std.proofs.lemmas.List.Sums.{sum_by-append}
-use Rattle.hs_lists.proofs.Counts.{one_if}
-use Rattle.hs_base.specs.declared.ids.GroupId.{GroupId}
-use Rattle.hs_base.specs.declared.told.Ask.{Ask}
-use Rattle.hs_base.specs.NodeSets.{has_node}
-use Rattle.hs_coord.specs.Following.{Message, Messages, same_group, is_of, has_crumb, has_ask, is_first_sender, first_of, is_newly_asked}
-use Rattle.hs_coord.proofs.KeptLemmas.{same_group-true}
-use Rattle.hs_law_journal.specs.Following.{ask_by, asks_behind}
+use Rattle.std.specs.Option.{option_or}
+use Rattle.std.proofs.lemmas.List.Folds.{find-append}
+use Rattle.hs_coord.specs.Following.{is_of}
 use Rattle.hs_law_outcome.proofs.Asked.{first_id}
 use Rattle.hs_law_outcome.specs.Asking.{NobodyIsAskedTwice}
 

@@ -1,12 +1,10 @@
 -- In a pool's history each buffer stands in the queue, or was got once more than it was given back.
 use Rattle.std.proofs.Common.{◌≡◌, ℕ, zero, suc, ◌+◌, ◌<◌, ◌≤◌, Bool, true, false, List, [], ◌∷◌, ◌++◌, refl, ap, subst, ◌∙◌, Some, None, arith, reverse, count_by, drop, eqb, eqb-true, eq-eqb, slice_get, append_assoc}
-use Rattle.std.specs.List.{range_with_len}
+use Rattle.hs_law_outcome.proofs.Prelude.{range_with_len, sum_by-cons, sum_by-append, one_if, PoolEvent, Empty, Given, Missed, is_got, is_given, queue_after, IsHistoryBack, IsPoolHistory, NoBufferIsOutTwice, EmptyOnlyWhereEmpty}
 use Rattle.std.proofs.lemmas.List.{reverse-append}
 use Rattle.std.proofs.lemmas.List.Sorted.{sum_by-IsPermutation, IsPermutation-reverse}
-use Rattle.std.proofs.lemmas.List.Sums.{sum_by-cons, sum_by-append}
-use Rattle.hs_lists.proofs.Counts.{one_if, one_of_below}
-use Rattle.hs_words.specs.PoolHistory.{PoolEvent, Got, Empty, Given, Missed, is_got, is_given, queue_after, MayFollow, IsHistoryBack, IsPoolHistory}
-use Rattle.hs_law_outcome.specs.Causes.{NoBufferIsOutTwice, EmptyOnlyWhereEmpty}
+use Rattle.hs_lists.proofs.Counts.{one_of_below}
+use Rattle.hs_words.specs.PoolHistory.{Got, MayFollow}
 
 -- ---- a place in a history
 

@@ -1,8 +1,6 @@
 -- Items by their stamps are the same items: where all stamps are below the bound, whatever is counted of them is counted as before.
 use Rattle.std.proofs.Common.{◌≡◌, ℕ, zero, suc, ◌+◌, Bool, true, false, ◌&&◌, cond, List, [], ◌∷◌, ◌++◌, refl, sym, ap, ◌∙◌, arith, map, count_by, append-nil, eqb, ltb, ltb-true}
-use Rattle.std.specs.List.{AllByRecursion, flat_map, range_with_len}
-use Rattle.hs_lists.proofs.Counts.{one_if, count_cons, count_append}
-use Rattle.hs_law_journal.specs.Pooled.{by_stamp}
+use Rattle.hs_law_outcome.proofs.Prelude.{AllByRecursion, flat_map, range_with_len, one_if, count_cons, count_append, by_stamp}
 use Rattle.hs_law_outcome.proofs.Stamps.{below_case, with_stamp, range_split, flat_both}
 
 sum_case : (a b c q : Bool) → one_if a ≡ one_if b + one_if c → one_if (a && q) ≡ one_if (b && q) + one_if (c && q)

@@ -1,22 +1,11 @@
 -- Event by event: a claim stays, the chunks keep their places and their pages, and what is claimed is not evicted.
 use Rattle.std.proofs.Common.{◌≡◌, ℕ, Bool, true, false, ◌||◌, List, [], ◌∷◌, ◌++◌, take, drop, refl, sym, ap, ◌∙◌, Option, Some, None, option_map, slice_get}
-use Rattle.std.specs.List.{list_any}
-use Rattle.std.specs.Option.{option_map_or}
+use Rattle.hs_law_outcome.proofs.Prelude.{list_any, option_map_or, slice_get-map, all_each, get_front, TraceId, same_trace, EventsGoOn, sheets_of, Taken, trace_of, stands, is_of_trace, AgentState, ClaimedTrace, is_claimed, AgentEvent, after_event, after, PlainSettings, Sheet, followed, ComesByEvents, AgentsComeByEvents}
 use Rattle.std.proofs.lemmas.List.{take-append-drop}
-use Rattle.std.proofs.lemmas.Option.{slice_get-map}
-use Rattle.hs_lists.proofs.Alls.{all_each}
-use Rattle.hs_lists.proofs.Places.{get_front}
-use Rattle.hs_base.specs.declared.ids.TraceId.{TraceId}
-use Rattle.hs_base.specs.Ids.{same_trace}
-use Rattle.hs_law_agent.specs.Laws.{EventsAddThis, EventsGoOn, ClaimsHoldForGood, NothingClaimedIsEvicted, brought_by, sheets_of}
-use Rattle.hs_law_agent.specs.Standings.{Taken, trace_of, is_evicted, stands, is_of_trace}
-use Rattle.hs_law_agent.specs.State.{AgentState, ClaimedTrace, is_claimed}
-use Rattle.hs_law_agent.specs.Stepping.{AgentEvent, after_event, after_from, after}
-use Rattle.hs_records.specs.Plain.{PlainSettings}
-use Rattle.hs_words.specs.Pages.{Sheet}
+use Rattle.hs_law_agent.specs.Laws.{EventsAddThis, ClaimsHoldForGood, NothingClaimedIsEvicted, brought_by}
+use Rattle.hs_law_agent.specs.Standings.{is_evicted}
+use Rattle.hs_law_agent.specs.Stepping.{after_from}
 use Rattle.hs_law_journal.specs.Extending.{HasMore}
-use Rattle.hs_law_journal.specs.Following.{followed}
-use Rattle.hs_law_journal.specs.Laws.{ComesByEvents, AgentsComeByEvents}
 use Rattle.hs_law_outcome.specs.Causes.{KeepsItsClaims, NothingClaimedWasEvicted}
 
 -- whether the page at a place is of the trace

@@ -1,26 +1,8 @@
 -- Clients come in order of node and number, and what the laws of records say of a client's pages is what a ledger asks of its notes.
 use Rattle.std.proofs.Common.{◌≡◌, ◌⊎◌, inl, inr, ℕ, zero, suc, ◌+◌, ◌*◌, ◌/◌, ◌%◌, ◌<◌, ◌≤◌, Bool, true, false, List, [], ◌∷◌, length, refl, sym, ap, subst, ◌∙◌, arith, map, sum_by, ltb, ltb-true, ltb-false, eq-or-lt_of_le, eq-zero-or-pos, div-lt_iff_lt-mul, div-add-mod'}
-use Rattle.std.specs.List.{AllByRecursion, flat_map, range_with_len}
-use Rattle.std.proofs.lemmas.List.{length-map, length-append}
-use Rattle.std.proofs.lemmas.List.Elements.{All-from_recursion}
-use Rattle.std.proofs.lemmas.List.Sums.{sum_by-cons}
-use Rattle.hs_base.specs.declared.ids.ClientId.{ClientId}
-use Rattle.hs_client.specs.Calls.{note_of}
-use Rattle.hs_journal.specs.declared.books.PageNote.{PageNote}
-use Rattle.hs_journal.specs.Books.{PlainClientBook}
-use Rattle.hs_journal.specs.Views.{PlainJournal}
-use Rattle.hs_ledger.specs.Books.{IsBefore, AreInOrder, AreNumbered, AllFollow, record_count}
-use Rattle.hs_records.specs.Laws.{Traces, CarriesRecords, AllFollow as PagesFollow, AreNumberedFrom, end_of, traces_of}
-use Rattle.hs_records.specs.Pages.{PlainPage, pages_of}
-use Rattle.hs_records.specs.Plain.{PlainWorkload}
-use Rattle.hs_records.specs.Records.{Record, records_of}
-use Rattle.hs_law_sends.specs.Sending.{operations_at}
-use Rattle.hs_law_journal.specs.Played.{played}
-use Rattle.hs_law_journal.specs.Shape.{has_shape}
-use Rattle.hs_law_outcome.specs.ClientBooks.{StandsAlone, BooksOfClientsFit}
-use Rattle.hs_law_outcome.specs.Origins.{HasItsClients}
-use Rattle.hs_law_outcome.specs.Outcomes.{client_at, client_book, client_books}
-use Rattle.hs_law_outcome.specs.Records.{EndsItsTraces, named_from, client_records}
+use Rattle.hs_law_outcome.proofs.Prelude.{AllByRecursion, flat_map, range_with_len, length-map, length-append, All-from_recursion, sum_by-cons, ClientId, note_of, PageNote, PlainClientBook, PlainJournal, record_count, Traces, CarriesRecords, AreNumberedFrom, end_of, traces_of, PlainPage, pages_of, PlainWorkload, Record, records_of, operations_at, played, has_shape, StandsAlone, BooksOfClientsFit, HasItsClients, client_at, client_book, client_books, EndsItsTraces, named_from, client_records}
+use Rattle.hs_ledger.specs.Books.{IsBefore, AreInOrder, AreNumbered, AllFollow}
+use Rattle.hs_records.specs.Laws.{AllFollow as PagesFollow}
 use Rattle.hs_law_outcome.proofs.Entries.{PagesCarryTheRecords, counts_end, ends_at, same_length, shape_counts}
 
 -- ---- order

@@ -1,19 +1,9 @@
 -- The pages of a client carry the pieces of its records, with their traces and moments. None goes past the last record, and a later
 -- page goes on behind an earlier one: with a later record, or with that page's last one, whose moment is the same.
 use Rattle.std.proofs.Common.{◌≡◌, ◌⊎◌, inl, inr, ℕ, zero, suc, ◌+◌, ◌<◌, ◌≤◌, false, List, [], ◌∷◌, length, sym, ap, subst, ◌∙◌, Option, Some, None, arith, map, option_map, slice_get, eq-or-lt_of_le}
-use Rattle.std.specs.List.{AllByRecursion, last_or}
-use Rattle.std.proofs.lemmas.List.{length-map}
-use Rattle.std.proofs.lemmas.Option.{same_Some}
-use Rattle.hs_lists.proofs.Alls.{all_append, all_front, all_back, all_at}
-use Rattle.hs_base.specs.declared.ids.ClientId.{ClientId}
-use Rattle.hs_base.specs.declared.ids.TraceId.{TraceId}
-use Rattle.hs_base.specs.declared.limits.TheConstants.{MIN_SIZE}
-use Rattle.hs_client.specs.Calls.{written, sheet_for}
-use Rattle.hs_collect.specs.Collected.{GoesOn, first_moment, last_moment}
-use Rattle.hs_records.specs.Laws.{Traces, RiseFrom, CarriesRecords, AllFollow, end_of, end_from, traces_of, pieces_of_records, pieces_on, PagesHoldThePieces}
-use Rattle.hs_records.specs.Pages.{PlainPage, first_record, pages_of}
-use Rattle.hs_records.specs.Plain.{Operation}
-use Rattle.hs_records.specs.Records.{AreBracketed, Piece, Record, payload_pieces, records_of}
+use Rattle.hs_law_outcome.proofs.Prelude.{AllByRecursion, length-map, same_Some, all_append, all_front, all_back, all_at, ClientId, TraceId, MIN_SIZE, written, sheet_for, GoesOn, Traces, RiseFrom, CarriesRecords, AllFollow, end_of, end_from, traces_of, pieces_of_records, pieces_on, PagesHoldThePieces, PlainPage, first_record, pages_of, Operation, AreBracketed, Piece, Record, payload_pieces, records_of}
+use Rattle.std.specs.List.{last_or}
+use Rattle.hs_collect.specs.Collected.{first_moment, last_moment}
 use Rattle.hs_words.specs.Pages as words
 use Rattle.hs_law_outcome.proofs.Entries.{PagesCarryTheRecords, piece_traced, follow_first}
 

@@ -1,41 +1,13 @@
 -- What is collected of a trace, without the records that were not reported, and the records of its report stand in one order and are the
 -- same records. Each that was reported has all its pieces, in order, so it is joined to the whole record of the workload.
 use Rattle.std.proofs.Common.{◌≡◌, ◌⊎◌, inl, inr, ℕ, zero, suc, ◌+◌, ◌<◌, ◌≤◌, ◌&&◌, Bool, true, false, cond, List, [], ◌∷◌, length, refl, sym, ap, subst, ◌∙◌, Option, Some, None, arith, map, filter, option_map, slice_get, eqb-true, eq-eqb, nat_eq, find}
-use Rattle.std.specs.List.{AllByRecursion, AllPairs, Any, flat_map, concat}
-use Rattle.std.proofs.lemmas.Bool.{and_parts, and_from}
-use Rattle.std.proofs.lemmas.List.{length-map}
-use Rattle.std.proofs.lemmas.List.Elements.{recursion_from_All}
-use Rattle.std.proofs.lemmas.Option.{same_Some}
-use Rattle.hs_lists.proofs.Alls.{all_each_both, all_filter, all_unmap}
-use Rattle.hs_lists.proofs.Places.{IsIn}
-use Rattle.hs_base.specs.declared.ids.ClientId.{ClientId}
-use Rattle.hs_base.specs.declared.ids.RecordId.{RecordId}
-use Rattle.hs_base.specs.declared.ids.TraceId.{TraceId}
-use Rattle.hs_client.specs.Calls.{written, sheet_for}
-use Rattle.hs_collect.specs.Collected.{Placed, Precedes, is_of as is_page_of, is_same, is_piece_of, pieces_from, page_pieces, pieces_of, IsWhole, AreWholes, is_by, KeepsRuns}
+use Rattle.hs_law_outcome.proofs.Prelude.{AllByRecursion, AllPairs, flat_map, concat, and_parts, and_from, length-map, recursion_from_All, same_Some, all_each_both, all_filter, all_unmap, IsIn, ClientId, RecordId, TraceId, written, sheet_for, Placed, Precedes, is_same, is_piece_of, pieces_from, page_pieces, KeepsRuns, PlainJournal, Entry, is_reported, ClientsPagesRise, PagesHoldThePieces, end_of, traces_of, PlainPage, first_record, pages_of, Operation, PlainWorkload, AreBracketed, Record, payload_pieces, record_pieces, records_of, TimedPagesAreThePages, operations_at, place_of, Sheet, RunsAreOfTheJournal, AgentsComeByEvents, IsLawful, FollowingPlaysOut, TakenPagesRise, IsClientsPage, HasAllItsPages, ReportedRecordsHaveAllPages, HasItsClients, TakenPagesWereDrawn, outcome_of, EndsItsTraces, EachRecordHasOneEntry, name_of, placed_ids, ComeInOrder, whole_of, is_of, report_of}
+use Rattle.std.specs.List.{Any}
+use Rattle.hs_collect.specs.Collected.{is_of as is_page_of, pieces_of, IsWhole, AreWholes, is_by}
 use Rattle.hs_collect.proofs.Ids.{same_ids}
-use Rattle.hs_journal.specs.Views.{PlainJournal}
-use Rattle.hs_ledger.specs.declared.ledger.Entry.{Entry}
-use Rattle.hs_ledger.specs.Totals.{is_reported}
-use Rattle.hs_law_agent.specs.Laws.{ClientsPagesRise}
-use Rattle.hs_records.specs.Laws.{PagesHoldThePieces, end_of, traces_of}
-use Rattle.hs_records.specs.Pages.{PlainPage, first_record, pages_of}
-use Rattle.hs_records.specs.Plain.{Operation, PlainWorkload}
-use Rattle.hs_records.specs.Records.{AreBracketed, Record, payload_pieces, piece_count, record_pieces, records_of}
-use Rattle.hs_law_sends.specs.Laws.{TimedPagesAreThePages}
-use Rattle.hs_law_sends.specs.Sending.{operations_at, place_of}
-use Rattle.hs_words.specs.Pages.{Sheet}
+use Rattle.hs_records.specs.Records.{piece_count}
 use Rattle.hs_words.specs.Pages as words
-use Rattle.hs_law_journal.specs.Extending.{RunsAreOfTheJournal}
-use Rattle.hs_law_journal.specs.Laws.{AgentsComeByEvents}
-use Rattle.hs_law_journal.specs.Lawful.{IsLawful}
-use Rattle.hs_law_journal.specs.Orders.{FollowingPlaysOut}
-use Rattle.hs_law_journal.specs.Taking.{TakenPagesRise}
-use Rattle.hs_law_outcome.specs.CollectedReports.{IsClientsPage, HasAllItsPages, ReportedRecordsHaveAllPages, was_reported, reported_wholes, CollectedRecordsAreWhole}
-use Rattle.hs_law_outcome.specs.Origins.{HasItsClients, TakenPagesWereDrawn}
-use Rattle.hs_law_outcome.specs.Outcomes.{outcome_of}
-use Rattle.hs_law_outcome.specs.Records.{EndsItsTraces, EachRecordHasOneEntry, name_of, placed_ids, ComeInOrder}
-use Rattle.hs_law_outcome.specs.Reports.{whole_of, is_of, report_of}
+use Rattle.hs_law_outcome.specs.CollectedReports.{was_reported, reported_wholes, CollectedRecordsAreWhole}
 use Rattle.hs_law_outcome.proofs.Among.{is_first, is_later, at_head, none_in, from_contained, of_all, in_filter, from_filter, from_any, to_any, from_find, find_first, in_filter_map, from_filter_map}
 use Rattle.hs_law_outcome.proofs.ClientBooks.{compare}
 use Rattle.hs_law_outcome.proofs.ClientPages.{trace_on}

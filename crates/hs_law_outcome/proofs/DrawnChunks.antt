@@ -1,26 +1,8 @@
 -- Each chunk that an agent took is of a page of its node's clients, at the page's place, and the page has a buffer.
 use Rattle.std.proofs.Common.{◌≡◌, ℕ, zero, suc, ◌+◌, Bool, true, false, cond, List, [], ◌∷◌, refl, sym, ap, subst, ◌∙◌, Option, Some, None, arith, map, filter, option_map, slice_get, eq-eqb}
-use Rattle.std.specs.List.{AllByRecursion, range_with_len}
-use Rattle.std.specs.Option.{option_and_then, option_map_or}
-use Rattle.std.proofs.lemmas.Option.{slice_get-map, same_Some}
-use Rattle.hs_lists.proofs.Ranges.{range_found}
-use Rattle.hs_lists.proofs.Options.{option_map_parts}
+use Rattle.hs_law_outcome.proofs.Prelude.{AllByRecursion, range_with_len, option_and_then, option_map_or, slice_get-map, same_Some, range_found, option_map_parts, ClientId, Draw, PlainJournal, sheets_of, Taken, PlainWorkload, DrawnPage, has_buffer, drawn_from, Sent, ClientSends, sheet_of, sent_chunks, client_sends, node_sends, TimedPage, Sheet, IsOfJournal, RunsAreOfTheJournal, Chunks, taken, NodeRun, followed, FollowingPlaysOut, is_by, TakesInOrder, ChunksAreTakenInOrder, IsOfDrawnPage, TakenPagesWereDrawn}
 use Rattle.hs_lists.proofs.Alls.{all_take}
-use Rattle.hs_base.specs.declared.ids.ClientId.{ClientId}
-use Rattle.hs_journal.specs.declared.journal.Draw.{Draw}
-use Rattle.hs_journal.specs.Views.{PlainJournal}
-use Rattle.hs_law_agent.specs.Laws.{sheets_of}
-use Rattle.hs_law_agent.specs.Standings.{Taken}
-use Rattle.hs_records.specs.Plain.{PlainWorkload}
-use Rattle.hs_law_sends.specs.Drawn.{DrawnPage, has_buffer, drawn_from}
-use Rattle.hs_law_sends.specs.Sending.{Sent, ClientSends, sheet_of, sent_chunks, client_sends, node_sends}
-use Rattle.hs_law_sends.specs.Timing.{TimedPage}
-use Rattle.hs_words.specs.Pages.{Sheet}
-use Rattle.hs_law_journal.specs.Extending.{IsOfJournal, RunsAreOfTheJournal}
-use Rattle.hs_law_journal.specs.Following.{Chunks, taken, NodeRun, followed}
-use Rattle.hs_law_journal.specs.Orders.{FollowingPlaysOut}
-use Rattle.hs_law_journal.specs.Taking.{is_by, sheets_sent, TakesInOrder, ChunksAreTakenInOrder}
-use Rattle.hs_law_outcome.specs.Origins.{IsOfDrawnPage, TakenPagesWereDrawn}
+use Rattle.hs_law_journal.specs.Taking.{sheets_sent}
 
 -- ---- what is sent is of a drawn page
 

@@ -1,35 +1,11 @@
 -- The pages of a client carry its records without a gap, so each number below the count of records is that of a piece on some page,
 -- and the first such page names the record's trace.
 use Rattle.std.proofs.Common.{◌≡◌, ◌⊎◌, inl, inr, ℕ, zero, suc, ◌+◌, ◌<◌, ◌≤◌, Bool, true, false, ◌&&◌, cond, List, [], ◌∷◌, ◌++◌, length, refl, sym, ap, subst, ◌∙◌, Some, None, arith, map, filter, option_map, slice_get, unwrap_or, leb, ltb, leb-true, ltb-true, leb-false, ltb-false, eqb-true, eq-or-lt_of_le, nat_eq}
-use Rattle.std.specs.List.{AllByRecursion, flat_map, range_with_len}
-use Rattle.std.proofs.lemmas.Bool.{and_parts, and_cases}
-use Rattle.std.proofs.lemmas.List.{length-map}
-use Rattle.std.proofs.lemmas.List.Folds.{flat_map-map}
-use Rattle.std.proofs.lemmas.Option.{same_Some}
-use Rattle.hs_lists.proofs.Parts.{map_flat}
+use Rattle.hs_law_outcome.proofs.Prelude.{AllByRecursion, flat_map, range_with_len, and_parts, length-map, flat_map-map, same_Some, map_flat, ClientId, TraceId, MIN_SIZE, Fate, note_of, Draw, PageNote, PlainClientBook, PlainJournal, Entry, record_count, FatedPage, page_fate, fated_by, fated_pages, has_piece_of, record_fate, entry_on, record_entry, book_entries, Traces, RiseFrom, CarriesRecords, AllFollow, AreNumberedFrom, end_of, end_from, traces_of, PlainPage, first_record, pages_of, Operation, PlainWorkload, AreBracketed, Piece, Record, records_of, operations_at, draws_at, followed, played, same_counts, has_shape, client_at, client_book, client_books, agent_books, named_from, client_records, name_of, EachRecordHasOneEntry}
+use Rattle.std.proofs.lemmas.Bool.{and_cases}
 use Rattle.hs_lists.proofs.Ranges.{flat_range_alike}
-use Rattle.hs_base.specs.declared.ids.ClientId.{ClientId}
-use Rattle.hs_base.specs.declared.ids.TraceId.{TraceId}
-use Rattle.hs_base.specs.declared.limits.TheConstants.{MIN_SIZE}
-use Rattle.hs_base.specs.declared.told.Fate.{Fate}
-use Rattle.hs_client.specs.Calls.{note_of}
-use Rattle.hs_journal.specs.declared.journal.Draw.{Draw}
-use Rattle.hs_journal.specs.declared.books.PageNote.{PageNote}
-use Rattle.hs_journal.specs.Books.{PlainClientBook}
-use Rattle.hs_journal.specs.Views.{PlainJournal}
-use Rattle.hs_ledger.specs.declared.ledger.Entry.{Entry}
-use Rattle.hs_ledger.specs.Books.{count_from, record_count}
-use Rattle.hs_ledger.specs.Fates.{FatedPage, page_fate, fated_by, fated_pages, has_piece_of, record_fate, entry_on, record_entry, book_entries}
-use Rattle.hs_records.specs.Laws.{Traces, RiseFrom, CarriesRecords, AllFollow, AreNumberedFrom, CarryRecords, end_of, end_from, traces_of}
-use Rattle.hs_records.specs.Pages.{PlainPage, first_record, pages_of}
-use Rattle.hs_records.specs.Plain.{Operation, PlainWorkload}
-use Rattle.hs_records.specs.Records.{AreBracketed, Piece, Record, records_of}
-use Rattle.hs_law_sends.specs.Sending.{operations_at, draws_at}
-use Rattle.hs_law_journal.specs.Following.{followed}
-use Rattle.hs_law_journal.specs.Played.{played}
-use Rattle.hs_law_journal.specs.Shape.{same_counts, has_shape}
-use Rattle.hs_law_outcome.specs.Outcomes.{client_at, client_book, client_books, agent_books}
-use Rattle.hs_law_outcome.specs.Records.{named_from, client_records, name_of, EachRecordHasOneEntry}
+use Rattle.hs_ledger.specs.Books.{count_from}
+use Rattle.hs_records.specs.Laws.{CarryRecords}
 
 -- what is said of the pages of a client
 abbrev pub PagesCarryTheRecords : Type 0

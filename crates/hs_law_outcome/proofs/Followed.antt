@@ -1,20 +1,9 @@
 -- What a valid workload is, and a journal of which nothing is left when it was followed.
 use Rattle.std.proofs.Common.{◌≡◌, ℕ, true, List, [], ◌∷◌, ◌++◌, length, sym, ap, subst, ◌∙◌, append-nil, nat_eq}
-use Rattle.std.specs.List.{AllByRecursion, list_all}
-use Rattle.std.proofs.lemmas.Bool.{and_parts, eqb-true}
-use Rattle.std.proofs.lemmas.List.{nil_from_length}
-use Rattle.hs_lists.proofs.Alls.{all_each}
-use Rattle.hs_journal.specs.Views.{PlainJournal}
-use Rattle.hs_records.specs.Plain.{PlainWorkload}
-use Rattle.hs_words.specs.PoolHistory.{IsPoolHistory}
+use Rattle.hs_law_outcome.proofs.Prelude.{AllByRecursion, list_all, and_parts, eqb-true, nil_from_length, all_each, PlainJournal, PlainWorkload, IsPoolHistory, IsOfJournal, NodeRun, Run, log_at, is_done, pool_history, NoBufferIsOutTwice, EndsItsTraces}
 use Rattle.hs_workload.specs.Validity.{IsValid}
 use Rattle.hs_workload.specs.declared.word.Setting.TheVariants as settings
 use Rattle.hs_workload.proofs.Sizes.{bracketed}
-use Rattle.hs_law_journal.specs.Extending.{IsOfJournal}
-use Rattle.hs_law_journal.specs.Following.{NodeRun, Run, log_at, is_done}
-use Rattle.hs_law_journal.specs.Pooled.{pool_history}
-use Rattle.hs_law_outcome.specs.Causes.{NoBufferIsOutTwice}
-use Rattle.hs_law_outcome.specs.Records.{EndsItsTraces}
 use Rattle.hs_law_outcome.specs.Headline.{DidItsLog, HaveOneWriter}
 
 pub ends_its_traces : (W : PlainWorkload) → IsValid W → EndsItsTraces W

@@ -1,33 +1,8 @@
 -- The book of a node's client stands at the client's place, and a page of the node's clients that has a buffer is one of that book.
 use Rattle.std.proofs.Common.{◌≡◌, ◌⊎◌, inl, inr, ℕ, zero, suc, ◌+◌, ◌*◌, ◌/◌, ◌%◌, ◌<◌, ◌≤◌, true, false, List, [], ◌∷◌, length, All, Contains, refl, sym, ap, subst, ◌∙◌, Option, Some, None, arith, map, option_map, slice_get, div-lt_iff_lt-mul, div-add-mod', suc-mul}
-use Rattle.std.specs.Prelude.{slice_index_or}
-use Rattle.std.specs.List.{AllByRecursion, range_with_len}
-use Rattle.std.specs.Option.{option_and_then}
-use Rattle.std.proofs.lemmas.List.{length-map}
-use Rattle.std.proofs.lemmas.List.FromFn.{length-range_with_len}
-use Rattle.std.proofs.lemmas.List.Elements.{All-from_recursion}
-use Rattle.std.proofs.lemmas.Option.{slice_get-map, same_Some}
-use Rattle.hs_lists.proofs.Options.{option_unmap}
-use Rattle.hs_lists.proofs.Ranges.{range_at}
-use Rattle.hs_base.specs.declared.ids.ClientId.{ClientId}
-use Rattle.hs_journal.specs.declared.journal.Draw.{Draw}
-use Rattle.hs_journal.specs.declared.journal.Draw.TheVariants.{Got, Empty}
-use Rattle.hs_journal.specs.Books.{PlainAgentBook}
-use Rattle.hs_journal.specs.Views.{PlainJournal}
+use Rattle.hs_law_outcome.proofs.Prelude.{slice_index_or, AllByRecursion, range_with_len, option_and_then, length-map, length-range_with_len, All-from_recursion, slice_get-map, same_Some, option_unmap, range_at, ClientId, Draw, Got, PlainAgentBook, PlainJournal, page_standing, book_of, Taken, PlainWorkload, DrawnPage, has_buffer, drawn_from, ClientSends, client_sends, node_sends, draws_at, place_of, TimedPage, Sheet, IsOfJournal, RunsAreOfTheJournal, NodeRun, followed, FollowingPlaysOut, StandingsAreOfGotPages, HasItsClients, IsOfDrawnPage, TakenPagesWereDrawn, client_at, client_book, client_books, agent_books}
+use Rattle.hs_journal.specs.declared.journal.Draw.TheVariants.{Empty}
 use Rattle.hs_ledger.specs.Books.{IsOfGotPage}
-use Rattle.hs_law_agent.specs.Books.{page_standing, book_of}
-use Rattle.hs_law_agent.specs.Standings.{Taken}
-use Rattle.hs_records.specs.Plain.{PlainWorkload}
-use Rattle.hs_law_sends.specs.Drawn.{DrawnPage, has_buffer, drawn_from}
-use Rattle.hs_law_sends.specs.Sending.{ClientSends, client_sends, node_sends, draws_at, place_of}
-use Rattle.hs_law_sends.specs.Timing.{TimedPage}
-use Rattle.hs_words.specs.Pages.{Sheet}
-use Rattle.hs_law_journal.specs.Extending.{IsOfJournal, RunsAreOfTheJournal}
-use Rattle.hs_law_journal.specs.Following.{NodeRun, followed}
-use Rattle.hs_law_journal.specs.Orders.{FollowingPlaysOut}
-use Rattle.hs_law_outcome.specs.ClientBooks.{StandingsAreOfGotPages}
-use Rattle.hs_law_outcome.specs.Origins.{HasItsClients, IsOfDrawnPage, TakenPagesWereDrawn}
-use Rattle.hs_law_outcome.specs.Outcomes.{client_at, client_book, client_books, agent_books}
 use Rattle.hs_law_outcome.proofs.ClientBooks.{compare}
 
 -- ---- the place of a client

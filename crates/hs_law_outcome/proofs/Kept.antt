@@ -1,11 +1,8 @@
 -- The laws of the agent's model at the nodes of a journal.
 use Rattle.std.proofs.Common.{sym, subst}
-use Rattle.hs_lists.proofs.Alls.{all_each}
-use Rattle.hs_law_agent.specs.Laws.{AllWereOver, EvictedWereOver, ListsHaveTheirChunks, LimitsHold, TracesAreClaimedOnce, ChunksStandByTheirClaim}
-use Rattle.hs_law_agent.specs.State.{AgentState}
-use Rattle.hs_law_journal.specs.Following.{NodeRun, followed}
-use Rattle.hs_law_journal.specs.Laws.{ComesByEvents, AgentsComeByEvents}
-use Rattle.hs_law_outcome.specs.Causes.{KeepsItsModel, AgentsKeepTheirModel, EvictedOnlyWhereOver}
+use Rattle.hs_law_outcome.proofs.Prelude.{all_each, LimitsHold, AgentState, NodeRun, followed, ComesByEvents, AgentsComeByEvents, KeepsItsModel, AgentsKeepTheirModel}
+use Rattle.hs_law_agent.specs.Laws.{AllWereOver, EvictedWereOver, ListsHaveTheirChunks, TracesAreClaimedOnce, ChunksStandByTheirClaim}
+use Rattle.hs_law_outcome.specs.Causes.{EvictedOnlyWhereOver}
 
 pub evicted_only_where_over : EvictedWereOver → AgentsComeByEvents → EvictedOnlyWhereOver
 evicted_only_where_over over comes W J =

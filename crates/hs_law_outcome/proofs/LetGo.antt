@@ -1,14 +1,11 @@
 -- What was given back is among what was let go, where each chunk stands once.
 use Rattle.std.proofs.Common.{◌≡◌, ℕ, ◌≤◌, Bool, true, false, cond, List, [], ◌∷◌, ◌++◌, refl, ap, arith, map, eq-eqb}
-use Rattle.std.specs.List.{AllByRecursion}
-use Rattle.hs_lists.proofs.Counts.{one_if, one_few}
-use Rattle.hs_lists.proofs.Alls.{all_each}
-use Rattle.hs_law_agent.specs.Laws.{count_of, given_places, PlacesMatch}
-use Rattle.hs_law_agent.specs.Standings.{is_let_go, stands}
-use Rattle.hs_law_agent.specs.State.{AgentState, GivenPlace}
+use Rattle.hs_law_outcome.proofs.Prelude.{AllByRecursion, one_if, all_each, count_of, PlacesMatch, stands, AgentState, GivenPlace, NodeRun, followed, KeepsItsModel, AgentsKeepTheirModel}
+use Rattle.hs_lists.proofs.Counts.{one_few}
+use Rattle.hs_law_agent.specs.Laws.{given_places}
+use Rattle.hs_law_agent.specs.Standings.{is_let_go}
 use Rattle.hs_law_agent.proofs.Counts.{count-append}
-use Rattle.hs_law_journal.specs.Following.{NodeRun, followed}
-use Rattle.hs_law_outcome.specs.Causes.{KeepsItsModel, AgentsKeepTheirModel, GaveWhatWasLetGo, GivenWereLetGo}
+use Rattle.hs_law_outcome.specs.Causes.{GaveWhatWasLetGo, GivenWereLetGo}
 
 there_case : (b : Bool) (n : ℕ) → n ≤ cond b 1 0 → 1 ≤ n → b ≡ true
 there_case true n most some = refl

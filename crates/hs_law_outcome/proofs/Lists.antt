@@ -1,6 +1,6 @@
 -- Tests that hold together, and lists that are mapped, filtered and joined.
 use Rattle.std.proofs.Common.{◌≡◌, Bool, true, false, cond, List, [], ◌∷◌, refl, filter}
-use Rattle.std.specs.List.{AllByRecursion}
+use Rattle.hs_law_outcome.proofs.Prelude.{AllByRecursion}
 
 -- ---- items that have a property
 

@@ -1,20 +1,10 @@
 -- What can be performed of a journal names what is there: a step that takes from a client names a client of its node, and the
 -- coordinator takes a message from a node.
 use Rattle.std.proofs.Common.{◌≡◌, inl, inr, ℕ, zero, suc, ◌<◌, true, List, [], ◌∷◌, ◌++◌, length, refl, sym, subst, Some, None, set, option_map, slice_get, count_by, eqb-true, nat_eq}
-use Rattle.std.specs.List.{AllByRecursion, list_all}
-use Rattle.std.proofs.lemmas.Bool.{and_parts}
-use Rattle.std.proofs.lemmas.List.{length-set, nil_from_length}
-use Rattle.std.proofs.lemmas.Option.{same_Some, slice_get_within}
-use Rattle.hs_lists.proofs.Options.{option_unmap}
-use Rattle.hs_base.specs.declared.ids.NodeId.{NodeId}
-use Rattle.hs_coord.specs.Following.{Message, Messages, message}
-use Rattle.hs_journal.specs.declared.journal.Step.{Step}
+use Rattle.hs_law_outcome.proofs.Prelude.{AllByRecursion, list_all, and_parts, nil_from_length, same_Some, slice_get_within, option_unmap, NodeId, Message, Messages, message, Step, Chunk, Crumbed, Triggered, AgentEvent, Took, PlainSettings, ClientSends, Chunks, Crumbs, Triggers, NodeRun, Run, event_of, next_of, perform, step_node, is_from, is_done, Performs, Leads, Stays, Goes}
+use Rattle.std.proofs.lemmas.List.{length-set}
 use Rattle.hs_journal.specs.declared.journal.Step.TheVariants as steps
-use Rattle.hs_law_agent.specs.Stepping.{Chunk, Crumbed, Triggered, AgentEvent, Took}
-use Rattle.hs_records.specs.Plain.{PlainSettings}
-use Rattle.hs_law_sends.specs.Sending.{ClientSends}
-use Rattle.hs_law_journal.specs.Following.{Chunks, Crumbs, Triggers, NodeRun, Run, event_of, next_of, perform, step_of, step_node, is_from, message_of, hear, is_done}
-use Rattle.hs_law_journal.specs.Orders.{Performs, Leads, Stays, Goes}
+use Rattle.hs_law_journal.specs.Following.{step_of, message_of, hear}
 use Rattle.hs_law_outcome.proofs.GotPages.{then_parts}
 
 -- a step that names no client but one of so many

@@ -1,37 +1,10 @@
 -- In the end an agent has taken all chunks that its clients sent, in order, so the page of each stands once in its book.
 use Rattle.std.proofs.Common.{◌≡◌, ℕ, zero, suc, ◌+◌, ◌<◌, ◌≤◌, Bool, true, false, ◌&&◌, cond, List, [], ◌∷◌, ◌++◌, length, refl, sym, ap, ap₂, ◌∙◌, Some, None, arith, map, filter, slice_get, nat_eq, eqb-true, eq-eqb, append-nil}
-use Rattle.std.specs.List.{AllByRecursion, flat_map, range_with_len}
-use Rattle.std.proofs.lemmas.Bool.{and_parts}
-use Rattle.std.proofs.lemmas.List.{length-map}
-use Rattle.std.proofs.lemmas.List.Elements.{All-from_recursion, recursion_from_All}
-use Rattle.std.proofs.lemmas.Option.{same_Some}
+use Rattle.hs_law_outcome.proofs.Prelude.{slice_get_within, AllByRecursion, flat_map, range_with_len, and_parts, length-map, All-from_recursion, recursion_from_All, same_Some, ClientId, Standing, Draw, Got, PlainClientBook, PlainAgentBook, PlainJournal, standings_if, standings_at, page_standing, book_of, sheets_of, Taken, Operation, PlainWorkload, drawn_from, TimedPagesAreThePages, Sent, ClientSends, sent_chunks, operations_at, draws_at, TimedPage, timed_pages, Sheet, RunsAreOfTheJournal, NodeRun, followed, IsLawful, FollowingPlaysOut, is_by, ChunksAreTakenInOrder, StandsAlone, BooksOfClientsFit, StandingsAreOfGotPages, HasItsClients, client_at, client_book, client_books, agent_books, EndsItsTraces}
 use Rattle.hs_lists.proofs.Filters.{filter_weaker}
-use Rattle.hs_base.specs.declared.ids.ClientId.{ClientId}
-use Rattle.hs_journal.specs.declared.books.Standing.{Standing}
-use Rattle.hs_journal.specs.declared.journal.Draw.{Draw}
-use Rattle.hs_journal.specs.declared.journal.Draw.TheVariants.{Got, Empty}
-use Rattle.hs_journal.specs.Books.{PlainClientBook, PlainAgentBook}
-use Rattle.hs_journal.specs.Views.{PlainJournal}
-use Rattle.hs_ledger.specs.Books.{BookFits, HaveStandings, is_of, standings_if, standings_at}
-use Rattle.hs_law_agent.specs.Books.{page_standing, book_of}
-use Rattle.hs_law_agent.specs.Laws.{sheets_of}
-use Rattle.hs_law_agent.specs.Standings.{Taken}
-use Rattle.hs_records.specs.Plain.{Operation, PlainWorkload}
-use Rattle.hs_law_sends.specs.Drawn.{drawn_from}
-use Rattle.hs_law_sends.specs.Laws.{TimedPagesAreThePages}
-use Rattle.hs_law_sends.specs.Sending.{Sent, ClientSends, sent_chunks, operations_at, draws_at}
-use Rattle.hs_law_sends.specs.Timing.{TimedPage, timed_pages}
-use Rattle.hs_words.specs.Pages.{Sheet}
-use Rattle.hs_law_journal.specs.Extending.{RunsAreOfTheJournal}
-use Rattle.hs_law_journal.specs.Following.{NodeRun, followed}
-use Rattle.hs_law_journal.specs.Lawful.{IsLawful}
-use Rattle.hs_law_journal.specs.Orders.{FollowingPlaysOut}
-use Rattle.hs_law_journal.specs.Taking.{is_by, ChunksAreTakenInOrder}
+use Rattle.hs_journal.specs.declared.journal.Draw.TheVariants.{Empty}
+use Rattle.hs_ledger.specs.Books.{BookFits, HaveStandings, is_of}
 use Rattle.hs_law_outcome.specs.Books.{EachGotPageHasOneStanding, BooksFitTogether}
-use Rattle.hs_law_outcome.specs.ClientBooks.{StandsAlone, BooksOfClientsFit, StandingsAreOfGotPages}
-use Rattle.hs_law_outcome.specs.Origins.{HasItsClients}
-use Rattle.hs_law_outcome.specs.Outcomes.{client_at, client_book, client_books, agent_books}
-use Rattle.hs_law_outcome.specs.Records.{EndsItsTraces}
 use Rattle.hs_law_outcome.proofs.Entries.{ends_at, same_length, shape_counts}
 use Rattle.hs_law_outcome.proofs.Origins as origins
 
@@ -162,7 +135,7 @@ module _ (plays : FollowingPlaysOut) (runs : RunsAreOfTheJournal) (order : Chunk
     -- the client has a page for each draw
     page_for : (page buffer stamp : ℕ) → slice_get (draws_at J place) page ≡ Some (Got buffer stamp) → page < length (timed_pages W.settings.size ops)
     page_for page buffer stamp got =
-        let low = origins.within (draws_at J place) page (Got buffer stamp) got in
+        let low = slice_get_within (draws_at J place) page (Got buffer stamp) got in
         let drawn = same_length J.draws W.clients W.settings.size place (shape_counts W J lawful.L1) in
         let mapped = length-map (timed_pages W.settings.size ops) (λ (p : TimedPage). p.page) in
         let pages = ap length (timed W.settings.size ops (ends_at W.clients place ends.ends)) in

@@ -1,29 +1,16 @@
 -- So each message that is heard comes from a known sender, since the first of its group comes from the node that admitted it. And
 -- each node of which an `Answer` is heard has an ask.
 use Rattle.std.proofs.Common.{◌≡◌, ◌⊎◌, inl, inr, ℕ, ◌<◌, Bool, true, false, not, ◌||◌, ◌&&◌, List, [], ◌∷◌, ◌++◌, set, Option, Some, None, find, option_map, count_by, refl, sym, ap, subst, ◌∙◌, ⊎_elim, arith, slice_get, eqb, eqb-true, eq-eqb, true≢false}
-use Rattle.std.proofs.Math.Bool.{or-false}
-use Rattle.std.specs.List.{list_any, range_with_len}
-use Rattle.std.specs.Option.{option_and_then, option_map_or}
-use Rattle.std.proofs.lemmas.Bool.{and_parts, false_from_ne_true, or_cases, or_left, or_right, cases_eq}
-use Rattle.std.proofs.lemmas.List.FromFn.{get_or-range_with_len, length-range_with_len}
-use Rattle.std.proofs.lemmas.List.Folds.{list_any-append}
-use Rattle.std.proofs.lemmas.Option.{slice_get-map, slice_get_within, get_or_from_slice_get, same_Some}
-use Rattle.hs_lists.proofs.Alls.{all_at}
+use Rattle.hs_law_outcome.proofs.Prelude.{or-false, list_any, range_with_len, option_and_then, option_map_or, and_parts, or_cases, or_left, or_right, length-range_with_len, list_any-append, slice_get-map, slice_get_within, same_Some, all_at, mapped_from, GroupId, NodeId, Told, Message, Messages, message, is_asked, is_first_sender, has_crumb, has_ask, is_answer, first_bit, PlainJournal, EventsAddFew, StepsSayWhatTheyTell, PlainSettings, PlainWorkload, NodeRun, Run, is_from, node_start, run_start, Performs, Leads, Stays, Goes, step_from}
+use Rattle.std.proofs.lemmas.Bool.{false_from_ne_true, cases_eq}
+use Rattle.std.proofs.lemmas.List.FromFn.{get_or-range_with_len}
+use Rattle.std.proofs.lemmas.Option.{get_or_from_slice_get}
 use Rattle.hs_lists.proofs.Places.{get_set, get_other}
-use Rattle.hs_lists.proofs.Options.{mapped_from}
-use Rattle.hs_base.specs.declared.ids.GroupId.{GroupId}
-use Rattle.hs_base.specs.declared.ids.NodeId.{NodeId}
-use Rattle.hs_base.specs.declared.told.Told.{Told}
-use Rattle.hs_coord.specs.Following.{Message, Messages, message, is_of, is_asked, is_first_sender, has_crumb, has_ask, is_answer, is_answer_from, is_answered_after, is_answered}
+use Rattle.hs_coord.specs.Following.{is_of, is_answer_from, is_answered_after, is_answered}
 use Rattle.hs_coord.specs.Orderly.{IsOrderly, is_known_sender}
 use Rattle.hs_coord.proofs.FollowingLemmas.{first_now, first_of_other}
-use Rattle.hs_coord.proofs.KeptLemmas.{first_bit}
-use Rattle.hs_journal.specs.Views.{PlainJournal}
-use Rattle.hs_law_agent.specs.Laws.{EventsAddFew, StepsSayWhatTheyTell}
-use Rattle.hs_records.specs.Plain.{PlainSettings, PlainWorkload}
-use Rattle.hs_law_journal.specs.Following.{NodeRun, Run, is_from, node_start, run_start}
-use Rattle.hs_law_journal.specs.Orders.{StepsNode, Performs, Leads, Stays, Goes}
-use Rattle.hs_law_journal.proofs.Steps.{step_from, heard_from}
+use Rattle.hs_law_journal.specs.Orders.{StepsNode}
+use Rattle.hs_law_journal.proofs.Steps.{heard_from}
 use Rattle.hs_law_outcome.specs.Speaking.{MessagesAreOrderly, AnswersComeFromAsked}
 use Rattle.hs_law_outcome.proofs.Asked.{nobody_asked, asked_stays, ask_stays}
 use Rattle.hs_law_outcome.proofs.Speaking.{MaySay, KeepsToIt, keeps_more, step_keeps}

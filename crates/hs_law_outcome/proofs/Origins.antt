@@ -1,53 +1,12 @@
 -- From an entry to a page with a piece of its record, and from there to the draw, or to the chunk that the node's agent took.
 use Rattle.std.proofs.Common.{◌≡◌, ◌⊎◌, inl, inr, ℕ, zero, suc, ◌+◌, ◌*◌, ◌<◌, Bool, true, false, ◌&&◌, cond, List, [], ◌∷◌, ◌++◌, length, take, refl, sym, ap, subst, ◌∙◌, Option, Some, None, arith, map, filter, option_map, slice_get, unwrap_or, count_by, leb, ltb, leb-true, ltb-true, eqb-true, eq-eqb, nat_eq, find, mod-lt, zip, eq-zero-or-pos}
-use Rattle.std.specs.List.{AllByRecursion, flat_map, range_with_len, list_all}
-use Rattle.std.specs.Option.{option_map_or}
-use Rattle.std.proofs.lemmas.Bool.{and_parts, and_from}
-use Rattle.std.proofs.lemmas.List.{length-map}
-use Rattle.std.proofs.lemmas.List.FromFn.{length-range_with_len}
+use Rattle.hs_law_outcome.proofs.Prelude.{AllByRecursion, flat_map, range_with_len, list_all, option_map_or, and_parts, and_from, length-map, length-range_with_len, flat_map-map, div-add-mod', slice_get-map, same_Some, all_at, all_each, all_flat_map, all_flat_range, all_unmap, get_front, get_there, range_found, range_at, option_map_parts, ClientId, RecordId, Fate, Live, note_of, PageNote, Standing, Draw, Got, Step, PlainClientBook, PlainAgentBook, PlainJournal, Entry, record_count, standings_if, standings_at, FatedPage, page_fate, fated_by, fated_pages, has_piece_of, is_discarded, record_fate, entry_on, record_entry, book_entries, page_standing, book_of, sheets_of, Taken, PlainPage, first_record, pages_of, PlainWorkload, DrawnPage, has_buffer, drawn_from, TimedPagesAreThePages, Sent, ClientSends, sheet_of, client_sends, node_sends, operations_at, draws_at, place_of, TimedPage, timed_pages, Sheet, took_all, is_left_bare, IsOfJournal, RunsAreOfTheJournal, Chunks, Crumbs, Triggers, Asks, taken, asks_to, is_from, NodeRun, Run, followed, IsLawful, FollowingPlaysOut, is_by, TakesInOrder, ChunksAreTakenInOrder, HasItsClients, WasTaken, Gives, client_at, client_book, agent_books, outcome_of, EndsItsTraces}
 use Rattle.std.proofs.Math.Nat.{div-lt_iff_lt-mul}
-use Rattle.std.proofs.lemmas.List.Folds.{flat_map-map}
-use Rattle.std.proofs.lemmas.Nat.{div-add-mod'}
-use Rattle.std.proofs.lemmas.Option.{slice_get-map, same_Some}
-use Rattle.hs_lists.proofs.Alls.{all_at, all_each, all_flat_map, all_flat_range, all_unmap}
-use Rattle.hs_lists.proofs.Places.{get_front, get_behind, get_there}
-use Rattle.hs_lists.proofs.Ranges.{range_found, range_at}
-use Rattle.hs_lists.proofs.Options.{option_map_parts}
+use Rattle.hs_lists.proofs.Places.{get_behind}
 use Rattle.hs_lists.proofs.Parts.{take_length}
-use Rattle.hs_base.specs.declared.ids.ClientId.{ClientId}
-use Rattle.hs_base.specs.declared.ids.RecordId.{RecordId}
-use Rattle.hs_base.specs.declared.told.Fate.{Fate}
-use Rattle.hs_base.specs.declared.told.Fate.TheVariants.{Live}
-use Rattle.hs_client.specs.Calls.{note_of}
-use Rattle.hs_journal.specs.declared.books.PageNote.{PageNote}
-use Rattle.hs_journal.specs.declared.books.Standing.{Standing}
-use Rattle.hs_journal.specs.declared.journal.Draw.{Draw}
-use Rattle.hs_journal.specs.declared.journal.Draw.TheVariants.{Got, Empty}
-use Rattle.hs_journal.specs.declared.journal.Step.{Step}
-use Rattle.hs_journal.specs.Books.{PlainClientBook, PlainAgentBook}
-use Rattle.hs_journal.specs.Views.{PlainJournal}
-use Rattle.hs_ledger.specs.declared.ledger.Entry.{Entry}
-use Rattle.hs_ledger.specs.Books.{end_of, record_count, is_of, standings_if, standings_at}
-use Rattle.hs_ledger.specs.Fates.{FatedPage, page_fate, fated_by, fated_pages, has_piece_of, is_discarded, record_fate, entry_on, record_entry, book_entries}
-use Rattle.hs_law_agent.specs.Books.{page_standing, book_of}
-use Rattle.hs_law_agent.specs.Laws.{sheets_of}
-use Rattle.hs_law_agent.specs.Standings.{Taken}
-use Rattle.hs_records.specs.Pages.{PlainPage, first_record, pages_of}
-use Rattle.hs_records.specs.Plain.{PlainWorkload}
-use Rattle.hs_law_sends.specs.Drawn.{DrawnPage, has_buffer, drawn_from}
-use Rattle.hs_law_sends.specs.Laws.{TimedPagesAreThePages}
-use Rattle.hs_law_sends.specs.Sending.{Sent, ClientSends, sheet_of, client_sends, node_sends, operations_at, draws_at, place_of}
-use Rattle.hs_law_sends.specs.Timing.{TimedPage, timed_pages}
-use Rattle.hs_words.specs.Pages.{Sheet}
-use Rattle.hs_law_journal.specs.Ends.{took_all, is_left_bare}
-use Rattle.hs_law_journal.specs.Extending.{IsOfJournal, RunsAreOfTheJournal}
-use Rattle.hs_law_journal.specs.Following.{Chunks, Crumbs, Triggers, Asks, taken, asks_to, is_from, NodeRun, Run, followed}
-use Rattle.hs_law_journal.specs.Lawful.{IsLawful}
-use Rattle.hs_law_journal.specs.Orders.{FollowingPlaysOut}
-use Rattle.hs_law_journal.specs.Taking.{is_by, TakesInOrder, ChunksAreTakenInOrder}
-use Rattle.hs_law_outcome.specs.Origins.{HasItsClients, WasTaken, Gives, HasItsCause, EachFateHasItsCause}
-use Rattle.hs_law_outcome.specs.Outcomes.{client_at, client_book, agent_books, outcome_of}
-use Rattle.hs_law_outcome.specs.Records.{EndsItsTraces}
+use Rattle.hs_journal.specs.declared.journal.Draw.TheVariants.{Empty}
+use Rattle.hs_ledger.specs.Books.{end_of, is_of}
+use Rattle.hs_law_outcome.specs.Origins.{HasItsCause, EachFateHasItsCause}
 use Rattle.hs_law_outcome.proofs.Entries.{ends_at}
 use Rattle.hs_law_outcome.proofs.Sheets.{IsTaken, filtered_taken}
 

@@ -1,10 +1,8 @@
 -- What the history of a pool bounds. All buffers in it are the pool's, and it has no more gives and misses than draws.
 use Rattle.std.proofs.Common.{◌≡◌, ℕ, zero, suc, ◌+◌, ◌<◌, ◌≤◌, Bool, true, false, List, [], ◌∷◌, ◌++◌, length, refl, ap, Some, None, arith, drop, reverse, slice_get, count_by, eqb, eqb-true, ltb, lt-ltb, ltb-true}
-use Rattle.std.specs.List.{AllByRecursion}
+use Rattle.hs_law_outcome.proofs.Prelude.{AllByRecursion, same_Some, one_if, count_cons, PoolEvent, Empty, Given, Missed, is_got, is_empty, is_given, is_missed, queue_after, IsHistoryBack, IsPoolHistory}
 use Rattle.std.proofs.lemmas.List.{length-reverse}
-use Rattle.std.proofs.lemmas.Option.{same_Some}
-use Rattle.hs_lists.proofs.Counts.{one_if, count_cons}
-use Rattle.hs_words.specs.PoolHistory.{PoolEvent, Got, Empty, Given, Missed, is_got, is_empty, is_given, is_missed, queue_after, IsHistoryBack, IsPoolHistory}
+use Rattle.hs_words.specs.PoolHistory.{Got}
 use Rattle.hs_words.proofs.Waiting.{few_missed}
 use Rattle.hs_law_outcome.proofs.Buffers.{evens, count_back}
 use Rattle.hs_law_outcome.proofs.GotPages.{all_below}

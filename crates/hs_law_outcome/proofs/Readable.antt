@@ -1,44 +1,15 @@
 -- The numbers of a lawful journal are in their ranges, so that it has a text.
 use Rattle.std.proofs.Common.{◌≡◌, ℕ, zero, suc, ◌+◌, ◌*◌, ◌/◌, ◌%◌, ◌^◌, ◌<◌, ◌≤◌, Bool, true, false, ◌&&◌, List, [], ◌∷◌, ◌++◌, length, refl, sym, ap, subst, ◌∙◌, Option, Some, None, arith, map, filter_map, option_map, slice_get, unwrap_or, count_by, eqb-true, nat_eq, ltb, ltb-true, length-append, div-lt_iff_lt-mul, div-add-mod', suc-mul}
-use Rattle.std.specs.List.{AllByRecursion, flat_map, range_with_len, cons_option}
-use Rattle.std.proofs.Math.Nat.{mod-lt}
-use Rattle.std.proofs.lemmas.Bool.{and_parts}
-use Rattle.std.proofs.lemmas.List.{length-map, map-append}
-use Rattle.std.proofs.lemmas.List.Folds.{flat_map-map}
-use Rattle.std.proofs.lemmas.List.FromFn.{length-range_with_len}
-use Rattle.std.proofs.lemmas.Option.{slice_get-map, same_Some, slice_get_within}
-use Rattle.hs_lists.proofs.Counts.{count_map, one_if as one, count_cons, count_append}
-use Rattle.hs_lists.proofs.Alls.{all_front, all_back, all_at, all_each, all_by_place}
-use Rattle.hs_lists.proofs.Ranges.{range_at}
-use Rattle.hs_lists.proofs.Parts.{map_flat}
-use Rattle.hs_lists.proofs.Places.{get_there}
+use Rattle.hs_law_outcome.proofs.Prelude.{AllByRecursion, flat_map, range_with_len, cons_option, mod-lt, and_parts, length-map, map-append, flat_map-map, length-range_with_len, slice_get-map, same_Some, slice_get_within, count_cons, count_append, all_front, all_back, all_at, all_each, all_by_place, range_at, map_flat, get_there, NodeId, Draw, Step, PlainJournal, GivenPlace, pages_of, Operation, PlainWorkload, DrawnPage, stamp_of, TimedPagesAreThePages, client_sends, node_sends, draws_at, place_of, PoolEvent, Empty, Given, Missed, is_empty, is_missed, RunsAreOfTheJournal, NodeRun, run_start, node_start, followed, log_at, GivesAreNoted, IsLawful, FollowingPlaysOut, StampedPoolEvent, by_stamp, event_drawn, drawn_event, node_pages, given_buffer, given_event, missed_event, pool_events, pool_history, same_counts, log_stamps, node_draws, draw_stamps, node_stamps, HasItsClients, EndsItsTraces}
+use Rattle.hs_lists.proofs.Counts.{count_map, one_if as one}
 use Rattle.hs_base.specs.declared.limits.TheConstants.{MAX_NODES, MAX_CLIENTS, MAX_BUFFERS}
-use Rattle.hs_base.specs.declared.ids.NodeId.{NodeId}
 use Rattle.hs_base.specs.Ranges.{Within}
-use Rattle.hs_journal.specs.declared.journal.Draw.{Draw}
 use Rattle.hs_journal.specs.declared.journal.Draw.TheVariants as draws
-use Rattle.hs_journal.specs.declared.journal.Step.{Step}
 use Rattle.hs_journal.specs.declared.journal.Step.TheVariants as steps
 use Rattle.hs_journal.specs.Grammar.{IsDraw, IsStep, IsNodeBelow}
-use Rattle.hs_journal.specs.Views.{PlainJournal}
-use Rattle.hs_law_agent.specs.State.{GivenPlace}
-use Rattle.hs_records.specs.Pages.{pages_of}
-use Rattle.hs_records.specs.Plain.{Operation, PlainWorkload}
-use Rattle.hs_law_sends.specs.Drawn.{DrawnPage, stamp_of}
-use Rattle.hs_law_sends.specs.Laws.{TimedPagesAreThePages}
-use Rattle.hs_law_sends.specs.Sending.{client_sends, node_sends, draws_at, place_of}
-use Rattle.hs_words.specs.PoolHistory.{PoolEvent, Got, Empty, Given, Missed, is_empty, is_missed}
+use Rattle.hs_words.specs.PoolHistory.{Got}
 use Rattle.hs_words.specs.PoolHistory as pool
-use Rattle.hs_law_journal.specs.Extending.{RunsAreOfTheJournal}
-use Rattle.hs_law_journal.specs.Following.{NodeRun, run_start, node_start, followed, log_at}
-use Rattle.hs_law_journal.specs.Gives.{GivesAreNoted}
-use Rattle.hs_law_journal.specs.Lawful.{IsLawful}
-use Rattle.hs_law_journal.specs.Orders.{FollowingPlaysOut}
-use Rattle.hs_law_journal.specs.Pooled.{StampedPoolEvent, by_stamp, event_drawn, drawn_event, node_pages, given_buffer, given_event, missed_event, pool_events, pool_history}
-use Rattle.hs_law_journal.specs.Shape.{same_counts, log_stamps, node_draws, draw_stamps, node_stamps}
-use Rattle.hs_law_outcome.specs.Origins.{HasItsClients}
 use Rattle.hs_law_outcome.specs.Readable.{HasRoom, HasShape, JournalsHaveTheShape, LawfulJournalsCanBeRead}
-use Rattle.hs_law_outcome.specs.Records.{EndsItsTraces}
 use Rattle.hs_law_outcome.proofs.ByStamp.{by_stamp_counts}
 use Rattle.hs_law_outcome.proofs.Entries.{shape_counts, same_length}
 use Rattle.hs_law_outcome.proofs.GotPages.{in_range}

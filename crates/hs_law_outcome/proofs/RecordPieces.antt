@@ -1,23 +1,11 @@
 -- The pieces of a record on the pages of its client. Over all pages they are the pieces of its payload; and pages in rising order, among
 -- which each is that has a piece of the record, give the same as all pages.
 use Rattle.std.proofs.Common.{◌≡◌, ◌⊎◌, inl, inr, ℕ, zero, suc, ◌+◌, ◌<◌, ◌≤◌, ◌==◌, ◌&&◌, Bool, true, false, cond, List, [], ◌∷◌, ◌++◌, length, refl, sym, ap, subst, ◌∙◌, Some, None, arith, map, filter, slice_get, eq-eqb, nat_eq, append-nil}
-use Rattle.std.specs.List.{AllByRecursion, flat_map, concat}
-use Rattle.std.proofs.lemmas.List.{length-map, map-append}
+use Rattle.hs_law_outcome.proofs.Prelude.{AllByRecursion, flat_map, concat, length-map, map-append, same_Some, IsIn, all_at, all_each, ClientId, RecordId, TraceId, written, sheet_for, Placed, is_same, is_piece_of, pieces_from, page_pieces, Traces, RiseFrom, CarriesRecords, pieces_of_records, pieces_on, PlainPage, first_record, Piece, Record, payload_pieces, record_pieces, Sheet}
 use Rattle.std.proofs.lemmas.List.Elements.{filter-append}
-use Rattle.std.proofs.lemmas.Option.{same_Some}
-use Rattle.hs_lists.proofs.Places.{IsIn}
-use Rattle.hs_lists.proofs.Alls.{all_at, all_each}
 use Rattle.hs_lists.proofs.Numbers.{nat_eq_below, nat_eq_above}
-use Rattle.hs_base.specs.declared.ids.ClientId.{ClientId}
-use Rattle.hs_base.specs.declared.ids.RecordId.{RecordId}
-use Rattle.hs_base.specs.declared.ids.TraceId.{TraceId}
-use Rattle.hs_client.specs.Calls.{written, sheet_for}
-use Rattle.hs_collect.specs.Collected.{Placed, is_of, is_same, is_piece_of, pieces_from, page_pieces, is_by}
+use Rattle.hs_collect.specs.Collected.{is_of, is_by}
 use Rattle.hs_collect.proofs.Reordered.{none_from}
-use Rattle.hs_records.specs.Laws.{Traces, RiseFrom, CarriesRecords, pieces_of_records, pieces_on}
-use Rattle.hs_records.specs.Pages.{PlainPage, first_record}
-use Rattle.hs_records.specs.Records.{Piece, Record, payload_pieces, record_pieces}
-use Rattle.hs_words.specs.Pages.{Sheet}
 use Rattle.hs_words.specs.Pages as words
 use Rattle.hs_law_outcome.proofs.Among.{at_head}
 

@@ -1,35 +1,8 @@
 -- The pages that agents reported are pages of their clients, and those of one client and trace stand in rising order.
 use Rattle.std.proofs.Common.{◌≡◌, ℕ, zero, suc, ◌+◌, ◌<◌, ◌≤◌, Bool, true, false, cond, List, [], ◌∷◌, ◌++◌, refl, sym, ap, subst, ◌∙◌, Option, Some, None, arith, map, filter, option_map, slice_get, eq-eqb, nat_eq}
-use Rattle.std.specs.List.{AllByRecursion, cons_option, flat_map, range_with_len}
-use Rattle.std.specs.Option.{option_map_or}
-use Rattle.std.proofs.lemmas.Option.{slice_get-map, same_Some}
-use Rattle.hs_lists.proofs.Alls.{all_append, all_at, all_each}
-use Rattle.hs_lists.proofs.Options.{option_unmap}
-use Rattle.hs_base.specs.declared.ids.ClientId.{ClientId}
-use Rattle.hs_base.specs.declared.ids.TraceId.{TraceId}
-use Rattle.hs_base.specs.Ids.{same_trace}
-use Rattle.hs_client.specs.Calls.{sheet_for}
-use Rattle.hs_journal.specs.declared.journal.Draw.{Draw}
-use Rattle.hs_journal.specs.Views.{PlainJournal}
-use Rattle.hs_law_agent.specs.Laws.{PagesRise, sheets_at, sheets_of, reported_of, ClientsPagesRise}
-use Rattle.hs_law_agent.specs.Standings.{Taken, trace_of, is_of_trace}
-use Rattle.hs_law_agent.specs.State.{AgentState}
-use Rattle.hs_records.specs.Pages.{PlainPage, pages_of}
-use Rattle.hs_records.specs.Plain.{PlainWorkload}
-use Rattle.hs_law_sends.specs.Drawn.{DrawnPage, drawn_from}
-use Rattle.hs_law_sends.specs.Laws.{TimedPagesAreThePages}
-use Rattle.hs_law_sends.specs.Sending.{ClientSends, client_sends, node_sends, operations_at, draws_at, place_of}
-use Rattle.hs_law_sends.specs.Timing.{TimedPage, timed_pages}
-use Rattle.hs_words.specs.Pages.{Sheet}
-use Rattle.hs_law_journal.specs.Extending.{IsOfJournal, NodesAreOfJournal, RunsAreOfTheJournal}
-use Rattle.hs_law_journal.specs.Following.{NodeRun, followed}
-use Rattle.hs_law_journal.specs.Laws.{ComesByEvents, AgentsComeByEvents}
-use Rattle.hs_law_journal.specs.Orders.{FollowingPlaysOut}
-use Rattle.hs_law_journal.specs.Taking.{TakenPagesRise}
-use Rattle.hs_law_outcome.specs.CollectedReports.{IsClientsPage, TakenPagesAreOfClients, ReportedPagesAreOfClients}
-use Rattle.hs_law_outcome.specs.Origins.{IsOfDrawnPage, TakenPagesWereDrawn}
-use Rattle.hs_law_outcome.specs.Outcomes.{reported_at, outcome_of}
-use Rattle.hs_law_outcome.specs.Records.{EndsItsTraces}
+use Rattle.hs_law_outcome.proofs.Prelude.{AllByRecursion, cons_option, flat_map, range_with_len, option_map_or, slice_get-map, same_Some, all_append, all_at, all_each, option_unmap, ClientId, TraceId, same_trace, sheet_for, Draw, PlainJournal, sheets_at, sheets_of, ClientsPagesRise, Taken, trace_of, is_of_trace, AgentState, PlainPage, pages_of, PlainWorkload, DrawnPage, drawn_from, TimedPagesAreThePages, ClientSends, client_sends, node_sends, operations_at, draws_at, place_of, TimedPage, timed_pages, Sheet, IsOfJournal, NodesAreOfJournal, RunsAreOfTheJournal, NodeRun, followed, ComesByEvents, AgentsComeByEvents, FollowingPlaysOut, TakenPagesRise, IsClientsPage, IsOfDrawnPage, TakenPagesWereDrawn, reported_at, outcome_of, EndsItsTraces}
+use Rattle.hs_law_agent.specs.Laws.{PagesRise, reported_of}
+use Rattle.hs_law_outcome.specs.CollectedReports.{TakenPagesAreOfClients, ReportedPagesAreOfClients}
 use Rattle.hs_law_outcome.proofs.Entries.{ends_at}
 use Rattle.hs_law_outcome.proofs.GotPages.{then_parts, in_range, all_below}
 

@@ -1,22 +1,12 @@
 -- Which traces have a report: putting a trace in its place among rising ones keeps them rising, each once.
 use Rattle.std.proofs.Common.{◌≡◌, ℕ, ◌<◌, ◌≤◌, Bool, true, false, ◌&&◌, ◌||◌, cond, List, [], ◌∷◌, map, filter, refl, sym, ap, ◌∙◌, arith, nat_eq, eq-eqb}
-use Rattle.std.specs.Prelude.{nat_lt}
-use Rattle.std.specs.List.{AllByRecursion, list_any, flat_map}
-use Rattle.std.proofs.lemmas.Bool.{ltb-true, ltb-false, eqb-true}
-use Rattle.std.proofs.lemmas.List.Folds.{list_any-append}
+use Rattle.hs_law_outcome.proofs.Prelude.{nat_lt, AllByRecursion, list_any, flat_map, ltb-true, eqb-true, list_any-append, TraceId, same_trace, PlainJournal, Entry, ClaimedTrace, is_claimed, PlainWorkload, NodeRun, followed, outcome_of, Named, name_of, all_records, is_of, report_of, reported_traces}
+use Rattle.std.proofs.lemmas.Bool.{ltb-false}
 use Rattle.hs_lists.proofs.Bools.{or_twice, or_swap}
 use Rattle.hs_lists.proofs.Tests.{list_any_map}
-use Rattle.hs_base.specs.declared.ids.TraceId.{TraceId}
-use Rattle.hs_base.specs.Ids.{same_trace}
-use Rattle.hs_journal.specs.Views.{PlainJournal}
-use Rattle.hs_ledger.specs.declared.ledger.Entry.{Entry}
 use Rattle.hs_law_agent.specs.Laws.{AreRising}
-use Rattle.hs_law_agent.specs.State.{ClaimedTrace, is_claimed}
-use Rattle.hs_records.specs.Plain.{PlainWorkload}
-use Rattle.hs_law_journal.specs.Following.{NodeRun, followed}
-use Rattle.hs_law_outcome.specs.Outcomes.{put_trace, rising_traces, claimed_at, outcome_of}
-use Rattle.hs_law_outcome.specs.Records.{Named, name_of, all_records}
-use Rattle.hs_law_outcome.specs.Reports.{Report, is_of, report_of, reported_traces, reports_of}
+use Rattle.hs_law_outcome.specs.Outcomes.{put_trace, rising_traces, claimed_at}
+use Rattle.hs_law_outcome.specs.Reports.{Report, reports_of}
 use Rattle.hs_law_outcome.specs.Headline.{is_claimed_in, has_record}
 
 -- ---- which traces there are

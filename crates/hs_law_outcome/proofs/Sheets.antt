@@ -1,11 +1,6 @@
 -- A page that an agent took stands at a place among its chunks.
 use Rattle.std.proofs.Common.{◌≡◌, ℕ, suc, Bool, true, false, cond, List, [], ◌∷◌, refl, Some, filter, slice_get}
-use Rattle.std.specs.List.{AllByRecursion}
-use Rattle.hs_lists.proofs.Alls.{all_each}
-use Rattle.hs_words.specs.Pages.{Sheet}
-use Rattle.hs_law_agent.specs.Laws.{sheets_of}
-use Rattle.hs_law_agent.specs.Standings.{Taken}
-use Rattle.hs_law_journal.specs.Following.{taken}
+use Rattle.hs_law_outcome.proofs.Prelude.{AllByRecursion, all_each, Sheet, sheets_of, Taken, taken}
 
 -- ---- what was taken is there
 

@@ -1,24 +1,13 @@
 -- A report takes the entries of its trace apart, into those that were reported and the others, and shows each by the record that it
 -- names. Records stand in order, and so does what is left of them when some are taken out.
 use Rattle.std.proofs.Common.{◌≡◌, ◌⊎◌, inl, inr, ℕ, zero, suc, ◌+◌, ◌*◌, ◌/◌, ◌%◌, ◌<◌, ◌≤◌, Bool, true, false, ◌&&◌, not, cond, List, [], ◌∷◌, ◌++◌, length, refl, sym, ap, subst, ◌∙◌, Option, Some, arith, map, filter, filter_map, option_map, slice_get, eqb-true, eq-or-lt_of_le, eq-zero-or-pos, nat_eq, IsPermutation}
-use Rattle.std.specs.List.{AllByRecursion, flat_map, range_with_len, cons_option}
-use Rattle.std.proofs.Math.Nat.{mod-zero, div-zero, mod-lt}
-use Rattle.std.proofs.lemmas.Nat.{le-div, div-add-mod'}
-use Rattle.std.proofs.lemmas.List.{map-append}
+use Rattle.hs_law_outcome.proofs.Prelude.{AllByRecursion, flat_map, range_with_len, cons_option, mod-lt, div-add-mod', map-append, all_each, all_filter, all_append, all_unmap, ClientId, RecordId, TraceId, Placed, Precedes, Entry, is_reported, PlainWorkload, Record, records_of, operations_at, place_of, client_at, outcome_of, Named, named_from, client_records, all_records, name_of, placed_ids, ComeInOrder, EachRecordHasOneEntry, whole_of, is_of, report_of, reported_traces}
+use Rattle.std.proofs.Math.Nat.{mod-zero, div-zero}
+use Rattle.std.proofs.lemmas.Nat.{le-div}
 use Rattle.std.proofs.lemmas.List.Sorted.{IsPermutation-filter_both, IsPermutation-map}
-use Rattle.hs_lists.proofs.Alls.{all_each, all_filter, all_append, all_unmap, all_map}
-use Rattle.hs_base.specs.declared.ids.ClientId.{ClientId}
-use Rattle.hs_base.specs.declared.ids.RecordId.{RecordId}
-use Rattle.hs_base.specs.declared.ids.TraceId.{TraceId}
-use Rattle.hs_collect.specs.Collected.{Placed, Precedes}
-use Rattle.hs_ledger.specs.declared.ledger.Entry.{Entry}
-use Rattle.hs_ledger.specs.Totals.{is_reported}
-use Rattle.hs_records.specs.Plain.{PlainWorkload}
-use Rattle.hs_records.specs.Records.{Record, records_of}
-use Rattle.hs_law_sends.specs.Sending.{operations_at, place_of}
-use Rattle.hs_law_outcome.specs.Outcomes.{client_at, outcome_of}
-use Rattle.hs_law_outcome.specs.Records.{Named, named_from, client_records, all_records, trace_records, name_of, IsWholeRecord, placed_ids, entry_ids, ComeInOrder, ShowsItsTrace, ReportsShowTheirTraces, EachRecordHasOneEntry}
-use Rattle.hs_law_outcome.specs.Reports.{record_of, whole_of, is_of, report_of, reported_traces}
+use Rattle.hs_lists.proofs.Alls.{all_map}
+use Rattle.hs_law_outcome.specs.Records.{trace_records, IsWholeRecord, entry_ids, ShowsItsTrace, ReportsShowTheirTraces}
+use Rattle.hs_law_outcome.specs.Reports.{record_of}
 use Rattle.hs_law_outcome.proofs.Lists.{filter_passes}
 
 -- ---- each name is that of a record

@@ -1,29 +1,13 @@
 -- An agent claims for a group, and speaks of it, only where it admitted the group's trigger or is in the group's asked set. And it
 -- tells an `Answer` of the group only where it has an ask for it.
 use Rattle.std.proofs.Common.{◌≡◌, ℕ, Bool, true, false, cond, not, ◌||◌, ◌&&◌, List, [], ◌∷◌, ◌++◌, Option, Some, None, option_map, refl, sym, subst, ◌∙◌, slice_get, eqb, true≢false}
-use Rattle.std.specs.List.{AllByRecursion}
-use Rattle.std.specs.Option.{option_and_then, option_to_list}
-use Rattle.std.proofs.lemmas.Bool.{cond_both}
-use Rattle.hs_lists.proofs.Alls.{all_find, all_append}
-use Rattle.hs_lists.proofs.Options.{mapped_from}
-use Rattle.hs_base.specs.declared.ids.GroupId.{GroupId}
-use Rattle.hs_base.specs.declared.told.Crumb.{Crumb}
-use Rattle.hs_base.specs.declared.told.Group.{Group}
-use Rattle.hs_base.specs.declared.told.Told.{Told}
-use Rattle.hs_base.specs.declared.told.Trigger.{Trigger}
-use Rattle.hs_base.specs.declared.told.Why.TheVariants.{Fired}
-use Rattle.hs_base.specs.Ids.{same_trace}
-use Rattle.hs_coord.specs.Following.{Message, Messages, same_group, is_asked, has_ask, is_answer}
-use Rattle.hs_journal.specs.declared.journal.Step.{Step}
+use Rattle.hs_law_outcome.proofs.Prelude.{AllByRecursion, option_and_then, cond_both, all_append, mapped_from, GroupId, Crumb, Group, Told, Trigger, Fired, same_trace, Message, Messages, same_group, is_asked, has_ask, is_answer, Step, EventsAddFew, StepsSayWhatTheyTell, told_of, ClaimedTrace, claim_of, Input, Chunk, Crumbed, Triggered, Asked, Turn, AgentEvent, Took, Gave, admits, group_of, PlainSettings, ClientSends, Chunks, Crumbs, Triggers, Asks, taken, asks_to, NodeRun, next_of, event_of, perform, step_node, step_from}
+use Rattle.std.specs.Option.{option_to_list}
+use Rattle.hs_lists.proofs.Alls.{all_find}
 use Rattle.hs_journal.specs.declared.journal.Step.TheVariants as steps
-use Rattle.hs_law_agent.specs.Laws.{AllPass, IsPassed, claimed_by, EventsAddFew, StepsSayWhatTheyTell}
-use Rattle.hs_law_agent.specs.Messages.{has_crumb, told_of, late_of}
-use Rattle.hs_law_agent.specs.State.{ClaimedTrace, claim_of}
-use Rattle.hs_law_agent.specs.Stepping.{Input, Chunk, Crumbed, Triggered, Asked, Turn, AgentEvent, Took, Gave, admits, group_of, told_by}
-use Rattle.hs_records.specs.Plain.{PlainSettings}
-use Rattle.hs_law_sends.specs.Sending.{ClientSends}
-use Rattle.hs_law_journal.specs.Following.{Chunks, Crumbs, Triggers, Asks, taken, asks_to, NodeRun, next_of, event_of, perform, step_node}
-use Rattle.hs_law_journal.proofs.Steps.{step_from}
+use Rattle.hs_law_agent.specs.Laws.{AllPass, IsPassed, claimed_by}
+use Rattle.hs_law_agent.specs.Messages.{has_crumb, late_of}
+use Rattle.hs_law_agent.specs.Stepping.{told_by}
 use Rattle.hs_law_outcome.proofs.Asked.{IsHad, ask_asked, asked_stays, ask_stays, asked_for}
 
 -- ---- of which groups a node may speak

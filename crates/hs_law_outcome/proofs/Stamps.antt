@@ -1,40 +1,17 @@
 -- The stamps of a node's pool events are those that its draws and its log bear. So each number below their count is that of one
 -- event, which stands at its place in the history.
 use Rattle.std.proofs.Common.{◌≡◌, ◌⊎◌, inl, inr, ℕ, zero, suc, ◌+◌, ◌-◌, ◌<◌, ◌≤◌, Bool, true, false, ◌&&◌, cond, List, [], ◌∷◌, ◌++◌, length, refl, sym, ap, subst, ◌∙◌, Option, Some, None, arith, map, filter, filter_map, option_map, slice_get, count_by, append_assoc, append-nil, eqb, eqb-true, eq-eqb, ltb, ltb-true, ltb-false, nat_eq, length-append, eq-or-lt_of_le}
-use Rattle.std.specs.List.{AllByRecursion, flat_map, range_with_len, list_all, cons_option}
-use Rattle.std.specs.Option.{option_and_then, option_map_or}
-use Rattle.std.proofs.lemmas.Bool.{and_parts}
-use Rattle.std.proofs.lemmas.List.{length-map, map-append, nil_from_length}
-use Rattle.std.proofs.lemmas.List.Folds.{flat_map-map}
+use Rattle.hs_law_outcome.proofs.Prelude.{AllByRecursion, flat_map, range_with_len, list_all, cons_option, option_and_then, option_map_or, and_parts, length-map, map-append, nil_from_length, flat_map-map, slice_get-map, same_Some, map_flat, all_at, all_by_place, count_cons, count_append, ClientId, Draw, Step, PlainJournal, GivenPlace, PlainWorkload, DrawnPage, stamp_of, drawn_from, TimedPagesAreThePages, ClientSends, client_sends, operations_at, draws_at, place_of, TimedPage, timed_pages, PoolEvent, Empty, IsPoolHistory, IsOfJournal, RunsAreOfTheJournal, NodeRun, Run, followed, log_at, GivesAreNoted, IsLawful, FollowingPlaysOut, StampedPoolEvent, by_stamp, event_drawn, drawn_event, node_pages, given_buffer, given_event, missed_event, pool_events, pool_history, log_stamps, node_draws, draw_stamps, node_stamps, EmptyOnlyWhereEmpty, EndsItsTraces}
 use Rattle.std.proofs.lemmas.List.Sums.{count_by-le-length}
-use Rattle.std.proofs.lemmas.Option.{slice_get-map, same_Some}
-use Rattle.hs_lists.proofs.Parts.{map_flat, flat_alike}
-use Rattle.hs_lists.proofs.Alls.{all_at, all_by_place}
-use Rattle.hs_lists.proofs.Counts.{one_if as one, count_cons, count_append, none_below_zero}
-use Rattle.hs_base.specs.declared.ids.ClientId.{ClientId}
-use Rattle.hs_journal.specs.declared.journal.Draw.{Draw}
+use Rattle.hs_lists.proofs.Parts.{flat_alike}
+use Rattle.hs_lists.proofs.Counts.{one_if as one, none_below_zero}
 use Rattle.hs_journal.specs.declared.journal.Draw.TheVariants as draws
-use Rattle.hs_journal.specs.declared.journal.Step.{Step}
 use Rattle.hs_journal.specs.declared.journal.Step.TheVariants as steps
-use Rattle.hs_journal.specs.Views.{PlainJournal}
-use Rattle.hs_law_agent.specs.State.{GivenPlace}
-use Rattle.hs_records.specs.Plain.{PlainWorkload}
-use Rattle.hs_law_sends.specs.Drawn.{DrawnPage, stamp_of, drawn_from}
-use Rattle.hs_law_sends.specs.Laws.{TimedPagesAreThePages}
-use Rattle.hs_law_sends.specs.Sending.{ClientSends, client_sends, operations_at, draws_at, place_of}
-use Rattle.hs_law_sends.specs.Timing.{TimedPage, timed_pages}
-use Rattle.hs_words.specs.PoolHistory.{PoolEvent, Empty, IsPoolHistory}
 use Rattle.hs_words.specs.PoolHistory as pool
-use Rattle.hs_law_journal.specs.Extending.{IsOfJournal, RunsAreOfTheJournal}
-use Rattle.hs_law_journal.specs.Following.{NodeRun, Run, followed, log_at}
-use Rattle.hs_law_journal.specs.Gives.{given_stamp, GivesAsNoted, GivesAreNoted}
-use Rattle.hs_law_journal.specs.Lawful.{IsLawful}
-use Rattle.hs_law_journal.specs.Orders.{FollowingPlaysOut}
-use Rattle.hs_law_journal.specs.Pooled.{StampedPoolEvent, by_stamp, event_drawn, drawn_event, node_pages, given_page, buffer_of, given_buffer, given_event, missed_event, pool_events, pool_history, answers_draw, gives_answer}
-use Rattle.hs_law_journal.specs.Shape.{log_stamps, node_draws, draw_stamps, node_stamps, are_numbered, rise, node_has_stamps}
-use Rattle.hs_law_outcome.specs.Causes.{EmptyOnlyWhereEmpty}
+use Rattle.hs_law_journal.specs.Gives.{given_stamp, GivesAsNoted}
+use Rattle.hs_law_journal.specs.Pooled.{given_page, buffer_of, answers_draw, gives_answer}
+use Rattle.hs_law_journal.specs.Shape.{are_numbered, rise, node_has_stamps}
 use Rattle.hs_law_outcome.specs.Nulls.{FoundNothing, NullsFoundNothing, EmptyDrawsFoundNothing}
-use Rattle.hs_law_outcome.specs.Records.{EndsItsTraces}
 use Rattle.hs_law_outcome.proofs.Entries.{shape_counts, same_length, ends_at}
 
 -- ---- counts

@@ -1,14 +1,9 @@
 -- Each fate is one of five, so the five counts sum to the length.
 use Rattle.std.proofs.Common.{◌≡◌, ◌+◌, Bool, List, [], ◌∷◌, length, refl, sym, ap, ◌∙◌, arith}
-use Rattle.std.proofs.lemmas.List.{length-map}
-use Rattle.std.proofs.lemmas.List.Sums.{sum_by-cons}
-use Rattle.hs_lists.proofs.Counts.{one_if}
-use Rattle.hs_base.specs.declared.told.Fate.{Fate}
-use Rattle.hs_base.specs.declared.told.Fate.TheVariants.{Null, Live, Reported, Evicted, Abandoned}
-use Rattle.hs_ledger.specs.declared.ledger.Entry.{Entry}
-use Rattle.hs_ledger.specs.Totals.{is_live, is_reported, is_null, is_evicted, is_abandoned, count_fates}
-use Rattle.hs_law_outcome.specs.Outcomes.{outcome_of}
-use Rattle.hs_law_outcome.specs.Records.{EachRecordHasOneEntry, TotalsCountTheRecords, name_of}
+use Rattle.hs_law_outcome.proofs.Prelude.{length-map, sum_by-cons, one_if, Fate, Live, Entry, is_reported, outcome_of, EachRecordHasOneEntry, name_of}
+use Rattle.hs_base.specs.declared.told.Fate.TheVariants.{Null, Reported, Evicted, Abandoned}
+use Rattle.hs_ledger.specs.Totals.{is_live, is_null, is_evicted, is_abandoned, count_fates}
+use Rattle.hs_law_outcome.specs.Records.{TotalsCountTheRecords}
 
 one_of_five : (fate : Fate) → one_if (is_live fate) + one_if (is_reported fate) + one_if (is_null fate) + one_if (is_evicted fate) + one_if (is_abandoned fate) ≡ 1
 one_of_five (Null stamp) = refl

@@ -1,52 +1,14 @@
 -- A record that was reported has all its pieces on reported pages. None of its pages was discarded, since its fate would be that. The
 -- first is reported, so its trace is claimed at the node, and a claimed trace has no chunk in the index; and in the end none is pinned.
 use Rattle.std.proofs.Common.{◌≡◌, ◌⊎◌, inl, inr, ℕ, zero, suc, ◌+◌, ◌<◌, ◌≤◌, Bool, true, false, ◌&&◌, ◌||◌, cond, List, [], ◌∷◌, length, refl, sym, ap, subst, ◌∙◌, Option, Some, None, arith, map, filter, option_map, slice_get, unwrap_or, count_by, leb, ltb, leb-true, ltb-true, le-leb, lt-ltb, eqb-true, nat_eq, find, zip}
-use Rattle.std.specs.List.{AllByRecursion, cons_option, range_with_len, list_all}
-use Rattle.std.specs.Option.{option_map_or}
-use Rattle.std.proofs.lemmas.Bool.{and_parts}
-use Rattle.std.proofs.lemmas.List.Folds.{flat_map-map}
-use Rattle.std.proofs.lemmas.Option.{same_Some, slice_get_within}
-use Rattle.hs_lists.proofs.Places.{IsIn, get_there}
-use Rattle.hs_lists.proofs.Alls.{all_at, all_flat_map, all_flat_range, all_unmap}
-use Rattle.hs_base.specs.declared.ids.ClientId.{ClientId}
-use Rattle.hs_base.specs.declared.ids.TraceId.{TraceId}
-use Rattle.hs_base.specs.declared.told.Fate.{Fate}
+use Rattle.hs_law_outcome.proofs.Prelude.{AllByRecursion, cons_option, range_with_len, list_all, option_map_or, and_parts, flat_map-map, same_Some, slice_get_within, IsIn, get_there, all_at, all_flat_map, all_flat_range, all_unmap, ClientId, TraceId, Fate, Group, same_trace, note_of, sheet_for, Draw, Got, PlainClientBook, PlainJournal, Entry, PageNote, record_count, FatedPage, page_fate, fated_by, fated_pages, has_piece_of, is_discarded, record_fate, entry_on, record_entry, book_entries, is_reported, count_of, sheets_at, PlacesMatch, ChunkStanding, Indexed, Pinned, Reported, Evicted, Abandoned, Taken, trace_of, stands, AgentState, ClaimedTrace, claim_of, is_claimed, end_of, PlainPage, first_record, pages_of, PlainWorkload, has_buffer, TimedPagesAreThePages, ClientSends, operations_at, draws_at, place_of, Sheet, took_all, is_left_bare, IsOfJournal, NodesAreOfJournal, RunsAreOfTheJournal, Asks, taken, asks_to, is_from, NodeRun, Run, followed, IsLawful, FollowingPlaysOut, ChunksAreTakenInOrder, KeepsItsModel, AgentsKeepTheirModel, HasAllItsPages, ReportedRecordsHaveAllPages, HasItsClients, IsOfDrawnPage, TakenPagesWereDrawn, WasTaken, Gives, client_at, client_book, agent_books, reported_at, outcome_of, EndsItsTraces}
 use Rattle.hs_base.specs.declared.told.Fate.TheVariants as fate
-use Rattle.hs_base.specs.declared.told.Group.{Group}
-use Rattle.hs_base.specs.Ids.{same_trace}
-use Rattle.hs_client.specs.Calls.{note_of, sheet_for}
-use Rattle.hs_journal.specs.declared.journal.Draw.{Draw}
-use Rattle.hs_journal.specs.declared.journal.Draw.TheVariants.{Got, Empty}
-use Rattle.hs_journal.specs.Books.{PlainClientBook}
-use Rattle.hs_journal.specs.Views.{PlainJournal}
-use Rattle.hs_ledger.specs.declared.ledger.Entry.{Entry}
-use Rattle.hs_journal.specs.declared.books.PageNote.{PageNote}
-use Rattle.hs_ledger.specs.Books.{record_count, end_of as note_end}
-use Rattle.hs_ledger.specs.Fates.{FatedPage, page_fate, fated_by, fated_pages, has_piece_of, is_discarded, record_fate, entry_on, record_entry, book_entries}
-use Rattle.hs_ledger.specs.Totals.{is_reported}
+use Rattle.hs_journal.specs.declared.journal.Draw.TheVariants.{Empty}
+use Rattle.hs_ledger.specs.Books.{end_of as note_end}
 use Rattle.hs_law_agent.specs.Books.{fate_of}
-use Rattle.hs_law_agent.specs.Laws.{count_of, sheets_at, claiming_group, StandsByClaim, PlacesMatch}
-use Rattle.hs_law_agent.specs.Standings.{ChunkStanding, Indexed, Pinned, Reported, Evicted, Abandoned, Taken, is_pinned, trace_of, stands}
+use Rattle.hs_law_agent.specs.Laws.{claiming_group, StandsByClaim}
+use Rattle.hs_law_agent.specs.Standings.{is_pinned}
 use Rattle.hs_law_agent.specs.Standings as model
-use Rattle.hs_law_agent.specs.State.{AgentState, ClaimedTrace, claim_of, is_claimed}
-use Rattle.hs_records.specs.Laws.{end_of}
-use Rattle.hs_records.specs.Pages.{PlainPage, first_record, pages_of}
-use Rattle.hs_records.specs.Plain.{PlainWorkload}
-use Rattle.hs_law_sends.specs.Drawn.{has_buffer}
-use Rattle.hs_law_sends.specs.Laws.{TimedPagesAreThePages}
-use Rattle.hs_law_sends.specs.Sending.{ClientSends, operations_at, draws_at, place_of}
-use Rattle.hs_words.specs.Pages.{Sheet}
-use Rattle.hs_law_journal.specs.Ends.{took_all, is_left_bare}
-use Rattle.hs_law_journal.specs.Extending.{IsOfJournal, NodesAreOfJournal, RunsAreOfTheJournal}
-use Rattle.hs_law_journal.specs.Following.{Asks, taken, asks_to, is_from, NodeRun, Run, followed}
-use Rattle.hs_law_journal.specs.Lawful.{IsLawful}
-use Rattle.hs_law_journal.specs.Orders.{FollowingPlaysOut}
-use Rattle.hs_law_journal.specs.Taking.{ChunksAreTakenInOrder}
-use Rattle.hs_law_outcome.specs.Causes.{KeepsItsModel, AgentsKeepTheirModel}
-use Rattle.hs_law_outcome.specs.CollectedReports.{HasAllItsPages, ReportedRecordsHaveAllPages}
-use Rattle.hs_law_outcome.specs.Origins.{HasItsClients, IsOfDrawnPage, TakenPagesWereDrawn, WasTaken, Gives}
-use Rattle.hs_law_outcome.specs.Outcomes.{client_at, client_book, agent_books, reported_at, outcome_of}
-use Rattle.hs_law_outcome.specs.Records.{EndsItsTraces}
 use Rattle.hs_law_outcome.proofs.Among.{is_later, contained}
 use Rattle.hs_law_outcome.proofs.ClientPages.{trace_on}
 use Rattle.hs_law_outcome.proofs.Entries.{PagesCarryTheRecords, ends_at, same_length, shape_counts}

@@ -1,14 +1,7 @@
 -- The answers of a pool's ends, the first one first. At each place of the list of deeds stands one answer of one end.
 use Rattle.std.proofs.Common.{◌≡◌, ◌⊎◌, inl, inr, ℕ, zero, suc, ◌+◌, ◌<◌, ◌≤◌, Bool, true, false, ◌&&◌, ◌==◌, cond, List, [], ◌∷◌, ◌++◌, length, reverse, refl, sym, ap, subst, ◌∙◌, arith, map, filter, eq-eqb, nat_eq, append-nil, ltb, lt-ltb, eq-or-lt_of_le}
-use Rattle.std.specs.List.{AllByRecursion, flat_map, range_with_len}
-use Rattle.std.proofs.lemmas.Bool.{and_from}
-use Rattle.std.proofs.lemmas.List.{length-append, map-append}
-use Rattle.std.proofs.lemmas.List.Elements.{filter-append}
-use Rattle.hs_lists.proofs.Parts.{reverse_cons}
+use Rattle.hs_law_run.proofs.Prelude.{AllByRecursion, flat_map, range_with_len, and_from, length-append, map-append, filter-append, reverse_cons, flat_range_alike, Deed, Answer, answer_to, answers_by, put_if, rise, rise_above}
 use Rattle.hs_lists.proofs.Numbers.{nat_eq_below, nat_eq_above}
-use Rattle.hs_lists.proofs.Ranges.{flat_range_alike}
-use Rattle.hs_words.specs.Ends.{Deed, Answer, answer_to, answers_by, put_if}
-use Rattle.hs_law_journal.specs.Shape.{rise, rise_above}
 
 -- ---- one answer, or none
 

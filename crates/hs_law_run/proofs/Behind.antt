@@ -1,17 +1,7 @@
 -- The state of an agent behind the first passes of its log is the one behind the events of these passes.
 use Rattle.std.proofs.Common.{◌≡◌, ℕ, zero, suc, List, [], ◌∷◌, ◌++◌, length, take, refl, sym, ap, ◌∙◌, map}
-use Rattle.std.specs.List.{AllByRecursion}
-use Rattle.std.proofs.lemmas.List.{length-map, map-append, take-map}
-use Rattle.hs_journal.specs.Views.{PlainJournal}
-use Rattle.hs_law_agent.specs.Laws.{noted_as, EventsAddThis}
-use Rattle.hs_law_agent.specs.Stepping.{AgentEvent, after}
-use Rattle.hs_records.specs.Plain.{PlainWorkload}
-use Rattle.hs_law_journal.specs.Passes.{passes_of, steps_in}
-use Rattle.hs_law_journal.specs.Played.{state_behind}
-use Rattle.hs_law_journal.specs.Doings.{joined, NodeDoings, all_events, steps_of, state_after, node_at_end}
-use Rattle.hs_law_journal.specs.LoopPasses.{IsPass}
+use Rattle.hs_law_run.proofs.Prelude.{AllByRecursion, length-map, map-append, take-map, PlainJournal, noted_as, EventsAddThis, AgentEvent, after, PlainWorkload, passes_of, steps_in, state_behind, joined, NodeDoings, all_events, steps_of, state_after, node_at_end, IsPass, passes_are}
 use Rattle.hs_law_run.proofs.Nodes.{own_log}
-use Rattle.hs_law_journal.proofs.Passes.{passes_are}
 
 take_behind : {X : Type 0} (front some all : List X) → take (length some) all ≡ some → take (length (front ++ some)) (front ++ all) ≡ front ++ some
 take_behind [] some all h = h

@@ -1,32 +1,15 @@
 -- The clauses that the loops of a run keep by themselves: the shape, whole passes, passes enough, that the journal can be followed, and
 -- that nothing is left over.
 use Rattle.std.proofs.Common.{◌≡◌, ℕ, zero, suc, ◌+◌, ◌<◌, ◌≤◌, Bool, true, ◌&&◌, ◌==◌, List, [], ◌∷◌, length, refl, sym, ap, ◌∙◌, Some, arith, map, slice_get, count_by, eq-eqb, nat_eq, nat_le, le-leb, zip}
-use Rattle.std.specs.List.{AllByRecursion, range_with_len, list_all}
-use Rattle.std.proofs.lemmas.Bool.{and_from}
-use Rattle.std.proofs.lemmas.List.{length-map}
-use Rattle.std.proofs.lemmas.List.FromFn.{length-range_with_len}
-use Rattle.std.proofs.lemmas.List.Sums.{length-filter}
-use Rattle.hs_lists.proofs.Ranges.{list_all_range_below}
-use Rattle.hs_lists.proofs.Alls.{all_at, all_each}
-use Rattle.hs_coord.specs.Messages.{message}
-use Rattle.hs_journal.specs.Views.{PlainJournal}
-use Rattle.hs_law_agent.specs.Laws.{EventsAddThis}
-use Rattle.hs_law_agent.specs.State.{start}
-use Rattle.hs_records.specs.Pages.{pages_of}
-use Rattle.hs_records.specs.Plain.{PlainWorkload}
-use Rattle.hs_law_sends.specs.Sending.{Sent, ClientSends, client_sends, node_sends}
-use Rattle.hs_law_sends.specs.OneMore.{items_of}
-use Rattle.hs_law_journal.specs.Ends.{rounds_of, took_all, is_left_bare}
-use Rattle.hs_law_journal.specs.Following.{Chunks, Crumbs, Triggers, Asks, taken, asks_to, is_from, log_at, NodeRun, Run, is_done}
-use Rattle.hs_law_journal.specs.Passes.{passes_of, queues_of, is_whole_pass}
+use Rattle.hs_law_run.proofs.Prelude.{AllByRecursion, range_with_len, list_all, and_from, length-map, length-range_with_len, length-filter, list_all_range_below, all_at, all_each, message, PlainJournal, EventsAddThis, start, pages_of, PlainWorkload, Sent, ClientSends, client_sends, node_sends, items_of, rounds_of, Chunks, Crumbs, Triggers, Asks, taken, asks_to, is_from, log_at, NodeRun, Run, is_done, passes_of, queues_of, NodeDoings, Doings, all_events, steps_of, last_state, all_heard, journal_of, node_at_end, run_of, IsPass, IsPlayable, ArePlayable, HaveRounds, DoingsAreFollowed, passes_are}
+use Rattle.hs_law_journal.specs.Ends.{took_all, is_left_bare}
+use Rattle.hs_law_journal.specs.Passes.{is_whole_pass}
 use Rattle.hs_law_journal.specs.Shape.{same_counts}
-use Rattle.hs_law_journal.specs.Doings.{NodeDoings, Doings, all_events, steps_of, last_state, all_heard, journal_of, node_at_end, run_of}
-use Rattle.hs_law_journal.specs.LoopPasses.{IsPass}
-use Rattle.hs_law_run.specs.Facts.{IsPlayable, ArePlayable, HavePasses, HaveRounds, HaveNothingPinned}
-use Rattle.hs_law_run.specs.Playing.{DoingsAreFollowed, CanBeFollowed, HaveShape, AreWholePasses, AreEnough, AreBare}
+use Rattle.hs_law_run.specs.Facts.{HavePasses, HaveNothingPinned}
+use Rattle.hs_law_run.specs.Playing.{CanBeFollowed, HaveShape, AreWholePasses, AreEnough, AreBare}
 use Rattle.hs_law_run.proofs.Following.{taken_chunks, taken_crumbs, taken_triggers, taken_asks}
 use Rattle.hs_law_run.proofs.Nodes.{node_there, log_there, own_log}
-use Rattle.hs_law_journal.proofs.Passes.{is_whole, passes_are, turns, turns_are}
+use Rattle.hs_law_journal.proofs.Passes.{is_whole, turns, turns_are}
 
 -- ---- lists
 

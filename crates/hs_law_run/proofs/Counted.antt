@@ -1,11 +1,9 @@
 -- Of the giver's answers no more are below a draw than there are draws before it.
 use Rattle.std.proofs.Common.{◌≡◌, inl, inr, ℕ, ◌+◌, ◌<◌, ◌≤◌, Bool, true, false, ◌==◌, cond, List, [], ◌∷◌, ◌++◌, length, refl, sym, ap, ◌∙◌, arith, eq-eqb, eqb-true, nat_lt, ltb-true, lt-ltb}
-use Rattle.std.specs.List.{AllByRecursion}
-use Rattle.std.proofs.lemmas.List.{length-append, length-map, map-append}
-use Rattle.hs_words.specs.Ends.{Deed, Answer, answer_to, events_of, drawn_in, given_in, is_any_got, is_any_given, IsDraw}
+use Rattle.hs_law_run.proofs.Prelude.{AllByRecursion, length-append, length-map, map-append, Deed, Answer, answer_to, events_of, drawn_in, is_any_given, IsDraw, IsHistoryBack, at_below, draw_is_at}
+use Rattle.hs_words.specs.Ends.{given_in, is_any_got}
 use Rattle.hs_words.specs.Ends as ends
-use Rattle.hs_words.specs.PoolHistory.{IsHistoryBack}
-use Rattle.hs_words.proofs.Deeds.{at_below, draw_is_at, event_counts}
+use Rattle.hs_words.proofs.Deeds.{event_counts}
 use Rattle.hs_words.proofs.Waiting.{few, waiting_length, drawn_kinds, given_kinds, few_missed}
 use Rattle.hs_law_run.proofs.Answers.{own, answers, stamps}
 use Rattle.hs_law_run.proofs.DrawPlaces.{IsProper}

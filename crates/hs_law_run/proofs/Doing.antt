@@ -1,27 +1,9 @@
 -- What a story does, as doings told pass by pass.
 use Rattle.std.proofs.Common.{◌≡◌, ℕ, suc, ◌+◌, ◌<◌, ◌≤◌, Bool, true, false, List, [], ◌∷◌, length, refl, sym, ap, subst, ◌∙◌, Option, Some, unwrap_or, arith, map, filter, slice_get, count_by, nat_lt, ltb-true, ltb-false}
-use Rattle.std.specs.List.{AllByRecursion, range_with_len}
-use Rattle.hs_lists.proofs.Ranges.{map_range_at}
-use Rattle.hs_lists.proofs.Alls.{all_each, all_by_place}
-use Rattle.hs_coord.specs.Messages.{message}
-use Rattle.hs_journal.specs.declared.journal.Draw.{Draw}
-use Rattle.hs_journal.specs.Views.{PlainJournal}
-use Rattle.hs_law_agent.specs.Laws.{sheets_of}
-use Rattle.hs_law_agent.specs.State.{AgentState, start}
-use Rattle.hs_law_agent.specs.Stepping.{AgentEvent, after}
-use Rattle.hs_records.specs.Plain.{PlainWorkload}
-use Rattle.hs_law_sends.specs.Sending.{ClientSends, client_sends, sends_of, draws_at, place_of, ops_of}
-use Rattle.hs_law_sends.specs.OneMore.{items_of}
-use Rattle.hs_words.specs.Ends.{IsTogether}
-use Rattle.hs_law_journal.specs.Following.{asks_to, is_from}
-use Rattle.hs_law_run.specs.Pools.{draw_answer}
-use Rattle.hs_workload.specs.Validity.{IsValid}
-use Rattle.hs_law_journal.specs.Doings.{NodeDoings, all_events, events_in, state_after, last_state, chunks_in, crumbs_in, triggers_in, asks_in, heard_in, all_heard, journal_of}
-use Rattle.hs_law_journal.specs.LoopPasses.{IsPass, IsOwn, HandsReady, EndsPass}
-use Rattle.hs_law_run.specs.Facts.{TookAllOf, IsPlayable, EndOffersFrom}
-use Rattle.hs_law_journal.specs.Turns.{AreTurns}
-use Rattle.hs_law_run.specs.Ends.{PoolEndsGoOn}
-use Rattle.hs_law_run.specs.Stories.{NodeStory, Story, added, node_doings, doings_of, draws_of, sends_at, state_by, IsQueueStory, sent_by, TakesFrom, TalksWith, PoolsWith, IsNodeStory, IsStory}
+use Rattle.hs_law_run.proofs.Prelude.{AllByRecursion, range_with_len, map_range_at, all_each, all_by_place, message, Draw, PlainJournal, sheets_of, AgentState, start, AgentEvent, after, PlainWorkload, ClientSends, client_sends, draws_at, place_of, ops_of, items_of, IsTogether, asks_to, is_from, draw_answer, IsValid, NodeDoings, all_events, events_in, state_after, last_state, chunks_in, crumbs_in, triggers_in, asks_in, heard_in, all_heard, journal_of, IsPass, IsOwn, HandsReady, EndsPass, IsPlayable, EndOffersFrom, AreTurns, PoolEndsGoOn, Story, added, node_doings, doings_of, draws_of, sends_at, IsQueueStory, sent_by, IsStory}
+use Rattle.hs_law_sends.specs.Sending.{sends_of}
+use Rattle.hs_law_run.specs.Facts.{TookAllOf}
+use Rattle.hs_law_run.specs.Stories.{NodeStory, state_by, TakesFrom, TalksWith, PoolsWith, IsNodeStory}
 use Rattle.hs_law_run.specs.Stories as stories
 use Rattle.hs_law_run.proofs.PoolOf.{IsDrawnFor, IsPoolOf}
 use Rattle.hs_law_run.proofs.Grown.{mapped_long, unmapped_at, grown, grown_all, grown_beyond}

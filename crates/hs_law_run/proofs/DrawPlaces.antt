@@ -1,25 +1,10 @@
 -- The pages of a node by the stamps of their draws are the draws of the pool in order: the draw of each number is that of one page.
 use Rattle.std.proofs.Common.{◌≡◌, ◌⊎◌, inl, inr, ℕ, zero, suc, ◌+◌, ◌<◌, ◌≤◌, Bool, true, false, ◌==◌, cond, List, [], ◌∷◌, ◌++◌, length, refl, sym, ap, subst, ◌∙◌, Some, arith, map, filter, slice_get, eq-eqb, eqb-true, nat_eq, append-nil}
-use Rattle.std.specs.List.{AllByRecursion, flat_map, range_with_len}
-use Rattle.std.proofs.lemmas.Grind.{flat_map-append}
-use Rattle.std.proofs.lemmas.List.{length-append, map-append}
-use Rattle.hs_lists.proofs.Ranges.{flat_range_alike}
-use Rattle.hs_lists.proofs.Alls.{all_front, all_back}
-use Rattle.hs_lists.proofs.Places.{get_last, get_front}
-use Rattle.hs_lists.proofs.Parts.{map_flat}
-use Rattle.hs_journal.specs.declared.journal.Draw.{Draw}
+use Rattle.hs_law_run.proofs.Prelude.{AllByRecursion, flat_map, range_with_len, flat_map-append, length-append, map-append, flat_range_alike, all_front, all_back, get_front, map_flat, Draw, PlainJournal, PlainWorkload, DrawnPage, stamp_of, ClientSends, client_sends, draws_at, place_of, Deed, Answer, answer_to, answers_by, drawn_in, is_any_given, IsDeedAt, IsDraw, PoolEvent, is_missed, by_stamp, NodeDoings, draw_answer, IsPooled}
+use Rattle.hs_lists.proofs.Places.{get_last}
 use Rattle.hs_journal.specs.declared.journal.Draw.TheVariants as draws
-use Rattle.hs_journal.specs.Views.{PlainJournal}
-use Rattle.hs_records.specs.Plain.{PlainWorkload}
-use Rattle.hs_law_sends.specs.Drawn.{DrawnPage, stamp_of}
-use Rattle.hs_law_sends.specs.Sending.{ClientSends, client_sends, draws_at, place_of}
-use Rattle.hs_words.specs.Ends.{Deed, Answer, answer_to, answers_by, drawn_in, is_any_given, IsDeedAt, IsDraw}
 use Rattle.hs_words.specs.Ends as ends
-use Rattle.hs_words.specs.PoolHistory.{PoolEvent, is_missed}
 use Rattle.hs_words.specs.PoolHistory as pool
-use Rattle.hs_law_journal.specs.Pooled.{by_stamp}
-use Rattle.hs_law_journal.specs.Doings.{NodeDoings}
-use Rattle.hs_law_run.specs.Pools.{draw_answer, IsPooled}
 use Rattle.hs_law_run.proofs.Answers.{own, answers, at_stamp, drawers, drawers_last, drawers_earlier, just_one}
 use Rattle.hs_law_run.proofs.Pools.{client_draws, range_last, Kinds, kinds_before, kind_of, stamp_same}
 

@@ -1,14 +1,8 @@
 -- Lists that grow pass by pass: what was added in the passes, one behind another, is the list.
 use Rattle.std.proofs.Common.{◌≡◌, ℕ, zero, suc, ◌+◌, ◌<◌, ◌≤◌, List, [], ◌++◌, length, sym, ap, ◌∙◌, Some, arith, map, slice_get, take}
-use Rattle.std.specs.List.{AllByRecursion, range_with_len}
-use Rattle.std.proofs.lemmas.List.{length-map}
-use Rattle.std.proofs.lemmas.List.FromFn.{length-range_with_len}
-use Rattle.std.proofs.lemmas.Option.{same_Some, slice_get_within}
-use Rattle.hs_lists.proofs.Ranges.{map_range_at}
+use Rattle.hs_law_run.proofs.Prelude.{AllByRecursion, range_with_len, length-map, length-range_with_len, same_Some, slice_get_within, map_range_at, joined, added}
 use Rattle.hs_lists.proofs.Parts.{take_whole}
-use Rattle.hs_law_journal.specs.Doings.{joined}
 use Rattle.hs_law_run.proofs.Following.{take_next}
-use Rattle.hs_law_run.specs.Stories.{added}
 
 pub mapped_long : {X : Type 0} (f : ℕ → X) (count : ℕ) → length (map f (range_with_len 0 count)) ≡ count
 mapped_long f count = length-map (range_with_len 0 count) f ∙ length-range_with_len 0 count

@@ -1,22 +1,6 @@
 -- The answers of a client's drawer by rounds: what it was answered up to a round, and what it was answered later.
 use Rattle.std.proofs.Common.{◌≡◌, ℕ, zero, suc, ◌+◌, ◌-◌, ◌<◌, ◌≤◌, Bool, true, false, List, [], ◌++◌, length, reverse, refl, sym, ap, ◌∙◌, Some, arith, filter, slice_get, nat_lt, ltb-true, ltb-false, option_map, append_assoc}
-use Rattle.std.specs.List.{AllByRecursion}
-use Rattle.std.proofs.lemmas.List.{length-reverse, reverse-append}
-use Rattle.std.proofs.lemmas.Option.{slice_get-map}
-use Rattle.hs_lists.proofs.Alls.{all_append, all_each, all_reverse, all_at, all_by_place}
-use Rattle.hs_journal.specs.declared.journal.Draw.{Draw}
-use Rattle.hs_journal.specs.Views.{PlainJournal}
-use Rattle.hs_records.specs.Plain.{Operation, PlainWorkload}
-use Rattle.hs_records.specs.Records.{AreBracketed}
-use Rattle.hs_law_sends.specs.Drawn.{DrawnPage}
-use Rattle.hs_law_sends.specs.Laws.{TimedPagesAreTimely}
-use Rattle.hs_law_sends.specs.Sending.{client_sends, draws_at, place_of, ops_of}
-use Rattle.hs_law_sends.specs.Timing.{TimedPage, timed_pages}
-use Rattle.hs_words.specs.Ends.{Answer}
-use Rattle.hs_law_journal.specs.Unreads.{round_of}
-use Rattle.hs_law_journal.specs.Doings.{NodeDoings}
-use Rattle.hs_law_run.specs.Pools.{draw_answer}
-use Rattle.hs_law_run.specs.Ends.{done_by}
+use Rattle.hs_law_run.proofs.Prelude.{AllByRecursion, length-reverse, reverse-append, slice_get-map, all_append, all_each, all_reverse, all_at, all_by_place, Draw, PlainJournal, Operation, PlainWorkload, AreBracketed, DrawnPage, TimedPagesAreTimely, client_sends, draws_at, place_of, ops_of, TimedPage, timed_pages, Answer, round_of, NodeDoings, draw_answer, done_by}
 use Rattle.hs_law_run.proofs.PoolOf.{IsPoolOf}
 use Rattle.hs_law_run.proofs.Lists.{get_low, get_high}
 use Rattle.hs_law_run.proofs.Rounds.{IsFit, split_at, all_start, page_at, round_within, round_behind}

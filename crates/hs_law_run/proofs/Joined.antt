@@ -1,11 +1,6 @@
 -- The steps of passes that are joined.
 use Rattle.std.proofs.Common.{◌≡◌, ℕ, zero, suc, List, [], ◌∷◌, ◌++◌, map, take, refl, sym, ap, ◌∙◌}
-use Rattle.std.proofs.lemmas.List.{map-append}
-use Rattle.std.specs.List.{flat_map}
-use Rattle.hs_journal.specs.declared.journal.Step.{Step}
-use Rattle.hs_law_agent.specs.Laws.{noted_as}
-use Rattle.hs_law_agent.specs.Stepping.{AgentEvent}
-use Rattle.hs_law_journal.specs.Doings.{joined, steps_of}
+use Rattle.hs_law_run.proofs.Prelude.{map-append, flat_map, Step, noted_as, AgentEvent, joined, steps_of}
 
 pub steps_joined : (k : ℕ) (passes : List (List AgentEvent)) → flat_map (λ pass. pass) (take k (map steps_of passes)) ≡ steps_of (joined (take k passes))
 steps_joined zero passes = refl

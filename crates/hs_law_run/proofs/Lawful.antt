@@ -1,32 +1,13 @@
 -- A story has all that makes its journal lawful.
 use Rattle.std.proofs.Common.{◌≡◌, ℕ, zero, suc, ◌+◌, ◌*◌, ◌<◌, ◌≤◌, List, [], ◌∷◌, length, refl, sym, ap, subst, ◌∙◌, Option, Some, unwrap_or, arith, map, slice_get, count_by, nat_lt}
-use Rattle.std.specs.List.{AllByRecursion, range_with_len}
-use Rattle.std.proofs.lemmas.List.{length-map, length-reverse}
+use Rattle.hs_law_run.proofs.Prelude.{AllByRecursion, range_with_len, length-map, length-reverse, all_each, all_by_place, filter_few, Message, EventsAddThis, AgentState, AgentEvent, pages_of, Operation, PlainWorkload, count_started, TimedPagesAreTimely, Sent, ClientSends, client_sends, sent_within, place_of, ops_of, TimedPage, timed_pages, asks_to, is_from, IsValid, NodeDoings, events_in, last_state, chunks_in, crumbs_in, triggers_in, asks_in, journal_of, node_at_end, run_of, IsPass, IsPlayable, ArePlayable, HaveRounds, EndOffersFrom, IsToldInRounds, TakesInPace, AsksInPace, KeepsPace, draw_answer, IsPooled, IsPooledUnread, done_by, agent_of, Story, added, node_doings, doings_of, draws_of, sends_at, IsQueueStory, sent_by, IsStory}
 use Rattle.std.proofs.lemmas.Simd.{map-map}
-use Rattle.hs_lists.proofs.Alls.{all_each, all_by_place}
-use Rattle.hs_lists.proofs.Filters.{filter_few}
-use Rattle.hs_coord.specs.Messages.{Message}
-use Rattle.hs_law_agent.specs.Laws.{EventsAddThis}
-use Rattle.hs_law_agent.specs.State.{AgentState}
-use Rattle.hs_law_agent.specs.Stepping.{AgentEvent}
-use Rattle.hs_records.specs.Pages.{pages_of}
-use Rattle.hs_records.specs.Plain.{Operation, PlainWorkload}
-use Rattle.hs_law_sends.specs.Draws.{count_started}
-use Rattle.hs_law_sends.specs.Laws.{TimedPagesAreTimely, TimedPagesAreThePages}
-use Rattle.hs_law_sends.specs.Sending.{Sent, ClientSends, client_sends, sent_within, place_of, ops_of}
+use Rattle.hs_law_sends.specs.Laws.{TimedPagesAreThePages}
 use Rattle.hs_law_sends.specs.SoFar.{AllChunksAreSent, AllCrumbsAreSent, AllTriggersAreSent}
-use Rattle.hs_law_sends.specs.Timing.{TimedPage, timed_pages}
-use Rattle.hs_law_journal.specs.Following.{asks_to, is_from}
-use Rattle.hs_workload.specs.Validity.{IsValid}
-use Rattle.hs_law_journal.specs.Doings.{NodeDoings, events_in, last_state, chunks_in, crumbs_in, triggers_in, asks_in, journal_of, node_at_end, run_of}
-use Rattle.hs_law_journal.specs.LoopPasses.{IsPass}
-use Rattle.hs_law_run.specs.Facts.{IsPlayable, ArePlayable, HaveDrawn, HaveRounds, EndOffersFrom, IsToldInRounds, TakesInPace, AsksInPace, KeepsPace}
+use Rattle.hs_law_run.specs.Facts.{HaveDrawn}
 use Rattle.hs_law_run.specs.Playing.{AreLawfulDoings}
-use Rattle.hs_law_run.specs.Pools.{draw_answer, IsPooled}
-use Rattle.hs_law_run.specs.Unread.{IsPooledUnread, ArePooledUnread}
-use Rattle.hs_law_run.specs.Ends.{done_by}
-use Rattle.hs_law_run.specs.Laws.{agent_of, agent_behind}
-use Rattle.hs_law_run.specs.Stories.{Story, added, node_doings, doings_of, draws_of, sends_at, IsQueueStory, sent_by, IsStory}
+use Rattle.hs_law_run.specs.Unread.{ArePooledUnread}
+use Rattle.hs_law_run.specs.Laws.{agent_behind}
 use Rattle.hs_law_run.proofs.Rounds.{IsFit, all_start, all_counted}
 use Rattle.hs_law_run.proofs.Grown.{mapped_long, all_mapped_range}
 use Rattle.hs_law_run.proofs.Workloads.{fit_of, rounds_low, node_client}

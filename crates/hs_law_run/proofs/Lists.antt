@@ -1,7 +1,6 @@
 -- Lists that end with one item more.
 use Rattle.std.proofs.Common.{◌≡◌, ◌⊎◌, inl, inr, ℕ, zero, suc, ◌+◌, ◌<◌, ◌≤◌, List, [], ◌∷◌, ◌++◌, length, refl, sym, ap, ◌∙◌, Option, Some, arith, map, slice_get}
-use Rattle.std.specs.List.{AllByRecursion, filter_map}
-use Rattle.std.proofs.lemmas.List.Elements.{filter_map-append}
+use Rattle.hs_law_run.proofs.Prelude.{AllByRecursion, filter_map, filter_map-append}
 
 pub filter_map_last : {X Y : Type 0} (h : X → Option Y) (xs : List X) (x : X) (ys : List Y) → filter_map h (x ∷ []) ≡ ys → filter_map h (xs ++ x ∷ []) ≡ filter_map h xs ++ ys
 filter_map_last h xs x ys e = filter_map-append h xs (x ∷ []) ∙ ap (λ last. filter_map h xs ++ last) e

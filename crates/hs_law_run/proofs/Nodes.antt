@@ -1,15 +1,6 @@
 -- The nodes of what was done stand by their numbers, and their logs in the journal.
 use Rattle.std.proofs.Common.{◌≡◌, ℕ, ◌+◌, ◌<◌, List, [], ◌∷◌, ◌++◌, append-nil, append_assoc, refl, sym, ap, ◌∙◌, Option, Some, None, arith, map, option_map, slice_get, unwrap_or}
-use Rattle.std.proofs.lemmas.Option.{slice_get-map, same_Some}
-use Rattle.hs_lists.proofs.Ranges.{range_at}
-use Rattle.hs_journal.specs.declared.journal.Step.{Step}
-use Rattle.hs_law_agent.specs.Laws.{noted_as, EventsAddThis}
-use Rattle.hs_law_agent.specs.State.{AgentState, start}
-use Rattle.hs_law_agent.specs.Stepping.{AgentEvent, after_event, after_from, after}
-use Rattle.hs_records.specs.Plain.{PlainSettings, PlainWorkload}
-use Rattle.hs_law_journal.specs.Following.{log_at}
-use Rattle.hs_law_journal.specs.Doings.{NodeDoings, Doings, all_events, steps_of, journal_of}
-use Rattle.hs_law_run.specs.Facts.{ArePlayable}
+use Rattle.hs_law_run.proofs.Prelude.{slice_get-map, same_Some, range_at, Step, noted_as, EventsAddThis, AgentState, start, AgentEvent, after_event, after_from, after, PlainSettings, PlainWorkload, log_at, NodeDoings, Doings, all_events, steps_of, journal_of, ArePlayable}
 
 module _ (W : PlainWorkload) (d : Doings) (facts : ArePlayable W d) where
   pub node_there : (v : ℕ) → v < W.settings.nodes → (n : NodeDoings) × (slice_get d.nodes v ≡ Some n) × (n.node ≡ v)

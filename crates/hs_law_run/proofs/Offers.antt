@@ -1,24 +1,12 @@
 -- A pass that offers until its hand is empty, or until an offer is unread, makes all its offers.
 use Rattle.std.proofs.Common.{◌≡◌, ◌⊎◌, inl, inr, ℕ, zero, suc, ◌+◌, ◌-◌, true, false, ◌||◌, ◌==◌, not, List, [], ◌∷◌, ◌++◌, length, take, drop, refl, sym, ap, subst, ◌∙◌, arith, map, zip, append_assoc, eq-eqb}
-use Rattle.std.specs.List.{AllByRecursion, range_with_len, list_all, list_any}
-use Rattle.std.proofs.lemmas.Bool.{or_right, and_from}
-use Rattle.std.proofs.lemmas.List.{length-append, map-append}
-use Rattle.hs_lists.proofs.Alls.{all_append}
-use Rattle.hs_journal.specs.declared.journal.Step.{Step}
+use Rattle.hs_law_run.proofs.Prelude.{AllByRecursion, range_with_len, list_all, list_any, and_from, length-append, map-append, all_append, Step, PlainJournal, EventsAddThis, AgentState, Answered, Given, Missed, Unread, AgentEvent, step_of_answer, PlainWorkload, NodeRun, Run, queues_of, is_unread, steps_in, state_behind, NodeDoings, steps_of, state_after, journal_of, node_at_end, IsPass, EndsPass, EndOffersFrom, DoingsAreFollowed}
+use Rattle.std.proofs.lemmas.Bool.{or_right}
 use Rattle.hs_journal.specs.declared.journal.Step.TheVariants as steps
-use Rattle.hs_journal.specs.Views.{PlainJournal}
-use Rattle.hs_law_agent.specs.Laws.{EventsAddThis}
-use Rattle.hs_law_agent.specs.State.{AgentState}
-use Rattle.hs_law_agent.specs.Stepping.{Answered, Given, Missed, Unread, AgentEvent, step_of_answer}
-use Rattle.hs_records.specs.Plain.{PlainWorkload}
-use Rattle.hs_law_journal.specs.Following.{NodeRun, Run}
-use Rattle.hs_law_journal.specs.Passes.{queues_of, is_offer, is_unread, but_last, last_of, steps_in, pass_ends, offers_end}
-use Rattle.hs_law_journal.specs.Played.{state_behind}
+use Rattle.hs_law_journal.specs.Passes.{is_offer, but_last, last_of, pass_ends, offers_end}
 use Rattle.hs_law_journal.proofs.Logs.{IsTake}
-use Rattle.hs_law_journal.specs.Doings.{NodeDoings, steps_of, state_after, journal_of, node_at_end}
-use Rattle.hs_law_journal.specs.LoopPasses.{IsPass, IsStamped, EndsPass}
-use Rattle.hs_law_run.specs.Facts.{EndOffersFrom}
-use Rattle.hs_law_run.specs.Playing.{DoingsAreFollowed, MakeTheirOffers}
+use Rattle.hs_law_journal.specs.LoopPasses.{IsStamped}
+use Rattle.hs_law_run.specs.Playing.{MakeTheirOffers}
 use Rattle.hs_law_run.proofs.Behind.{log_passes, state_there}
 use Rattle.hs_law_run.proofs.Clauses.{mapped_true}
 use Rattle.hs_law_journal.proofs.Passes.{items, offers_of, all_takes}

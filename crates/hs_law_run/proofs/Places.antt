@@ -1,18 +1,9 @@
 -- Where an unread offer stands: in a pass, behind the turn of that pass.
 use Rattle.std.proofs.Common.{◌≡◌, ◌⊎◌, inl, inr, ℕ, zero, suc, ◌<◌, ◌≤◌, true, false, List, [], ◌∷◌, ◌++◌, length, refl, sym, ap, ◌∙◌, Some, arith, map, slice_get, take, replicate, count_by, append_assoc}
-use Rattle.std.specs.List.{AllByRecursion, flat_map}
-use Rattle.std.proofs.lemmas.List.{map-append}
-use Rattle.hs_lists.proofs.Alls.{all_append}
+use Rattle.hs_law_run.proofs.Prelude.{AllByRecursion, flat_map, map-append, all_append, Step, noted_as, Answered, Unread, AgentEvent, Gave, step_of_answer, PlainWorkload, Queue, Chunks, Crumbs, Triggers, Asks, is_turn, is_unread, queues_of, joined, steps_of, IsPass}
 use Rattle.hs_lists.proofs.Counts.{one_if, count_cons, count_append}
-use Rattle.hs_journal.specs.declared.journal.Step.{Step}
 use Rattle.hs_journal.specs.declared.journal.Step.TheVariants as steps
-use Rattle.hs_law_agent.specs.Laws.{noted_as}
-use Rattle.hs_law_agent.specs.Stepping.{Answered, Unread, AgentEvent, Gave, step_of_answer}
-use Rattle.hs_records.specs.Plain.{PlainWorkload}
-use Rattle.hs_law_journal.specs.Following.{Queue, Chunks, Crumbs, Triggers, Asks}
-use Rattle.hs_law_journal.specs.Passes.{is_turn, is_unread, queues_of}
-use Rattle.hs_law_journal.specs.Doings.{joined, steps_of}
-use Rattle.hs_law_journal.specs.LoopPasses.{step_from, IsPass}
+use Rattle.hs_law_journal.specs.LoopPasses.{step_from}
 use Rattle.hs_law_journal.proofs.Passes.{is_no_turn}
 
 -- ---- lists

@@ -1,18 +1,8 @@
 -- The pool of a node of a run of so many rounds, over the passes of its agent.
+use Rattle.hs_law_run.proofs.Prelude.{AllByRecursion, range_with_len, PlainJournal, sheets_of, AgentEvent, PlainWorkload, count_started, draws_at, place_of, ops_of, Deed, IsTogether, NodeDoings, events_in, last_state, draw_answer, Lent, AreTurns, done_by, PoolEndsGoOn}
 use Rattle.std.specs.Prelude.{◌≡◌, ℕ, suc, ◌*◌, ◌<◌, ◌≤◌, List, [], length, map, reverse, slice_get, Some}
-use Rattle.std.specs.List.{AllByRecursion, range_with_len}
 use Rattle.hs_journal.specs.declared.journal.Draw.TheVariants as draws
-use Rattle.hs_journal.specs.Views.{PlainJournal}
-use Rattle.hs_law_agent.specs.Laws.{sheets_of}
-use Rattle.hs_law_agent.specs.Stepping.{AgentEvent}
-use Rattle.hs_records.specs.Plain.{PlainWorkload}
-use Rattle.hs_law_sends.specs.Draws.{count_started}
-use Rattle.hs_law_sends.specs.Sending.{draws_at, place_of, ops_of}
-use Rattle.hs_words.specs.Ends.{Deed, IsTogether}
-use Rattle.hs_law_journal.specs.Doings.{NodeDoings, events_in, last_state}
-use Rattle.hs_law_run.specs.Pools.{draw_answer}
-use Rattle.hs_law_journal.specs.Turns.{Lent, AreTurns}
-use Rattle.hs_law_run.specs.Ends.{done_by, PoolEnds, PoolEndsGoOn, PoolEndsMeet}
+use Rattle.hs_law_run.specs.Ends.{PoolEnds, PoolEndsMeet}
 
 -- The lease names the draw that the journal notes for the page.
 pub record IsDrawnFor (W : PlainWorkload) (J : PlainJournal) (node : ℕ) (lent : Lent) : Type 0 where

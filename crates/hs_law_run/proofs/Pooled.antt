@@ -1,33 +1,10 @@
 -- What is known of a pool in the end makes it a pool of the journal.
 use Rattle.std.proofs.Common.{◌≡◌, ◌⊎◌, ℕ, zero, suc, ◌+◌, ◌<◌, ◌≤◌, Bool, true, false, List, length, reverse, refl, sym, ap, subst, ◌∙◌, Option, Some, None, arith, map, filter, slice_get, nat_lt, ltb-true, ltb-false, option_map}
-use Rattle.std.specs.List.{AllByRecursion, range_with_len}
-use Rattle.std.specs.Option.{option_and_then}
-use Rattle.std.proofs.lemmas.List.{length-map, length-reverse}
-use Rattle.std.proofs.lemmas.List.FromFn.{length-range_with_len}
-use Rattle.std.proofs.lemmas.Option.{slice_get-map, same_Some}
-use Rattle.hs_lists.proofs.Alls.{all_at}
-use Rattle.hs_lists.proofs.Filters.{filter_few}
-use Rattle.hs_lists.proofs.Ranges.{range_at}
-use Rattle.hs_lists.proofs.Parts.{take_length}
+use Rattle.hs_law_run.proofs.Prelude.{AllByRecursion, range_with_len, option_and_then, length-map, length-reverse, length-range_with_len, slice_get-map, same_Some, all_at, filter_few, range_at, take_length, PlainJournal, EventsAddThis, Taken, AgentEvent, PlainWorkload, DrawnPage, ClientSends, client_sends, draws_at, place_of, ops_of, timed_pages, Deed, Answer, answers_in, answers_by, is_any_given, is_missed, Sheet, NodeRun, page_of, joined, NodeDoings, all_events, events_in, node_at_end, draw_answer, give_of, give_at, IsPooled, Lent, AreTurns, done_by}
 use Rattle.hs_journal.specs.declared.journal.Draw.TheVariants as draws
-use Rattle.hs_journal.specs.Views.{PlainJournal}
-use Rattle.hs_law_agent.specs.Laws.{EventsAddThis}
-use Rattle.hs_law_agent.specs.Standings.{Taken}
-use Rattle.hs_law_agent.specs.Stepping.{AgentEvent}
-use Rattle.hs_records.specs.Plain.{PlainWorkload}
-use Rattle.hs_law_sends.specs.Drawn.{DrawnPage}
-use Rattle.hs_law_sends.specs.Sending.{ClientSends, client_sends, draws_at, place_of, ops_of}
-use Rattle.hs_law_sends.specs.Timing.{timed_pages}
-use Rattle.hs_words.specs.Ends.{Deed, Answer, answers_in, answers_by, is_any_given, AreAnswers}
-use Rattle.hs_words.specs.PoolHistory.{is_missed}
+use Rattle.hs_words.specs.Ends.{AreAnswers}
 use Rattle.hs_words.specs.PoolHistory as pool
-use Rattle.hs_words.specs.Pages.{Sheet}
-use Rattle.hs_law_journal.specs.Following.{NodeRun}
-use Rattle.hs_law_journal.specs.Pooled.{page_of}
-use Rattle.hs_law_journal.specs.Doings.{joined, NodeDoings, all_events, events_in, node_at_end}
-use Rattle.hs_law_run.specs.Pools.{draw_answer, give_of, give_at, answers_to, IsPooled}
-use Rattle.hs_law_journal.specs.Turns.{Lent, AreTurns}
-use Rattle.hs_law_run.specs.Ends.{done_by}
+use Rattle.hs_law_run.specs.Pools.{answers_to}
 use Rattle.hs_law_run.proofs.PoolOf.{IsDrawnFor, IsPoolOf}
 use Rattle.hs_law_run.proofs.Rounds.{starts_before, drawn_draws, page_of_draw}
 use Rattle.hs_law_run.proofs.Turns.{turns_stamps, turns_misses, turns_kinds, turns_gives, turns_known, IsNamed}

@@ -1,34 +1,14 @@
 -- What closing a pool tells makes its stamps number the events of the node, and these a history.
 use Rattle.std.proofs.Common.{◌≡◌, ◌⊎◌, inl, inr, ℕ, zero, suc, ◌+◌, ◌<◌, ◌≤◌, Bool, true, false, ◌&&◌, ◌==◌, cond, List, [], ◌∷◌, ◌++◌, length, reverse, refl, sym, ap, subst, ◌∙◌, Option, Some, None, arith, map, filter, filter_map, option_map, count_by, eq-eqb, nat_eq, append-nil}
-use Rattle.std.specs.List.{AllByRecursion, cons_option, flat_map, range_with_len, list_all}
-use Rattle.std.specs.Option.{option_and_then}
-use Rattle.std.proofs.lemmas.Bool.{and_from}
-use Rattle.std.proofs.lemmas.Grind.{flat_map-append}
-use Rattle.std.proofs.lemmas.List.{length-append, length-map, map-append, reverse-append, reverse-reverse}
-use Rattle.std.proofs.lemmas.List.Elements.{filter-append}
-use Rattle.std.proofs.lemmas.List.Sums.{length-filter}
-use Rattle.hs_lists.proofs.Ranges.{flat_range_alike, list_all_range_below}
-use Rattle.hs_lists.proofs.Alls.{all_at}
-use Rattle.hs_lists.proofs.Parts.{map_flat}
-use Rattle.hs_journal.specs.declared.journal.Draw.{Draw}
+use Rattle.hs_law_run.proofs.Prelude.{AllByRecursion, cons_option, flat_map, range_with_len, list_all, option_and_then, and_from, flat_map-append, length-append, length-map, map-append, reverse-append, filter-append, length-filter, flat_range_alike, list_all_range_below, all_at, map_flat, Draw, Step, PlainJournal, EventsAddThis, GivenPlace, PlainWorkload, DrawnPage, stamp_of, ClientSends, client_sends, draws_at, place_of, Deed, Answer, events_of, answer_to, answers_by, put_if, is_any_given, PoolEvent, is_missed, IsHistoryBack, NodeRun, Run, log_at, StampedPoolEvent, by_stamp, given_page, pool_events, rise, log_stamps, NodeDoings, all_events, steps_of, journal_of, node_at_end, DoingsAreFollowed, draw_answer, give_of, give_at, miss_in, IsPooled}
+use Rattle.std.proofs.lemmas.List.{reverse-reverse}
 use Rattle.hs_journal.specs.declared.journal.Draw.TheVariants as draws
-use Rattle.hs_journal.specs.declared.journal.Step.{Step}
 use Rattle.hs_journal.specs.declared.journal.Step.TheVariants as steps
-use Rattle.hs_journal.specs.Views.{PlainJournal}
-use Rattle.hs_law_agent.specs.Laws.{EventsAddThis}
-use Rattle.hs_law_agent.specs.State.{GivenPlace}
-use Rattle.hs_records.specs.Plain.{PlainWorkload}
-use Rattle.hs_law_sends.specs.Drawn.{DrawnPage, stamp_of}
-use Rattle.hs_law_sends.specs.Sending.{ClientSends, client_sends, draws_at, place_of}
-use Rattle.hs_words.specs.Ends.{Deed, Answer, events_of, answer_to, answers_by, put_if, is_any_given}
-use Rattle.hs_words.specs.PoolHistory.{PoolEvent, is_missed, IsHistoryBack, IsPoolHistory}
+use Rattle.hs_words.specs.PoolHistory.{IsPoolHistory}
 use Rattle.hs_words.specs.PoolHistory as pool
-use Rattle.hs_law_journal.specs.Following.{NodeRun, Run, log_at}
-use Rattle.hs_law_journal.specs.Pooled.{StampedPoolEvent, by_stamp, event_drawn, drawn_event, given_page, buffer_of, given_event, missed_event, pool_events, pool_history}
-use Rattle.hs_law_journal.specs.Shape.{rise, log_stamps, node_draws, draw_stamps, node_stamps, are_numbered, node_has_stamps}
-use Rattle.hs_law_journal.specs.Doings.{NodeDoings, all_events, steps_of, journal_of, node_at_end}
-use Rattle.hs_law_run.specs.Playing.{DoingsAreFollowed, AreStamped, AreHistories}
-use Rattle.hs_law_run.specs.Pools.{draw_answer, give_of, give_at, miss_in, IsPooled}
+use Rattle.hs_law_journal.specs.Pooled.{event_drawn, drawn_event, buffer_of, given_event, missed_event, pool_history}
+use Rattle.hs_law_journal.specs.Shape.{node_draws, draw_stamps, node_stamps, are_numbered, node_has_stamps}
+use Rattle.hs_law_run.specs.Playing.{AreStamped, AreHistories}
 use Rattle.hs_law_run.proofs.Answers.{own as own_of, answers, answers_are, at_stamp, stamps, stamps_rise, drawers, everyone, as_many, one_at, just_one, drawers_last, drawers_earlier, at_last, at_earlier}
 use Rattle.hs_law_run.proofs.Nodes.{node_there, log_there, own_log}
 

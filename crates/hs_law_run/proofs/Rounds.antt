@@ -1,21 +1,8 @@
 -- The pages of a client and its draws by rounds: those of the operations that it had done, and those of later ones.
 use Rattle.std.proofs.Common.{◌≡◌, ℕ, zero, suc, ◌+◌, ◌*◌, ◌<◌, ◌≤◌, Bool, true, false, cond, List, [], ◌∷◌, length, refl, sym, ap, subst, ◌∙◌, Some, None, arith, map, filter, slice_get, nat_lt, ltb-true, ltb-false, lt-ltb}
-use Rattle.std.proofs.Math.Nat.{div-lt_iff_lt-mul}
-use Rattle.std.specs.List.{AllByRecursion, flat_map, range_with_len}
-use Rattle.std.proofs.lemmas.Option.{same_Some}
-use Rattle.hs_lists.proofs.Alls.{all_append}
-use Rattle.hs_base.specs.declared.ids.ClientId.{ClientId}
+use Rattle.hs_law_run.proofs.Prelude.{div-lt_iff_lt-mul, AllByRecursion, flat_map, range_with_len, same_Some, all_append, ClientId, Draw, PlainJournal, PlainWorkload, AreBracketed, DrawnPage, drawn_from, ClientSends, client_sends, operations_at, TimedPage, round_of, pages_at}
 use Rattle.hs_base.specs.declared.limits.TheConstants.{MIN_SIZE}
-use Rattle.hs_journal.specs.declared.journal.Draw.{Draw}
-use Rattle.hs_journal.specs.Views.{PlainJournal}
-use Rattle.hs_records.specs.Plain.{PlainWorkload}
-use Rattle.hs_records.specs.Records.{AreBracketed}
-use Rattle.hs_law_sends.specs.Drawn.{DrawnPage, drawn_from}
 use Rattle.hs_law_sends.specs.Laws.{IsTimely}
-use Rattle.hs_law_sends.specs.Sending.{ClientSends, client_sends, operations_at}
-use Rattle.hs_law_sends.specs.Timing.{TimedPage}
-use Rattle.hs_law_journal.specs.Unreads.{round_of}
-use Rattle.hs_law_run.specs.Facts.{pages_at}
 
 -- what is needed of a workload
 pub record IsFit (W : PlainWorkload) : Type 0 where

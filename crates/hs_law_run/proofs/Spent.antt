@@ -1,27 +1,12 @@
 -- A give answers the draw of its chunk: it spends the lease of that draw, and nothing happens at the buffer between the two.
 use Rattle.std.proofs.Common.{◌≡◌, inl, inr, ℕ, zero, suc, ◌+◌, ◌<◌, Bool, true, false, ◌&&◌, ◌==◌, not, cond, List, [], ◌∷◌, ◌++◌, length, refl, sym, ap, subst, ◌∙◌, Option, Some, None, arith, map, filter, filter_map, eqb-true, nat_lt, ltb-true, lt-ltb}
-use Rattle.std.specs.List.{AllByRecursion, cons_option, list_all}
-use Rattle.std.specs.Option.{option_and_then, option_map_or}
-use Rattle.std.proofs.lemmas.Bool.{and_from, and_parts}
-use Rattle.std.proofs.lemmas.Option.{same_Some}
-use Rattle.hs_lists.proofs.Tests.{list_all_from, list_any_none}
-use Rattle.hs_lists.proofs.Alls.{all_each, all_append, all_map, all_each_both}
-use Rattle.hs_journal.specs.declared.journal.Draw.{Draw}
+use Rattle.hs_law_run.proofs.Prelude.{AllByRecursion, cons_option, list_all, option_and_then, option_map_or, and_from, and_parts, same_Some, list_all_from, list_any_none, all_each, all_append, all_map, Draw, PlainJournal, EventsAddThis, GivenPlace, PlainWorkload, DrawnPage, Deed, Answer, answer_to, is_any_given, IsDeedAt, PoolEvent, is_missed, at_below, NodeRun, Run, StampedPoolEvent, given_page, pool_events, NodeDoings, journal_of, node_at_end, DoingsAreFollowed, give_of, give_at, IsPooled}
+use Rattle.hs_lists.proofs.Alls.{all_each_both}
 use Rattle.hs_journal.specs.declared.journal.Draw.TheVariants as draws
-use Rattle.hs_journal.specs.Views.{PlainJournal}
-use Rattle.hs_law_agent.specs.Laws.{EventsAddThis}
-use Rattle.hs_law_agent.specs.State.{GivenPlace}
-use Rattle.hs_records.specs.Plain.{PlainWorkload}
-use Rattle.hs_law_sends.specs.Drawn.{DrawnPage}
-use Rattle.hs_words.specs.Ends.{Deed, Answer, answer_to, is_any_given, IsDeedAt, IsGot, Names, NoneSince, Spends, EachSpends}
-use Rattle.hs_words.specs.PoolHistory.{PoolEvent, is_missed}
+use Rattle.hs_words.specs.Ends.{IsGot, Names, NoneSince, Spends, EachSpends}
 use Rattle.hs_words.specs.PoolHistory as pool
-use Rattle.hs_words.proofs.Deeds.{at_below}
-use Rattle.hs_law_journal.specs.Following.{NodeRun, Run}
-use Rattle.hs_law_journal.specs.Pooled.{StampedPoolEvent, given_page, pool_events, has_buffer, is_touched, answers_draw, gives_answer}
-use Rattle.hs_law_journal.specs.Doings.{NodeDoings, journal_of, node_at_end}
-use Rattle.hs_law_run.specs.Playing.{DoingsAreFollowed, GivesAnswer}
-use Rattle.hs_law_run.specs.Pools.{give_of, give_at, IsPooled}
+use Rattle.hs_law_journal.specs.Pooled.{has_buffer, is_touched, answers_draw, gives_answer}
+use Rattle.hs_law_run.specs.Playing.{GivesAnswer}
 use Rattle.hs_law_run.proofs.Answers.{own, answers, answers_are, drawers}
 use Rattle.hs_law_run.proofs.Clauses.{mapped_true}
 use Rattle.hs_law_run.proofs.Pools.{pool_is, pool_event, ordered, gives_in, misses_in}

@@ -1,21 +1,9 @@
 -- What a giver's turns tell of the events of its agent.
 use Rattle.std.proofs.Common.{◌≡◌, ◌⊎◌, inl, inr, ℕ, ◌+◌, true, List, [], ◌∷◌, ◌++◌, reverse, refl, sym, ap, subst, ◌∙◌, Option, Some, None, arith, map, filter, slice_get, append-nil}
-use Rattle.std.specs.List.{AllByRecursion, filter_map, cons_option}
-use Rattle.std.proofs.lemmas.List.{map-append}
-use Rattle.std.proofs.lemmas.List.Elements.{filter-append, filter_map-append}
-use Rattle.hs_lists.proofs.Parts.{reverse_cons}
-use Rattle.hs_lists.proofs.Alls.{all_append}
-use Rattle.hs_law_agent.specs.Laws.{noted_as, EventsAddThis}
-use Rattle.hs_law_agent.specs.State.{AgentState, GivenPlace, start}
-use Rattle.hs_law_agent.specs.Stepping.{Chunk, Crumbed, Triggered, Asked, Turn as Turned, Input, Answered, Given, Missed, Unread, AgentEvent, Took, Gave, step_of, step_of_answer, give_back, after, after_from, after_event}
-use Rattle.hs_records.specs.Plain.{PlainSettings}
-use Rattle.hs_words.specs.Ends.{Answer, GiverTurn, answered, unread, met, answers_in, is_any_given}
-use Rattle.hs_words.specs.PoolHistory.{is_missed}
+use Rattle.hs_law_run.proofs.Prelude.{AllByRecursion, filter_map, cons_option, map-append, filter-append, filter_map-append, reverse_cons, all_append, noted_as, EventsAddThis, AgentState, GivenPlace, start, Chunk, Crumbed, Triggered, Asked, Answered, Given, Missed, Unread, AgentEvent, Took, Gave, step_of_answer, after, after_from, after_event, PlainSettings, Answer, GiverTurn, answered, unread, met, answers_in, is_any_given, is_missed, step_stamp, log_stamps, steps_of, miss_in, Lent, AreTurns}
+use Rattle.hs_law_agent.specs.Stepping.{Turn as Turned, Input, step_of, give_back}
 use Rattle.hs_words.specs.PoolHistory as pool
-use Rattle.hs_law_journal.specs.Shape.{step_stamp, log_stamps}
-use Rattle.hs_law_journal.specs.Doings.{steps_of}
-use Rattle.hs_law_run.specs.Pools.{miss_in}
-use Rattle.hs_law_journal.specs.Turns.{Lent, IsOffered, AreTurns, Begins, Takes, Offers, Meets}
+use Rattle.hs_law_journal.specs.Turns.{IsOffered, Begins, Takes, Offers, Meets}
 use Rattle.hs_law_run.proofs.Lists.{filter_map_last, last_or_earlier, StandsEarlier}
 
 pub after_last : (settings : PlainSettings) (node : ℕ) (events : List AgentEvent) (event : AgentEvent) → after settings node (events ++ event ∷ []) ≡ after_event settings node (after settings node events) event

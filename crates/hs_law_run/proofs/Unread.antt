@@ -1,47 +1,21 @@
 -- The draw whose entry an unread offer would fill is that of a page at the offer's place.
 use Rattle.std.proofs.Common.{◌≡◌, inl, inr, ℕ, zero, suc, ◌+◌, ◌-◌, ◌*◌, ◌<◌, ◌≤◌, Bool, true, false, ◌==◌, cond, List, [], ◌∷◌, ◌++◌, length, reverse, refl, sym, ap, subst, ◌∙◌, Option, Some, None, arith, map, filter, option_map, slice_get, take, zip, not, ◌&&◌, nat_lt, nat_le, ltb-true, ltb-false, le-leb, eq-eqb, eqb-true, count_by, append-nil, append_assoc}
-use Rattle.std.specs.List.{AllByRecursion, flat_map, range_with_len, list_any, list_all}
-use Rattle.std.proofs.lemmas.Bool.{and_from, and_parts}
-use Rattle.std.proofs.lemmas.List.{length-map, length-append, length-reverse, take-map, map-append}
-use Rattle.std.proofs.lemmas.Option.{slice_get-map, same_Some}
-use Rattle.hs_journal.specs.declared.journal.Draw.{Draw}
+use Rattle.hs_law_run.proofs.Prelude.{AllByRecursion, flat_map, range_with_len, list_any, list_all, and_from, and_parts, length-map, length-append, length-reverse, take-map, map-append, slice_get-map, same_Some, Draw, PlainJournal, noted_as, EventsAddThis, sheets_of, Taken, AgentState, GivenPlace, start, after, after_from, after_event, Sheet, IsUnreadAt, IsPooledUnread, DoingsAreFollowed, PlainSettings, PlainWorkload, DrawnPage, stamp_of, drawn_from, Deed, Answer, answer_to, answers_in, told_in, is_any_given, IsDeedAt, IsDraw, PoolEvent, NodeRun, Run, by_stamp, page_of, given_page, pool_events, round_of, state_behind, is_turn, is_unread, Step, draw_is_at, NodeDoings, all_events, steps_of, journal_of, node_at_end, draw_answer, give_of, give_at, IsPooled, pages_at, ClientId, ClientSends, client_sends, operations_at, draws_at, place_of, TimedPage, timed_pages, log_stamps, rise, rise_above, option_and_then, option_map_or, all_front, all_back, all_each, all_append, all_map, all_at, all_reverse, get_front, list_any_none}
 use Rattle.hs_journal.specs.declared.journal.Draw.TheVariants as draws
-use Rattle.hs_journal.specs.Views.{PlainJournal}
-use Rattle.hs_law_agent.specs.Laws.{noted_as, EventsAddThis, brought_by, sheets_of}
-use Rattle.hs_law_agent.specs.Standings.{Taken}
-use Rattle.hs_law_agent.specs.State.{AgentState, GivenPlace, start}
-use Rattle.hs_law_agent.specs.Stepping.{after, after_from, after_event}
+use Rattle.hs_law_agent.specs.Laws.{brought_by}
 use Rattle.hs_law_agent.specs.Stepping as stepping
-use Rattle.hs_words.specs.Pages.{Sheet}
-use Rattle.hs_law_run.specs.Unread.{IsUnreadAt, IsPooledUnread, UnreadCouldBe}
-use Rattle.hs_law_run.specs.Playing.{DoingsAreFollowed}
+use Rattle.hs_law_run.specs.Unread.{UnreadCouldBe}
 use Rattle.hs_law_run.proofs.Clauses.{mapped_true}
-use Rattle.hs_records.specs.Plain.{PlainSettings, PlainWorkload}
-use Rattle.hs_law_sends.specs.Drawn.{DrawnPage, has_buffer, stamp_of, drawn_from}
-use Rattle.hs_words.specs.Ends.{Deed, Answer, answer_to, answers_in, told_in, got_by, is_any_given, IsDeedAt, IsDraw, SpendsThe}
-use Rattle.hs_words.specs.PoolHistory.{PoolEvent}
+use Rattle.hs_law_sends.specs.Drawn.{has_buffer}
+use Rattle.hs_words.specs.Ends.{got_by, SpendsThe}
 use Rattle.hs_words.specs.PoolHistory as pool
-use Rattle.hs_law_journal.specs.Following.{NodeRun, Run}
-use Rattle.hs_law_journal.specs.Pooled.{by_stamp, node_pages, page_of, given_page, pool_events}
-use Rattle.hs_law_journal.specs.Unreads.{round_of, pages_by_stamp, same_page, is_given_in, is_drawn_past, offer_place, may_be_uncollected, may_be_unread, before_unreads}
-use Rattle.hs_law_journal.specs.Played.{state_behind}
-use Rattle.hs_law_journal.specs.Passes.{is_turn, is_unread}
-use Rattle.hs_journal.specs.declared.journal.Step.{Step}
-use Rattle.hs_words.proofs.Deeds.{at_once, draw_is_at}
-use Rattle.hs_law_journal.specs.Doings.{NodeDoings, all_events, steps_of, journal_of, node_at_end}
-use Rattle.hs_law_run.specs.Pools.{draw_answer, give_of, give_at, IsPooled}
-use Rattle.hs_law_run.specs.Facts.{pages_at}
+use Rattle.hs_law_journal.specs.Pooled.{node_pages}
+use Rattle.hs_law_journal.specs.Unreads.{pages_by_stamp, same_page, is_given_in, is_drawn_past, offer_place, may_be_uncollected, may_be_unread, before_unreads}
+use Rattle.hs_words.proofs.Deeds.{at_once}
 use Rattle.hs_law_run.proofs.Answers.{at_stamp, own, answers, answers_are, stamps, stamps_rise, drawers}
 use Rattle.hs_law_run.proofs.Spent.{of_kept}
-use Rattle.hs_base.specs.declared.ids.ClientId.{ClientId}
-use Rattle.hs_law_sends.specs.Sending.{ClientSends, client_sends, operations_at, draws_at, place_of}
-use Rattle.hs_law_sends.specs.Timing.{TimedPage, timed_pages}
-use Rattle.hs_law_journal.specs.Shape.{log_stamps, rise, rise_above}
 use Rattle.hs_law_journal.proofs.Logs.{above_all, stamps_both}
-use Rattle.std.specs.Option.{option_and_then, option_map_or}
-use Rattle.hs_lists.proofs.Alls.{all_front, all_back, all_each, all_append, all_map, all_at, all_filter, all_flat_map, all_reverse}
-use Rattle.hs_lists.proofs.Places.{get_front}
-use Rattle.hs_lists.proofs.Tests.{list_any_none}
+use Rattle.hs_lists.proofs.Alls.{all_filter, all_flat_map}
 use Rattle.hs_law_run.proofs.Counted.{below, below_both, below_all, few_below}
 use Rattle.hs_law_run.proofs.DrawPlaces.{draws_in_order, draw_at, page_answer, client_pages, pages_in_order, proper, all_pages}
 use Rattle.hs_law_run.proofs.Nodes.{own_log}

@@ -1,25 +1,7 @@
 -- What an unread offer shows, by what is known in the end.
 use Rattle.std.proofs.Common.{◌≡◌, ℕ, zero, suc, ◌+◌, ◌-◌, ◌<◌, ◌≤◌, Bool, true, false, ◌==◌, ◌||◌, List, [], ◌∷◌, ◌++◌, length, refl, sym, ap, subst, ◌∙◌, arith, take, min, count_by, append_assoc}
-use Rattle.std.specs.List.{AllByRecursion, list_any}
-use Rattle.std.proofs.lemmas.Option.{slice_get_within}
-use Rattle.hs_lists.proofs.Alls.{all_front, all_each, all_at, all_by_place}
-use Rattle.hs_lists.proofs.Places.{get_some}
-use Rattle.hs_journal.specs.Views.{PlainJournal}
-use Rattle.hs_law_agent.specs.Laws.{EventsAddThis}
-use Rattle.hs_law_agent.specs.Stepping.{Unread, AgentEvent, Gave}
-use Rattle.hs_records.specs.Plain.{PlainWorkload}
-use Rattle.hs_law_sends.specs.Drawn.{DrawnPage, stamp_of}
-use Rattle.hs_law_sends.specs.Laws.{TimedPagesAreTimely}
-use Rattle.hs_law_sends.specs.Sending.{client_sends}
-use Rattle.hs_words.specs.Ends.{Deed, Answer, GiverTurn, answered, unread, met, answers_in, told_in, IsUnread, EachUnread}
-use Rattle.hs_law_journal.specs.Passes.{is_turn}
-use Rattle.hs_law_journal.specs.Shape.{log_stamps}
-use Rattle.hs_law_journal.specs.Unreads.{round_of}
-use Rattle.hs_law_journal.specs.Doings.{joined, NodeDoings, all_events, events_in, steps_of, node_at_end}
-use Rattle.hs_law_journal.specs.LoopPasses.{IsPass}
-use Rattle.hs_law_run.specs.Facts.{pages_at}
-use Rattle.hs_law_run.specs.Pools.{draw_answer, give_at}
-use Rattle.hs_law_run.specs.Unread.{IsUnreadAt, IsPooledUnread}
+use Rattle.hs_law_run.proofs.Prelude.{AllByRecursion, list_any, slice_get_within, all_front, all_each, all_at, all_by_place, get_some, PlainJournal, EventsAddThis, Unread, AgentEvent, Gave, PlainWorkload, DrawnPage, stamp_of, TimedPagesAreTimely, client_sends, Deed, Answer, GiverTurn, answered, unread, met, answers_in, told_in, is_turn, log_stamps, round_of, joined, NodeDoings, all_events, events_in, steps_of, node_at_end, IsPass, pages_at, draw_answer, give_at, IsUnreadAt, IsPooledUnread}
+use Rattle.hs_words.specs.Ends.{IsUnread, EachUnread}
 use Rattle.hs_law_run.proofs.Pools.{stamp_same}
 use Rattle.hs_law_run.proofs.Following.{take_next}
 use Rattle.hs_law_run.proofs.PoolOf.{IsPoolOf}

@@ -1,15 +1,10 @@
 -- What is needed of a valid workload.
 use Rattle.std.proofs.Common.{◌≡◌, ℕ, suc, ◌+◌, ◌-◌, ◌*◌, ◌/◌, ◌%◌, ◌<◌, ◌≤◌, max, false, List, [], ◌∷◌, length, refl, Option, Some, None, unwrap_or, fold, arith, map, slice_get}
-use Rattle.std.specs.List.{AllByRecursion}
-use Rattle.std.proofs.Math.Nat.{div-lt_iff_lt-mul, mul-le-mul_right, mod-lt, mod-eq-sub-div-mul, div-mul-le_self}
-use Rattle.std.proofs.lemmas.Option.{slice_get_within}
-use Rattle.hs_lists.proofs.Alls.{all_at}
-use Rattle.hs_records.specs.Plain.{Operation, PlainWorkload}
-use Rattle.hs_records.specs.Records.{AreBracketed}
-use Rattle.hs_law_sends.specs.Sending.{place_of}
-use Rattle.hs_workload.specs.Validity.{IsClient, IsValid}
+use Rattle.hs_law_run.proofs.Prelude.{AllByRecursion, div-lt_iff_lt-mul, slice_get_within, all_at, Operation, PlainWorkload, AreBracketed, place_of, IsValid, rounds_of}
+use Rattle.std.proofs.Math.Nat.{mul-le-mul_right, mod-lt, mod-eq-sub-div-mul, div-mul-le_self}
+use Rattle.hs_workload.specs.Validity.{IsClient}
 use Rattle.hs_workload.specs.declared.word.Setting.TheVariants as settings
-use Rattle.hs_law_journal.specs.Ends.{rounds_for, rounds_of}
+use Rattle.hs_law_journal.specs.Ends.{rounds_for}
 use Rattle.hs_law_run.proofs.Rounds.{IsFit}
 
 pub fit_of : (W : PlainWorkload) → IsValid W → IsFit W

@@ -1,17 +1,11 @@
 -- What one operation more adds to what a client sends, to the page that is open and to what its autotriggers saw, by its kind.
 use Rattle.std.proofs.Common.{◌≡◌, ℕ, Bool, true, false, List, [], ◌∷◌, ◌++◌, length, reverse, Option, Some, None, refl, sym, subst}
-use Rattle.hs_base.specs.declared.ids.TraceId.{TraceId}
+use Rattle.hs_law_sends.proofs.Prelude.{TraceId, Trigger, AutoRule, Operation, Begin, Point, End, Fire, Sample, NumberedOperation, numbered_of, coming, Watch, HasSampled, AreWatching, has_open_page, crumb_in, samples_of, trigger_in}
 use Rattle.hs_base.specs.declared.ids.NodeId.{NodeId}
-use Rattle.hs_base.specs.declared.told.Trigger.{Trigger}
-use Rattle.hs_base.specs.declared.settings.AutoRule.{AutoRule}
-use Rattle.hs_records.specs.Plain.{Operation, Begin, Point, End, Fire, Sample}
 use Rattle.hs_records.specs.Plain as plain
-use Rattle.hs_records.specs.Records.{NumberedOperation, numbered_of, coming}
 use Rattle.hs_auto.specs.Firing as firing
-use Rattle.hs_auto.specs.Watching.{Watch, HasSampled}
-use Rattle.hs_law_sends.specs.OneMore.{AreWatching, OneMoreOperation, OneMoreCrumb, OneMoreTrigger}
-use Rattle.hs_law_sends.specs.SoFar.{has_open_page}
-use Rattle.hs_law_sends.specs.Sending.{crumb_in, sample_in, samples_of, trigger_in}
+use Rattle.hs_law_sends.specs.OneMore.{OneMoreOperation, OneMoreCrumb, OneMoreTrigger}
+use Rattle.hs_law_sends.specs.Sending.{sample_in}
 
 -- what is known of one operation more
 pub record OneMore : Type 0 where

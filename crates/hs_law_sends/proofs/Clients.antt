@@ -1,9 +1,9 @@
 -- The clients of a valid workload.
 use Rattle.std.proofs.Common.{ℕ, zero, suc, ◌<◌, ◌≤◌, List, [], ◌∷◌, length, arith}
-use Rattle.std.specs.Prelude.{slice_get, unwrap_or}
-use Rattle.std.specs.List.{AllByRecursion}
+use Rattle.hs_law_sends.proofs.Prelude.{slice_get, AllByRecursion, Operation}
+use Rattle.std.specs.Prelude.{unwrap_or}
 use Rattle.hs_base.specs.declared.limits.TheConstants.{MAX_OPERATIONS}
-use Rattle.hs_records.specs.Plain.{Operation, PlainSettings, PlainWorkload}
+use Rattle.hs_records.specs.Plain.{PlainSettings, PlainWorkload}
 use Rattle.hs_law_sends.specs.Sending.{operations_at}
 use Rattle.hs_workload.specs.declared.word.Setting.TheVariants as words
 use Rattle.hs_workload.specs.Validity.{IsValid, IsClient, client_pieces, workload_pieces}

@@ -1,19 +1,14 @@
 -- Where pages are cut between two operations: some are sent before, one may be started before and be sent later, and the others are
 -- started later. Of the pages of pieces that have others behind them all but the last stay as they are, and the last may take more.
 use Rattle.std.proofs.Common.{◌≡◌, ℕ, zero, suc, ◌+◌, ◌-◌, ◌<◌, ◌≤◌, Bool, true, false, cond, leb, ltb, List, [], ◌∷◌, ◌++◌, length, refl, sym, ap, ap₂, subst, ◌∙◌, ⊎_elim, arith, map, filter, take, drop, get_or, append_assoc, length-append, length-drop}
-use Rattle.std.specs.List.{AllByRecursion}
-use Rattle.std.proofs.lemmas.Bool.{cases_lt, lt-ltb, le-ltb}
-use Rattle.std.proofs.lemmas.List.{append-nil, take-append-le, drop-append-le}
-use Rattle.std.proofs.lemmas.List.Elements.{filter-append}
+use Rattle.hs_law_sends.proofs.Prelude.{AllByRecursion, lt-ltb, le-ltb, append-nil, filter-append, all_append, TraceId, count_beside, PlainPage, cost_of, page_room, fits, Piece, pages_within, TimedPage, started_by, timed}
+use Rattle.std.proofs.lemmas.Bool.{cases_lt}
+use Rattle.std.proofs.lemmas.List.{take-append-le, drop-append-le}
 use Rattle.std.proofs.Math.Seq.{drop-append-add}
-use Rattle.hs_lists.proofs.Alls.{all_append, all_drop}
+use Rattle.hs_lists.proofs.Alls.{all_drop}
 use Rattle.hs_lists.proofs.Parts.{drop_length}
-use Rattle.hs_base.specs.declared.ids.TraceId.{TraceId}
-use Rattle.hs_records.specs.Fronts.{count_beside}
-use Rattle.hs_records.specs.Pages.{PlainPage, cost_of, page_room, fits}
-use Rattle.hs_records.specs.Records.{Piece}
-use Rattle.hs_law_sends.specs.SoFar.{started_within, pages_within}
-use Rattle.hs_law_sends.specs.Timing.{TimedPage, started_by, sent_by, timed}
+use Rattle.hs_law_sends.specs.SoFar.{started_within}
+use Rattle.hs_law_sends.specs.Timing.{sent_by}
 use Rattle.hs_law_sends.proofs.Timed.{page_in}
 use Rattle.hs_law_sends.proofs.Timely.{page_with, HasPieces, runs_then}
 

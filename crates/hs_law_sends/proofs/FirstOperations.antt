@@ -1,18 +1,8 @@
 -- The pages of a client, cut before an operation: those of the segments that were ended before it were sent, the segment that is open
 -- there has its pages so far, and all other pages are started later.
 use Rattle.std.proofs.Common.{◌≡◌, ◌⊎◌, inl, inr, ⊎_elim, ℕ, zero, suc, ◌+◌, ◌<◌, ◌≤◌, Bool, true, false, cond, leb, List, [], ◌∷◌, ◌++◌, length, refl, sym, ap, subst, ◌∙◌, Option, Some, None, arith, map, take, drop, get_or, append_assoc, length-append}
-use Rattle.std.specs.List.{AllByRecursion, flat_map}
-use Rattle.std.proofs.lemmas.List.{append-nil}
-use Rattle.hs_lists.proofs.Alls.{all_append}
-use Rattle.hs_base.specs.declared.ids.TraceId.{TraceId}
-use Rattle.hs_base.specs.declared.limits.TheConstants.{MIN_SIZE}
-use Rattle.hs_records.specs.Laws.{CarryRecords, CarriesRecords, traces_of}
-use Rattle.hs_records.specs.Pages.{PlainPage, segment_pages, pages_of}
-use Rattle.hs_records.specs.Plain.{Operation, Begin, Point, Crumb, End, Fire, Sample}
-use Rattle.hs_records.specs.Records.{Piece, Segment, AreBracketed, cut_within, numbered_from, payload_pieces, piece_limit, pieces_until_end, record_pieces, records_of, segments_from}
-use Rattle.hs_law_sends.specs.Laws.{IsTimely}
-use Rattle.hs_law_sends.specs.SoFar.{has_open_page, FirstOperationsSend}
-use Rattle.hs_law_sends.specs.Timing.{TimedPage, point_numbers, timed, timed_pages}
+use Rattle.hs_law_sends.proofs.Prelude.{AllByRecursion, flat_map, append-nil, all_append, TraceId, MIN_SIZE, CarryRecords, CarriesRecords, traces_of, PlainPage, segment_pages, pages_of, Operation, Begin, Point, Crumb, End, Fire, Sample, Piece, Segment, AreBracketed, numbered_from, payload_pieces, pieces_until_end, records_of, segments_from, IsTimely, has_open_page, FirstOperationsSend, TimedPage, point_numbers, timed, timed_pages}
+use Rattle.hs_records.specs.Records.{cut_within, piece_limit, record_pieces}
 use Rattle.hs_law_sends.proofs.Cutting.{Early, Late, Cut, behind_early, before_late, all_late, started_count, sent_are, has_some, cut_runs}
 use Rattle.hs_law_sends.proofs.Timed.{page_in, page_each}
 use Rattle.hs_law_sends.proofs.Timely.{HasPieces, Rise, sooner, highest, runs_timely, same_point, points_in, ends_in, get_behind, all_pages, Points, Full, full_parts, closed, opened}

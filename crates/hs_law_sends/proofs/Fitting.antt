@@ -1,20 +1,14 @@
 -- A page takes no more pieces than it has room for.
 use Rattle.std.proofs.Common.{◌≡◌, ℕ, zero, suc, ◌+◌, ◌≤◌, Bool, true, false, cond, List, [], ◌∷◌, ◌++◌, length, refl, ap, arith, map, take, drop, zip, leb}
+use Rattle.hs_law_sends.proofs.Prelude.{AllByRecursion, flat_map, ClientId, TraceId, MIN_SIZE, sheet_for, count_beside, PlainPage, cost_of, page_room, fits, runs_within, segment_pages, Piece, Segment, segments_of, TimedPage, point_numbers, end_numbers, timed}
 use Rattle.std.specs.Prelude.{sum_by}
-use Rattle.std.specs.List.{AllByRecursion, flat_map}
 use Rattle.std.proofs.lemmas.Bool.{leb-true}
 use Rattle.std.proofs.lemmas.List.Sums.{sum_by-cons}
-use Rattle.hs_base.specs.declared.ids.ClientId.{ClientId}
-use Rattle.hs_base.specs.declared.ids.TraceId.{TraceId}
-use Rattle.hs_base.specs.declared.limits.TheConstants.{MIN_SIZE}
-use Rattle.hs_client.specs.Calls.{written, sheet_for}
-use Rattle.hs_records.specs.Fronts.{count_beside}
-use Rattle.hs_records.specs.Pages.{PlainPage, cost_of, page_room, fits, runs_within, runs_of, segment_pages}
-use Rattle.hs_records.specs.Records.{Piece, Segment, segments_of}
+use Rattle.hs_client.specs.Calls.{written}
+use Rattle.hs_records.specs.Pages.{runs_of}
 use Rattle.hs_words.specs.Chunks.{used_of}
 use Rattle.hs_words.specs.Pages as page
 use Rattle.hs_law_sends.specs.Laws.{PagesFit}
-use Rattle.hs_law_sends.specs.Timing.{TimedPage, point_numbers, end_numbers, timed}
 
 -- ---- costs
 

@@ -1,23 +1,13 @@
 -- A core's chunks beside the pages of its operations: the last of them is with the core where the core has a page, and all others were
 -- handed out.
 use Rattle.std.proofs.Common.{◌≡◌, ℕ, suc, ◌+◌, Bool, true, false, cond, List, [], ◌∷◌, ◌++◌, length, refl, sym, ap, ap₂, ◌∙◌, Option, Some, None, arith, map, option_map, length-append}
-use Rattle.std.specs.Prelude.{is_some}
+use Rattle.hs_law_sends.proofs.Prelude.{is_some, flat_map, append-nil, ClientId, TraceId, sheet_for, Draw, PlainPage, segment_pages, pages_of, Sheet, drawn_from, sent_chunks, has_open_page, FirstOperationsSend, FirstChunksAreSent, pages_within, TimedPage, timed_pages}
 use Rattle.std.specs.Option.{option_to_list, option_and_then}
-use Rattle.std.specs.List.{flat_map}
-use Rattle.std.proofs.lemmas.List.{append-nil}
-use Rattle.hs_base.specs.declared.ids.ClientId.{ClientId}
-use Rattle.hs_base.specs.declared.ids.TraceId.{TraceId}
-use Rattle.hs_client.specs.Calls.{IsBook, AreSteps, after, pages_of_steps, draws_supplied, chunks_supplied, handed_out, filled, filled_chunks, sheet_for}
+use Rattle.hs_client.specs.Calls.{IsBook, AreSteps, after, pages_of_steps, draws_supplied, chunks_supplied, handed_out, filled, filled_chunks}
 use Rattle.hs_client.specs.Core.{Core, Current, Step, Began, Wrote, Needed, Supplied, Ended_, Refused, new_core, handed, draw_of}
-use Rattle.hs_journal.specs.declared.journal.Draw.{Draw}
-use Rattle.hs_records.specs.Pages.{PlainPage, segment_pages, pages_of}
 use Rattle.hs_words.specs.Buffers.{Buffer}
-use Rattle.hs_words.specs.Pages.{Sheet}
-use Rattle.hs_law_sends.specs.Drawn.{has_buffer, drawn_from}
+use Rattle.hs_law_sends.specs.Drawn.{has_buffer}
 use Rattle.hs_law_sends.specs.HandedOut.{CoresHandOutSoFar, sheets_in, sheets_of_items}
-use Rattle.hs_law_sends.specs.Sending.{sent_chunks}
-use Rattle.hs_law_sends.specs.SoFar.{has_open_page, FirstOperationsSend, FirstChunksAreSent, pages_within}
-use Rattle.hs_law_sends.specs.Timing.{TimedPage, timed_pages}
 use Rattle.hs_law_sends.proofs.Timed.{page_in}
 
 -- ---- the chunk that a core has

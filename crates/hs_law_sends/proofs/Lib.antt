@@ -1,3 +1,4 @@
+mod Prelude
 pub mod Timed
 pub mod Timely
 pub mod Fitting

@@ -1,16 +1,9 @@
 -- One operation more sends its crumb or its triggers behind what the earlier ones sent.
 use Rattle.std.proofs.Common.{◌≡◌, ℕ, suc, ◌+◌, List, [], ◌∷◌, ◌++◌, length, map, reverse, Option, None, refl, sym, ap, ◌∙◌, arith, append_assoc, Bool, true, false, Some, subst}
-use Rattle.std.proofs.lemmas.List.{append-nil, map-append, reverse-append}
+use Rattle.hs_law_sends.proofs.Prelude.{append-nil, is_some, flat_map, TraceId, Trigger, AutoRule, Operation, Begin, Point, End, Fire, Sample, NumberedOperation, numbered_from, numbered_of, open_behind, AreBracketed, Sent, crumb_in, sent_crumbs, trigger_in, triggers_behind, sent_triggers}
+use Rattle.std.proofs.lemmas.List.{map-append, reverse-append}
 use Rattle.std.proofs.lemmas.Grind.{flat_map-append}
-use Rattle.std.specs.Prelude.{is_some}
-use Rattle.std.specs.List.{flat_map}
-use Rattle.hs_base.specs.declared.ids.TraceId.{TraceId}
 use Rattle.hs_base.specs.declared.told.Crumb.{Crumb}
-use Rattle.hs_base.specs.declared.told.Trigger.{Trigger}
-use Rattle.hs_base.specs.declared.settings.AutoRule.{AutoRule}
-use Rattle.hs_records.specs.Plain.{Operation, Begin, Point, End, Fire, Sample}
-use Rattle.hs_records.specs.Records.{NumberedOperation, numbered_from, numbered_of, open_behind, AreBracketed}
-use Rattle.hs_law_sends.specs.Sending.{Sent, crumb_in, sent_crumbs, trigger_in, triggers_behind, sent_triggers}
 use Rattle.hs_law_sends.specs.OneMore.{open_after, items_of, next_behind}
 use Rattle.hs_records.specs.Plain as plain
 

@@ -1,20 +1,8 @@
 -- Crumbs, triggers and chunks stand in the order of the operations that send them.
 use Rattle.std.proofs.Common.{ℕ, ◌+◌, ◌≤◌, List, [], ◌∷◌, ◌++◌, length, map, Option, None, arith, ◌≡◌, zero, suc, Some, sym, ap, ◌∙◌, refl}
-use Rattle.std.specs.List.{flat_map}
-use Rattle.std.proofs.lemmas.Option.{same_Some}
-use Rattle.std.specs.Prelude.{slice_get}
-use Rattle.hs_base.specs.declared.ids.ClientId.{ClientId}
-use Rattle.hs_base.specs.declared.ids.TraceId.{TraceId}
-use Rattle.hs_base.specs.declared.settings.AutoRule.{AutoRule}
-use Rattle.hs_journal.specs.declared.journal.Draw.{Draw}
-use Rattle.hs_journal.specs.declared.journal.Draw.TheVariants.{Got, Empty}
-use Rattle.hs_records.specs.Plain.{Operation}
-use Rattle.hs_records.specs.Records.{NumberedOperation, numbered_from, open_behind}
-use Rattle.hs_law_sends.specs.Drawn.{drawn_from, DrawnPage}
-use Rattle.hs_law_sends.specs.Laws.{IsTimely, TimedPagesAreTimely}
+use Rattle.hs_law_sends.proofs.Prelude.{flat_map, same_Some, slice_get, ClientId, TraceId, AutoRule, Draw, Got, Empty, Operation, NumberedOperation, numbered_from, open_behind, drawn_from, IsTimely, TimedPagesAreTimely, Sent, sent_chunks, crumb_in, trigger_in, triggers_behind, TimedPage, timed_pages}
+use Rattle.hs_law_sends.specs.Drawn.{DrawnPage}
 use Rattle.hs_law_sends.specs.Order.{AreInOrder, CrumbsAreInOrder, TriggersAreInOrder, ChunksAreInOrder}
-use Rattle.hs_law_sends.specs.Sending.{Sent, sent_chunks, crumb_in, trigger_in, triggers_behind}
-use Rattle.hs_law_sends.specs.Timing.{TimedPage, timed_pages}
 use Rattle.hs_law_sends.specs.Draws.{next_draws}
 
 module _ {A : Type 0} where

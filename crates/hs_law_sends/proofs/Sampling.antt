@@ -1,21 +1,14 @@
 -- What a sample leaves of the autotriggers that a client has, and what it sends.
 use Rattle.std.proofs.Common.{◌≡◌, ℕ, zero, suc, Bool, List, [], ◌∷◌, ◌++◌, map, set, Option, Some, None, inl, inr, eq-eqb, ne_eqb, refl, sym, ap, ◌∙◌, subst}
-use Rattle.std.proofs.lemmas.Option.{same_Some}
-use Rattle.std.specs.Prelude.{slice_get, if◌then◌else◌}
+use Rattle.hs_law_sends.proofs.Prelude.{same_Some, slice_get, TraceId, Trigger, AutoRule, Operation, Sample, NumberedOperation, coming, Watch, HasSampled, AreWatching, crumb_in, samples_of}
+use Rattle.std.specs.Prelude.{if◌then◌else◌}
 use Rattle.hs_lists.proofs.Places.{get_set_cases}
-use Rattle.hs_base.specs.declared.ids.TraceId.{TraceId}
 use Rattle.hs_base.specs.declared.ids.TriggerId.{TriggerId}
-use Rattle.hs_base.specs.declared.told.Trigger.{Trigger}
-use Rattle.hs_base.specs.declared.settings.AutoRule.{AutoRule}
 use Rattle.hs_base.specs.Rules.{fired_by}
-use Rattle.hs_records.specs.Plain.{Operation, Sample}
-use Rattle.hs_records.specs.Records.{NumberedOperation, coming}
 use Rattle.hs_auto.specs.Firing as firing
-use Rattle.hs_auto.specs.Watching.{Watch, HasSampled}
 use Rattle.hs_auto.specs.declared.sampled.Sampled.{Sampled}
 use Rattle.hs_auto.specs.declared.sampled.Sampled.TheVariants as answers
-use Rattle.hs_law_sends.specs.OneMore.{AreWatching}
-use Rattle.hs_law_sends.specs.Sending.{crumb_in, samples_of, trigger_of}
+use Rattle.hs_law_sends.specs.Sending.{trigger_of}
 use Rattle.hs_law_sends.proofs.Adding.{at}
 
 -- ---- the autotriggers

@@ -1,13 +1,8 @@
 -- Each segment of a client that ends its traces meets its end, so no page is left out.
 use Rattle.std.proofs.Common.{◌≡◌, ℕ, suc, ◌+◌, ◌≤◌, Bool, true, false, List, [], ◌∷◌, ◌++◌, length, refl, ap, ◌∙◌, Option, None, arith}
+use Rattle.hs_law_sends.proofs.Prelude.{flat_map, TraceId, Operation, Begin, Point, Crumb, End, Fire, Sample, PlainPage, segment_pages, AreBracketed, NumberedOperation, Segment, numbered_from, open_behind, segments_from, segments_of, TimedPage, is_end, timed, point_numbers, end_numbers}
 use Rattle.std.specs.Prelude.{map, filter, zip}
-use Rattle.std.specs.List.{flat_map}
-use Rattle.hs_base.specs.declared.ids.TraceId.{TraceId}
-use Rattle.hs_records.specs.Plain.{Operation, Begin, Point, Crumb, End, Fire, Sample}
-use Rattle.hs_records.specs.Pages.{PlainPage, segment_pages}
-use Rattle.hs_records.specs.Records.{AreBracketed, NumberedOperation, Segment, numbered_from, open_behind, segments_from, segments_of}
 use Rattle.hs_law_sends.specs.Laws.{TimedPagesAreThePages}
-use Rattle.hs_law_sends.specs.Timing.{TimedPage, is_end, timed, point_numbers, end_numbers}
 
 abbrev pub page_in : TimedPage → PlainPage
 page_in p = p.page

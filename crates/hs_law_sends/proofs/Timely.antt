@@ -1,14 +1,7 @@
 -- A page is sent no earlier than it is started, and the next page of the client is started no earlier than that.
 use Rattle.std.proofs.Common.{◌≡◌, ℕ, zero, suc, ◌+◌, ◌≤◌, true, false, List, [], ◌∷◌, ◌++◌, length, refl, sym, ap, subst, ◌∙◌, Option, Some, None, arith, map, filter, take, drop, get_or, zip, append_assoc, length-append}
-use Rattle.std.specs.List.{AllByRecursion, flat_map}
-use Rattle.hs_base.specs.declared.ids.TraceId.{TraceId}
-use Rattle.hs_base.specs.declared.limits.TheConstants.{MIN_SIZE}
-use Rattle.hs_records.specs.Laws.{CarryRecords, CarriesRecords, traces_of}
-use Rattle.hs_records.specs.Pages.{PlainPage, fits, runs_within, segment_pages, pages_of}
-use Rattle.hs_records.specs.Plain.{Operation, Begin, Point, Crumb, End, Fire, Sample}
-use Rattle.hs_records.specs.Records.{NumberedOperation, Piece, Segment, AreBracketed, numbered_from, payload_pieces, record_at, records_of, pieces_until_end, segments_from}
-use Rattle.hs_law_sends.specs.Laws.{IsTimely, TimedPagesAreTimely}
-use Rattle.hs_law_sends.specs.Timing.{TimedPage, is_end, point_numbers, started_by, timed, timed_pages}
+use Rattle.hs_law_sends.proofs.Prelude.{AllByRecursion, flat_map, TraceId, MIN_SIZE, CarryRecords, CarriesRecords, traces_of, PlainPage, fits, runs_within, segment_pages, pages_of, Operation, Begin, Point, Crumb, End, Fire, Sample, NumberedOperation, Piece, Segment, AreBracketed, numbered_from, payload_pieces, records_of, pieces_until_end, segments_from, IsTimely, TimedPagesAreTimely, TimedPage, is_end, point_numbers, started_by, timed, timed_pages}
+use Rattle.hs_records.specs.Records.{record_at}
 
 -- ---- lists of pages in time
 

@@ -1,26 +1,10 @@
 -- Items by the operations that send them: those of the first operations are the items that these send by themselves.
 use Rattle.std.proofs.Common.{◌≡◌, ℕ, suc, ◌+◌, ◌<◌, ◌≤◌, false, ltb, List, [], ◌∷◌, ◌++◌, length, refl, sym, ap, ap₂, ◌∙◌, Option, None, arith, map, length-append, append-nil}
-use Rattle.std.specs.List.{AllByRecursion, flat_map}
-use Rattle.std.proofs.lemmas.Bool.{lt-ltb, le-ltb}
-use Rattle.std.proofs.lemmas.List.Elements.{filter-append}
-use Rattle.hs_lists.proofs.Alls.{all_append, all_each}
-use Rattle.hs_base.specs.declared.ids.ClientId.{ClientId}
-use Rattle.hs_base.specs.declared.ids.TraceId.{TraceId}
-use Rattle.hs_base.specs.declared.settings.AutoRule.{AutoRule}
+use Rattle.hs_law_sends.proofs.Prelude.{AllByRecursion, flat_map, lt-ltb, le-ltb, filter-append, all_append, ClientId, TraceId, AutoRule, Trigger, sheet_for, Draw, Got, Empty, pages_of, Operation, NumberedOperation, numbered_from, open_behind, Sheet, drawn_from, IsTimely, TimedPagesAreTimely, Sent, sent_chunks, sent_crumbs, sent_triggers, crumb_in, trigger_in, triggers_behind, has_open_page, FirstChunksAreSent, TimedPage, timed_pages}
+use Rattle.hs_lists.proofs.Alls.{all_each}
 use Rattle.hs_base.specs.declared.told.Crumb.{Crumb}
-use Rattle.hs_base.specs.declared.told.Trigger.{Trigger}
-use Rattle.hs_client.specs.Calls.{sheet_for}
-use Rattle.hs_journal.specs.declared.journal.Draw.{Draw}
-use Rattle.hs_journal.specs.declared.journal.Draw.TheVariants.{Got, Empty}
-use Rattle.hs_records.specs.Pages.{pages_of}
-use Rattle.hs_records.specs.Plain.{Operation}
-use Rattle.hs_records.specs.Records.{NumberedOperation, numbered_from, open_behind}
-use Rattle.hs_words.specs.Pages.{Sheet}
-use Rattle.hs_law_sends.specs.Drawn.{drawn_from}
-use Rattle.hs_law_sends.specs.Laws.{IsTimely, TimedPagesAreTimely}
-use Rattle.hs_law_sends.specs.Sending.{Sent, sent_within, sent_chunks, sent_crumbs, sent_triggers, crumb_in, trigger_in, triggers_behind}
-use Rattle.hs_law_sends.specs.SoFar.{has_open_page, FirstCrumbsAreSent, FirstTriggersAreSent, FirstChunksAreSent, AllChunksAreSent, AllCrumbsAreSent, AllTriggersAreSent}
-use Rattle.hs_law_sends.specs.Timing.{TimedPage, timed_pages}
+use Rattle.hs_law_sends.specs.Sending.{sent_within}
+use Rattle.hs_law_sends.specs.SoFar.{FirstCrumbsAreSent, FirstTriggersAreSent, AllChunksAreSent, AllCrumbsAreSent, AllTriggersAreSent}
 use Rattle.hs_law_sends.proofs.Cutting.{Early, Open, Late, sent_are}
 use Rattle.hs_law_sends.proofs.FirstOperations.{AllCarry, first_cut}
 

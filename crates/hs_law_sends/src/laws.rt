@@ -5,7 +5,7 @@ ghost use Rattle.hs_law_sends.specs.SoFar.{FirstOperationsSend, FirstCrumbsAreSe
 ghost use Rattle.hs_law_sends.specs.HandedOut.{CoresHandOutSoFar};
 ghost use Rattle.hs_law_sends.specs.OneMore.{OneMoreOperation, OneMoreCrumb, OneMoreTrigger};
 ghost use Rattle.hs_law_sends.specs.Order.{CrumbsAreInOrder, TriggersAreInOrder, ChunksAreInOrder};
-ghost use Rattle.std.specs.Prelude.{ℕ, length};
+ghost use Rattle.std.specs.Prelude.{ℕ, ◌<◌, length};
 ghost use Rattle.hs_records.specs.Plain.{PlainWorkload};
 ghost use Rattle.hs_law_sends.specs.Sending.{operations_at};
 ghost use Rattle.hs_workload.specs.Validity.{IsValid};

@@ -1,21 +1,11 @@
 -- A client that has recorded some pieces of a payload, and has the rest of it still to record.
 use Rattle.std.proofs.Common.{◌≡◌, ℕ, suc, ◌+◌, ◌-◌, ◌<◌, ◌≤◌, List, [], ◌∷◌, ◌++◌, length, map, take, drop, Bool, Option, IsSome, refl, sym, ap, ap₂, ◌∙◌, arith, subst, append_assoc, length-append}
-use Rattle.std.specs.List.{AllByRecursion}
-use Rattle.std.specs.Option.{option_to_list}
+use Rattle.hs_live.proofs.Prelude.{AllByRecursion, option_to_list, Piece, Segment, piece_limit, record_pieces, Drawn, PoolEvent, Got, Empty, Answer, Buffer, Core, after_step, closed, supplied, Outgoing, sent, Leased, Drawing, Draws, after_draw, Key, GoesOn, Made, Writing, IsSound, IsWriting, WritesPieces}
 use Rattle.hs_base.specs.declared.limits.TheConstants.{MIN_SIZE}
-use Rattle.hs_records.specs.Records.{Piece, Segment, piece_limit, payload_pieces, piece_count, record_pieces}
+use Rattle.hs_records.specs.Records.{payload_pieces, piece_count}
 use Rattle.hs_records.proofs.Payloads.{AreCut}
-use Rattle.hs_words.specs.declared.token.Drawn.{Drawn}
 use Rattle.hs_words.specs.declared.token.Drawn.TheVariants as drawn
-use Rattle.hs_words.specs.PoolHistory.{PoolEvent, Got, Empty}
-use Rattle.hs_words.specs.Ends.{Answer}
-use Rattle.hs_words.specs.Buffers.{Buffer}
-use Rattle.hs_client.specs.Core.{Core, after_step, closed, supplied}
-use Rattle.hs_link.specs.Contents.{Outgoing, sent}
-use Rattle.hs_ring.specs.Parts.{Leased, Drawing, Draws, after_draw}
-use Rattle.hs_live.specs.Keys.{Key}
-use Rattle.hs_live.specs.Live.{GoesOn}
-use Rattle.hs_live.specs.Writing.{Made, Writing, DrawsOn, IsDraw, IsDrawn, IsSound, Spends, IsWriting, WritesPieces}
+use Rattle.hs_live.specs.Writing.{DrawsOn, IsDraw, IsDrawn, Spends}
 use Rattle.hs_live.proofs.Senders.{goes_trans, goes_same}
 use Rattle.hs_live.proofs.Sound.{one_at_most}
 use Rattle.hs_live.proofs.Steps.{piece_of}

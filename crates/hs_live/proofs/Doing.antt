@@ -1,35 +1,21 @@
 -- A client that has done some operations does one more.
 use Rattle.std.proofs.Common.{◌≡◌, ℕ, ◌+◌, Bool, false, List, [], ◌∷◌, ◌++◌, reverse, Option, Some, None, IsSome, refl, sym, ap, ap₂, ◌∙◌, subst, append_assoc}
-use Rattle.std.proofs.lemmas.List.{append-nil, reverse-append}
-use Rattle.std.specs.Prelude.{is_some}
-use Rattle.hs_base.specs.declared.ids.ClientId.{ClientId}
-use Rattle.hs_base.specs.declared.ids.TraceId.{TraceId}
+use Rattle.hs_live.proofs.Prelude.{append-nil, reverse-append, is_some, ClientId, TraceId, Crumb, Trigger, Operation, Begin, Point, End, Fire, Piece, Segment, numbered_of, record_pieces, segments_from, segments_of, Watch, HasSampled, Core, Current, Step, Began, after_step, AreSteps, IsBook, May, with_all, Outgoing, sent, Leased, trigger_in, Key, PlainClient, Made, Writing, IsWriting, WritesPieces, writing_of, HasDone, AreWatching, OneMore, Does, DoesNothing, made_of}
 use Rattle.hs_base.specs.declared.ids.NodeId.{NodeId}
-use Rattle.hs_base.specs.declared.told.Crumb.{Crumb}
-use Rattle.hs_base.specs.declared.told.Trigger.{Trigger}
-use Rattle.hs_records.specs.Plain.{Operation, Begin, Point, End, Fire}
 use Rattle.hs_records.specs.Plain as plain
-use Rattle.hs_records.specs.Records.{NumberedOperation, Piece, Segment, numbered_of, open_behind, pieces_until_end, record_pieces, segments_from, segments_of, coming}
-use Rattle.hs_auto.specs.Watching.{Watch, HasSampled}
-use Rattle.hs_client.specs.Core.{Core, Current, Step, Began, after_step, new_core}
-use Rattle.hs_client.specs.Calls.{AreSteps, IsBook, May, with_all}
-use Rattle.hs_link.specs.Contents.{Outgoing, sent}
-use Rattle.hs_ring.specs.Parts.{Leased}
+use Rattle.hs_records.specs.Records.{NumberedOperation, open_behind, pieces_until_end, coming}
+use Rattle.hs_client.specs.Core.{new_core}
 use Rattle.hs_law_sends.specs.SoFar.{has_open_page}
-use Rattle.hs_law_sends.specs.Sending.{crumb_in, trigger_in}
-use Rattle.hs_live.specs.Keys.{Key}
-use Rattle.hs_live.specs.Live.{PlainClient}
-use Rattle.hs_live.specs.Writing.{Made, Writing, IsWriting, WritesPieces, WritesEnd, writing_of}
-use Rattle.hs_live.specs.Done.{HasDone}
-use Rattle.hs_law_sends.specs.OneMore.{next_behind, AreWatching}
-use Rattle.hs_law_sends.proofs.Adding.{OneMore, page_more, at, unseen, begin_unseen, point_unseen, end_unseen, crumb_unseen, fire_unseen, begin_no_crumb, begin_no_trigger, point_no_crumb, point_no_trigger, end_no_crumb, end_no_trigger, coming_crumb, crumb_no_trigger, coming_fire, fire_no_crumb, trigger_of_fire}
+use Rattle.hs_law_sends.specs.Sending.{crumb_in}
+use Rattle.hs_live.specs.Writing.{WritesEnd}
+use Rattle.hs_law_sends.specs.OneMore.{next_behind}
+use Rattle.hs_law_sends.proofs.Adding.{page_more, at, unseen, begin_unseen, point_unseen, end_unseen, crumb_unseen, fire_unseen, begin_no_crumb, begin_no_trigger, point_no_crumb, point_no_trigger, end_no_crumb, end_no_trigger, coming_crumb, crumb_no_trigger, coming_fire, fire_no_crumb, trigger_of_fire}
 use Rattle.hs_law_sends.proofs.OneMore.{open_push}
 use Rattle.hs_lists.proofs.Options.{is_some_true, some_item}
 use Rattle.hs_lists.proofs.Alls.{all_everywhere}
 use Rattle.hs_live.specs.declared.called.Called.{Called}
 use Rattle.hs_live.specs.declared.called.Called.TheVariants as called
-use Rattle.hs_live.specs.Done.{Does, DoesNothing}
-use Rattle.hs_live.specs.Calls.{IsNew, made_of, BeginsBy, EndsBy, WritesOnly, begun}
+use Rattle.hs_live.specs.Calls.{IsNew, BeginsBy, EndsBy, WritesOnly, begun}
 use Rattle.hs_live.proofs.Steps.{began_trace, writing_kept, made_size}
 
 abbrev Writes : Made → List Operation → List Operation → PlainClient → Type 0

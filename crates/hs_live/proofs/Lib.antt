@@ -1,3 +1,4 @@
+mod Prelude
 pub mod Senders
 pub mod Steps
 pub mod Sound

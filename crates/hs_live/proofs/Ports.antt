@@ -1,20 +1,12 @@
 -- Receivers by the number of their client.
 use Rattle.std.proofs.Common.{◌≡◌, ℕ, ◌<◌, List, [], ◌∷◌, ◌++◌, length, map, set, get_or, Option, Some, None, inl, inr, refl, sym, ap, ap₂, ◌∙◌, subst, length-set}
-use Rattle.std.proofs.lemmas.List.{map-append, length-map}
-use Rattle.std.proofs.lemmas.Option.{same_Some, slice_get-map, slice_get_within}
+use Rattle.hs_live.proofs.Prelude.{map-append, length-map, same_Some, slice_get-map, slice_get_within, slice_get, option_map, lent, lent_is, lent_from, Held, Buffer, buffer_of, buffer_in, Outgoing, IsBeginning, OneBegins, Leased, Giving, Key, outgoing, incoming, IsEnd, IsMate, ReceivesAt, IsOf}
 use Rattle.std.proofs.lemmas.List.{set-get_or}
 use Rattle.std.specs.Prelude.{IfSome, IfNone}
-use Rattle.std.specs.Prelude.{slice_get}
-use Rattle.std.specs.Option.{option_map}
-use Rattle.hs_lists.proofs.Lent.{lent, lent_is, lent_from}
 use Rattle.hs_lists.proofs.Places.{get_set_cases, map_set}
-use Rattle.hs_words.specs.declared.token.Held.{Held}
-use Rattle.hs_words.specs.Buffers.{Buffer, buffer_of, buffer_in}
-use Rattle.hs_link.specs.Contents.{Outgoing, Incoming, IsBeginning, OneBegins, IsSameReceiver, Contains}
-use Rattle.hs_ring.specs.Parts.{Leased, Giving}
-use Rattle.hs_live.specs.Keys.{Key}
-use Rattle.hs_live.specs.Live.{outgoing, incoming, hears, is_told, IsEnd, IsMate, MeetAt, ReceivesAt}
-use Rattle.hs_live.specs.Calls.{IsOf, AreOf}
+use Rattle.hs_link.specs.Contents.{Incoming, IsSameReceiver, Contains}
+use Rattle.hs_live.specs.Live.{hears, is_told, MeetAt}
+use Rattle.hs_live.specs.Calls.{AreOf}
 use Rattle.hs_live.proofs.Senders.{map_begins, map_one_begins}
 
 -- ---- a receiver that was lent

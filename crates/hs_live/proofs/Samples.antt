@@ -1,32 +1,16 @@
 -- A sample that an autotrigger of a client is given.
 use Rattle.std.proofs.Common.{◌≡◌, ℕ, ◌<◌, List, [], ◌∷◌, ◌++◌, length, set, get_or, reverse, Option, Some, refl, sym, ap, ◌∙◌, subst}
-use Rattle.std.proofs.lemmas.List.{append-nil}
-use Rattle.std.proofs.lemmas.Option.{same_Some, slice_get-map, slice_get_within}
-use Rattle.std.specs.Prelude.{slice_get}
-use Rattle.std.specs.Option.{option_map_or, option_map}
-use Rattle.hs_lists.proofs.Lent.{lent_from}
-use Rattle.hs_base.specs.declared.ids.TraceId.{TraceId}
+use Rattle.hs_live.proofs.Prelude.{append-nil, same_Some, slice_get-map, slice_get_within, slice_get, option_map, lent_from, TraceId, Crumb, Trigger, fired_by, Operation, Sample, Piece, numbered_of, segments_from, segments_of, Watch, HasSampled, Outgoing, sent, AreWatching, trigger_in, OneMore, Key, PlainClient, IsWriting, writing_of, Does}
+use Rattle.std.specs.Option.{option_map_or}
 use Rattle.hs_base.specs.declared.ids.TriggerId.{TriggerId}
-use Rattle.hs_base.specs.declared.told.Crumb.{Crumb}
-use Rattle.hs_base.specs.declared.told.Trigger.{Trigger}
 use Rattle.hs_base.specs.declared.settings.AutoRule.{AutoRule}
-use Rattle.hs_base.specs.Rules.{fired_by}
-use Rattle.hs_records.specs.Plain.{Operation, Sample}
-use Rattle.hs_records.specs.Records.{Piece, numbered_of, segments_from, segments_of}
 use Rattle.hs_auto.specs.Firing.{sampled}
 use Rattle.hs_auto.specs.Firing as firing
-use Rattle.hs_auto.specs.Watching.{Watch, HasSampled}
 use Rattle.hs_auto.specs.declared.sampled.Sampled.{Sampled}
-use Rattle.hs_link.specs.Contents.{Outgoing, sent}
-use Rattle.hs_law_sends.specs.OneMore.{AreWatching}
-use Rattle.hs_law_sends.specs.Sending.{samples_of, trigger_in, trigger_of}
+use Rattle.hs_law_sends.specs.Sending.{samples_of, trigger_of}
+use Rattle.hs_law_sends.proofs.Adding.{at}
 use Rattle.hs_law_sends.proofs.Sampling.{sample, fired_trigger, trigger_is, watches, coming_sample, sample_no_crumb}
-use Rattle.hs_law_sends.proofs.Adding.{OneMore}
 use Rattle.hs_live.specs.declared.called.Called.TheVariants as called
-use Rattle.hs_live.specs.Keys.{Key}
-use Rattle.hs_live.specs.Live.{PlainClient}
-use Rattle.hs_live.specs.Writing.{IsWriting, writing_of}
-use Rattle.hs_live.specs.Done.{Does}
 use Rattle.hs_live.proofs.Doing.{done_now}
 
 -- ---- the autotriggers

@@ -1,14 +1,10 @@
 -- Senders that go on, and what is seen of chunks with their leases.
 use Rattle.std.proofs.Common.{◌≡◌, ℕ, ◌<◌, ◌≤◌, List, [], ◌∷◌, ◌++◌, length, map, take, refl, sym, ap, ◌∙◌, inl, inr, arith, length-append}
+use Rattle.hs_live.proofs.Prelude.{map-append, length-map, Outgoing, sent, IsBeginning, OneBegins, IsSameSender, Held, Buffer, buffer_of, Leased, Key, GoesOn, Flushes, outgoing}
 use Rattle.std.proofs.Math.Seq.{take-length}
-use Rattle.std.proofs.lemmas.List.{map-append, take-map, length-map}
-use Rattle.hs_link.specs.Contents.{Outgoing, sent, IsBeginning, OneBegins, IsSameSender, SeemsFull}
+use Rattle.std.proofs.lemmas.List.{take-map}
+use Rattle.hs_link.specs.Contents.{SeemsFull}
 use Rattle.hs_link.proofs.Lists.{beginning_trans}
-use Rattle.hs_words.specs.declared.token.Held.{Held}
-use Rattle.hs_words.specs.Buffers.{Buffer, buffer_of}
-use Rattle.hs_ring.specs.Parts.{Leased}
-use Rattle.hs_live.specs.Keys.{Key}
-use Rattle.hs_live.specs.Live.{GoesOn, Flushes, outgoing}
 
 module _ {T F : Type 0} where
   pub goes_same : (s : Outgoing T F) → GoesOn s s

@@ -1,33 +1,23 @@
 -- What was sent, from the steps of the core.
 use Rattle.std.proofs.Common.{◌≡◌, ℕ, ◌+◌, Bool, true, false, List, [], ◌∷◌, ◌++◌, map, reverse, Option, Some, None, refl, sym, ap, ap₂, ◌∙◌}
-use Rattle.std.proofs.lemmas.List.{append-nil}
-use Rattle.std.specs.Prelude.{is_some}
-use Rattle.std.specs.Option.{option_to_list}
+use Rattle.hs_live.proofs.Prelude.{append-nil, is_some, option_to_list, ClientId, TraceId, Operation, Begin, Point, End, Fire, Sample, segments_of, PoolEvent, Got, Empty, Answer, Buffer, Core, Step, handed, AreSteps, IsBook, after, segments_of_steps, with_all, sent, Leased, PlainClient, Made, new_of, noted, buffer_got, buffers_by, HasDone}
 use Rattle.std.specs.List.{flat_map}
-use Rattle.hs_base.specs.declared.ids.ClientId.{ClientId}
-use Rattle.hs_base.specs.declared.ids.TraceId.{TraceId}
 use Rattle.hs_journal.specs.declared.journal.Draw.{Draw}
-use Rattle.hs_records.specs.Plain.{Operation, Begin, Point, End, Fire, Sample}
 use Rattle.hs_records.specs.Plain as plain
-use Rattle.hs_records.specs.Records.{AreBracketed, segments_of}
+use Rattle.hs_records.specs.Records.{AreBracketed}
 use Rattle.hs_records.specs.Pages.{PlainPage, segment_pages, pages_of}
 use Rattle.hs_records.proofs.Payloads.{nothing_comes}
 use Rattle.hs_words.specs.Pages.{Sheet}
-use Rattle.hs_words.specs.PoolHistory.{PoolEvent, Got, Empty, Given, Missed}
-use Rattle.hs_words.specs.Ends.{Answer}
-use Rattle.hs_words.specs.Buffers.{Buffer}
-use Rattle.hs_client.specs.Core.{Core, Step, all_pages, handed}
-use Rattle.hs_client.specs.Calls.{AreSteps, IsBook, after, open_trace, segments_of_steps, pages_of_steps, filled_chunks, sheet_for, note_of, with_all}
-use Rattle.hs_link.specs.Contents.{sent}
-use Rattle.hs_ring.specs.Parts.{Leased}
+use Rattle.hs_words.specs.PoolHistory.{Given, Missed}
+use Rattle.hs_client.specs.Core.{all_pages}
+use Rattle.hs_client.specs.Calls.{open_trace, pages_of_steps, filled_chunks, sheet_for, note_of}
 use Rattle.hs_law_sends.specs.Timing.{TimedPage, timed_pages}
 use Rattle.hs_law_sends.specs.Drawn.{drawn_from, drawn_pages, has_buffer}
 use Rattle.hs_law_sends.specs.Sending.{Sent, sent_chunks}
 use Rattle.hs_law_sends.specs.Laws.{TimedPagesAreThePages}
 use Rattle.hs_law_sends.specs.OneMore.{open_after, items_of}
-use Rattle.hs_live.specs.Live.{PlainClient}
-use Rattle.hs_live.specs.Writing.{Made, new_of, noted, draws_by, buffer_got, buffers_by}
-use Rattle.hs_live.specs.Done.{HasDone, HasSent, HasSentAll}
+use Rattle.hs_live.specs.Writing.{draws_by}
+use Rattle.hs_live.specs.Done.{HasSent, HasSentAll}
 
 pub has_sent : (made : Made) (ops : List Operation) (client : PlainClient) (h : HasDone made ops client) → ((steps : List (Step Leased)) → AreSteps (new_of made) steps → IsBook (new_of made) steps) → HasSent made ops client
 has_sent made ops client h books =

@@ -1,18 +1,13 @@
 -- What holds between calls holds after a page was supplied, too.
 use Rattle.std.proofs.Common.{◌≡◌, ℕ, ◌≤◌, Bool, List, length, Option, Some, None, IsSome, MatchOption, refl, sym, ap, ◌∙◌, subst, subst₂, arith}
-use Rattle.std.specs.Option.{option_map, option_and_then, option_to_list}
-use Rattle.hs_base.specs.declared.ids.TraceId.{TraceId}
-use Rattle.hs_words.specs.declared.token.Drawn.{Drawn}
+use Rattle.hs_live.proofs.Prelude.{option_map, option_to_list, TraceId, Drawn, Contents, Buffer, buffer_of, Core, Current, after_step, closed, handed, supplied, Outgoing, sent, IsSameSender, Leased, Drawing, Draws, Key, GoesOn, Writing, IsSound}
+use Rattle.std.specs.Option.{option_and_then}
 use Rattle.hs_words.specs.declared.token.Drawn.TheVariants as drawn
 use Rattle.hs_words.specs.Pages.{Piece}
-use Rattle.hs_words.specs.Chunks.{Contents}
-use Rattle.hs_words.specs.Buffers.{Buffer, buffer_of}
-use Rattle.hs_client.specs.Core.{Core, Current, after_step, closed, handed, next_page, next_header, piece, supplied}
-use Rattle.hs_link.specs.Contents.{Outgoing, sent, IsSameSender}
-use Rattle.hs_ring.specs.Parts.{Leased, Drawing, Draws, with_floor}
-use Rattle.hs_live.specs.Keys.{Key, IsChunkOf}
-use Rattle.hs_live.specs.Live.{GoesOn}
-use Rattle.hs_live.specs.Writing.{Writing, IsNamed, IsSound}
+use Rattle.hs_client.specs.Core.{next_page, next_header, piece}
+use Rattle.hs_ring.specs.Parts.{with_floor}
+use Rattle.hs_live.specs.Keys.{IsChunkOf}
+use Rattle.hs_live.specs.Writing.{IsNamed}
 
 abbrev IsOfKey : Key → Option (Buffer Leased) → Type 0
 IsOfKey key buffer = MatchOption buffer (Unit {0}) (λ (b : Buffer Leased). (b.lease.pool ≡ key.pool) × (b.chunk.size ≡ key.size))

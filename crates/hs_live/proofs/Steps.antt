@@ -1,21 +1,11 @@
 -- What each call of a client's parts does to the steps of its core.
 use Rattle.std.proofs.Common.{◌≡◌, ℕ, Bool, List, [], ◌∷◌, ◌++◌, reverse, Option, Some, None, refl, sym, ap, ap₂, ◌∙◌, subst, append_assoc}
-use Rattle.std.proofs.lemmas.List.{reverse-append}
-use Rattle.std.specs.Option.{option_to_list}
-use Rattle.hs_base.specs.declared.ids.TraceId.{TraceId}
-use Rattle.hs_records.specs.Records.{Piece, Segment}
-use Rattle.hs_words.specs.declared.token.Drawn.{Drawn}
+use Rattle.hs_live.proofs.Prelude.{reverse-append, option_to_list, TraceId, Piece, Segment, Drawn, Contents, PoolEvent, Got, Empty, Answer, Buffer, buffer_of, Core, Step, Began, after_step, handed, supplied, May, after, segments_of_steps, with_all, sent, Leased, Drawing, Draws, after_draw, Made, Writing, new_of, noted, buffer_got, buffers_by, IsWriting}
 use Rattle.hs_words.specs.declared.token.Drawn.TheVariants as drawn
-use Rattle.hs_words.specs.Chunks.{Contents}
-use Rattle.hs_words.specs.PoolHistory.{PoolEvent, Got, Empty}
-use Rattle.hs_words.specs.Ends.{Answer}
-use Rattle.hs_words.specs.Buffers.{Buffer, buffer_of}
-use Rattle.hs_client.specs.Core.{Core, Step, Began, Wrote, Needed, Supplied, Ended_, Refused, after_step, handed, draw_of, number_after, supplied}
-use Rattle.hs_client.specs.Calls.{May, after, next_number, segments_of_steps, with_last, chunks_supplied, draws_supplied, handed_out, with_all}
+use Rattle.hs_client.specs.Core.{Wrote, Needed, Supplied, Ended_, Refused, draw_of, number_after}
+use Rattle.hs_client.specs.Calls.{next_number, with_last, chunks_supplied, draws_supplied, handed_out}
 use Rattle.hs_client.proofs.AllSteps.{with_all-open}
-use Rattle.hs_link.specs.Contents.{sent}
-use Rattle.hs_ring.specs.Parts.{Leased, Drawing, Draws, after_draw}
-use Rattle.hs_live.specs.Writing.{Made, Writing, new_of, noted, buffer_got, buffers_by, ComesBy, IsWriting}
+use Rattle.hs_live.specs.Writing.{ComesBy}
 
 abbrev pub piece_of : ℕ → ℕ → List ℕ → Piece
 piece_of number moment payload = record { number = number; moment = moment; payload = payload }

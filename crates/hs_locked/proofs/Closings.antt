@@ -1,16 +1,8 @@
 -- What is known as the drawers of a locked pool are closed.
 use Rattle.std.proofs.Common.{◌≡◌, ℕ, suc, ◌+◌, List, [], ◌∷◌, ◌++◌, length, refl, sym, ap, ◌∙◌, subst, arith, length-append}
-use Rattle.atomic_table.specs.Seated.{TableId}
-use Rattle.atomic_table.specs.Table.{Joins}
-use Rattle.hs_words.specs.Pools.{PoolName}
-use Rattle.hs_words.specs.Plans.{Plan}
-use Rattle.hs_ring.specs.Parts.{Drawing, AreInOrder, answers_of_all}
-use Rattle.hs_ring.specs.Seats.{name_of}
-use Rattle.hs_ring.proofs.Closings.{one_table, answers_length, in_order_at}
-use Rattle.hs_locked.specs.Views.{nothing, GiverSeat, away, nobody, drawing, drawer_seat_of, giver_seat_of, having_closed}
-use Rattle.hs_locked.specs.Rule.{LockedRule}
-use Rattle.hs_locked.specs.Seats.{PoolSeat, IsFree, drawing_of}
-use Rattle.hs_locked.specs.Making.{closed_giver_seat}
+use Rattle.hs_locked.proofs.Prelude.{TableId, Joins, PoolName, Plan, Drawing, answers_of_all, name_of, answers_length, nothing, GiverSeat, away, nobody, drawing, drawer_seat_of, giver_seat_of, having_closed, LockedRule, PoolSeat, IsFree, drawing_of, closed_giver_seat}
+use Rattle.hs_ring.specs.Parts.{AreInOrder}
+use Rattle.hs_ring.proofs.Closings.{one_table, in_order_at}
 use Rattle.hs_locked.proofs.Owed.{Mine, closes_at}
 
 -- ---- names

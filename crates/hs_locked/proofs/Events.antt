@@ -1,27 +1,14 @@
 -- A turn ends: its event stands behind the history, and the store is in its slot again.
 use Rattle.std.proofs.Common.{◌≡◌, ◌≢◌, ℕ, zero, suc, ◌+◌, ◌*◌, ◌%◌, ◌<◌, ◌≤◌, List, [], ◌∷◌, length, drop, set, get_or, refl, sym, ap, ap₂, ◌∙◌, subst, inl, ⊎_elim, le_refl, arith, add-zero, length-set, get_or-set_other, get_or-set_same}
-use mathlib.Core.Option.{some, some-injective, some-ne-none}
+use Rattle.hs_locked.proofs.Prelude.{some, some-injective, some-ne-none, get_elem?, AllByRecursion, step, stepped, Allows, set_here, elem_push_cases, Got, Empty, Given, Deed, Answer, events_of, is_any_got, queue_of, answers_below, are_answers_more, unread_more, total, Plan, AtSeat, Spot, in_queue, with_drawer, leased, with_giver, HasLease, waiting, now_with, still_with, Store, next_draw, GoesOn, DrawerSeat, Hand, nothing, kept, GiverSeat, Palm, bare, holds, Stand, away, queued, inside, closing, View, drawing, giving, drawer_seat_after, hand_after, giver_seat_after, Has, left_in, all_left, having_left, home, out, Facts, gots_in, StoreOk, StandOk, HandOk, PalmOk, InLine, SpotOk, DeskOk, PostOk, Knows, Kept, LockedRule, did_leave}
 use mathlib.Core.Option as maybe
-use lib.ListN.{get_elem?}
-use Rattle.std.specs.List.{AllByRecursion}
-use Rattle.atomic_table.specs.Table.{step, gives, stepped, Allows}
-use Rattle.atomic_table.proofs.Lists.{set_here, at_longer, at_last}
-use Rattle.hs_lists.proofs.Places.{elem_push_cases}
+use Rattle.atomic_table.specs.Table.{gives}
+use Rattle.atomic_table.proofs.Lists.{at_longer, at_last}
 use Rattle.hs_lists.proofs.Counts.{count_cons}
-use Rattle.hs_words.specs.PoolHistory.{Got, Empty, Given}
-use Rattle.hs_words.specs.Ends.{Deed, Answer, answered, got_by, empty_by, given_of, events_of, answer_to, is_any_got, Spends, queue_of}
-use Rattle.hs_words.proofs.Deeds.{none_yet, answers_and, answers_below, are_answers_more, unread_more}
+use Rattle.hs_words.specs.Ends.{answered, got_by, empty_by, given_of, answer_to, Spends}
+use Rattle.hs_words.proofs.Deeds.{none_yet, answers_and}
 use Rattle.hs_words.proofs.Waiting.{waiting_below}
-use Rattle.hs_words.specs.Plans.{total, Plan}
-use Rattle.hs_words.specs.Seats.{AtSeat}
-use Rattle.hs_words.specs.Spots.{Spot, in_queue, with_drawer, leased, with_giver, HasLease}
-use Rattle.hs_pool.specs.Pool.{waiting}
-use Rattle.hs_ring.proofs.Spots.{now_with, still_with}
-use Rattle.hs_locked.specs.declared.store.Store.{Store}
-use Rattle.hs_locked.specs.Stored.{next_draw, GoesOn}
-use Rattle.hs_locked.specs.Views.{DrawerSeat, Hand, nothing, kept, GiverSeat, Palm, bare, holds, Stand, away, queued, inside, closing, View, drawing, giving, drawer_seat_after, hand_after, giver_seat_after, given_answer, Has, left_in, all_left, having_left}
-use Rattle.hs_locked.specs.Rule.{home, out, Facts, gots_in, StoreOk, StandOk, HandOk, PalmOk, InLine, SpotOk, DeskOk, PostOk, Knows, Kept, LockedRule}
-use Rattle.hs_locked.specs.Steps.{did_leave}
+use Rattle.hs_locked.specs.Views.{given_answer}
 use Rattle.hs_locked.proofs.Updates.{put, put_cases, put_here, put_else, left_set}
 use Rattle.hs_locked.proofs.Stores.{events_are, line, lawful, goes}
 use Rattle.hs_locked.proofs.Spots.{spot_stays}

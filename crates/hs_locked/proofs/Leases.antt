@@ -1,16 +1,7 @@
 -- A drawer makes a lease of the buffer that it got, and the giver takes a lease back.
 use Rattle.std.proofs.Common.{◌≡◌, ◌≢◌, ℕ, suc, ◌+◌, ◌*◌, ◌<◌, ◌≤◌, List, [], ◌∷◌, ◌++◌, length, set, refl, sym, ap, ◌∙◌, subst, ⊎_elim, arith, length-set}
-use mathlib.Core.Option.{some}
-use lib.ListN.{get_elem?}
-use Rattle.atomic_table.specs.Table.{Splits, Joins}
-use Rattle.atomic_table.proofs.Lists.{at_set, set_else}
-use Rattle.hs_ring.proofs.Spots.{now_with, still_with, else_with, with_more, with_last}
-use Rattle.hs_words.specs.Plans.{total, Plan}
-use Rattle.hs_words.specs.Ends.{queue_of}
-use Rattle.hs_words.specs.Seats.{AtSeat}
-use Rattle.hs_words.specs.Spots.{Spot, in_queue, with_drawer, leased, with_giver, HasLease}
-use Rattle.hs_locked.specs.Views.{DrawerSeat, Hand, nothing, kept, GiverSeat, bare, holds, away, View, nobody, drawing, leasing, giving, Has, HasStore, all_left}
-use Rattle.hs_locked.specs.Rule.{Facts, gots_in, HandOk, SpotOk, DeskOk, PostOk, Knows, Kept, LockedRule}
+use Rattle.hs_locked.proofs.Prelude.{some, get_elem?, Splits, Joins, at_set, set_else, now_with, still_with, with_more, total, Plan, queue_of, AtSeat, Spot, in_queue, with_drawer, leased, with_giver, HasLease, DrawerSeat, Hand, nothing, kept, GiverSeat, bare, holds, away, View, nobody, drawing, leasing, giving, Has, HasStore, all_left, Facts, gots_in, HandOk, SpotOk, DeskOk, PostOk, Knows, Kept, LockedRule}
+use Rattle.hs_ring.proofs.Spots.{else_with, with_last}
 use Rattle.hs_locked.proofs.Updates.{put, put_cases, put_here, put_else, left_set, left_and}
 use Rattle.hs_locked.proofs.Spots.{spot_stays, out_stays}
 use Rattle.hs_locked.proofs.Stays.{IsEnd, drawers_end, givers_end, Moves, facts_after, hand_stays, in_palm_stays, knows_stays, reseated, seated_too}

@@ -1,3 +1,4 @@
+mod Prelude
 mod Updates
 mod Stores
 mod Stays

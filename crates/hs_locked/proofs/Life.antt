@@ -1,20 +1,9 @@
 -- How a locked pool begins, and the making and the closing of its drawers.
 use Rattle.std.proofs.Common.{◌≡◌, ◌≢◌, ℕ, zero, suc, ◌+◌, ◌*◌, ◌<◌, ◌≤◌, List, [], ◌∷◌, ◌++◌, length, set, refl, sym, ap, ◌∙◌, subst, ⊎_elim, zero-le, arith, length-set, ◌-◌}
-use mathlib.Core.Option.{some, some-injective, some-ne-none}
-use lib.ListN.{get_elem?}
-use native.Mathlib.Decide.{ℕ_discrete}
-use Rattle.std.specs.List.{range_with_len}
-use Rattle.atomic_table.specs.Table.{opening, Splits, Joins}
-use Rattle.atomic_table.proofs.Lists.{at_set, set_else}
-use Rattle.hs_ring.proofs.Spots.{still_with, with_more}
-use Rattle.hs_words.specs.Ends.{Deed, Answer, AreAnswers}
-use Rattle.hs_words.proofs.Deeds.{all_of, no_answers}
-use Rattle.hs_words.specs.Plans.{total, Plan, Within}
-use Rattle.hs_words.specs.Spots.{in_queue}
+use Rattle.hs_locked.proofs.Prelude.{some, some-injective, some-ne-none, get_elem?, ℕ_discrete, range_with_len, opening, Splits, Joins, at_set, set_else, still_with, with_more, Deed, Answer, AreAnswers, all_of, total, Plan, Within, in_queue, Store, DrawerSeat, nothing, GiverSeat, bare, Stand, away, queued, inside, closing, View, nobody, drawing, leasing, giving, drawer_note, giver_note, new_drawer, having_closed, Has, HasStore, all_left, home, Facts, StoreOk, StandOk, DeskOk, PostOk, Knows, Kept, LockedRule, first_giver_seat, first_view}
+use Rattle.hs_words.proofs.Deeds.{no_answers}
 use Rattle.hs_words.proofs.Plans.{total_parts}
-use Rattle.hs_locked.specs.declared.store.Store.{Store}
-use Rattle.hs_locked.specs.Views.{DrawerSeat, nothing, GiverSeat, bare, Stand, away, queued, inside, closing, View, nobody, drawing, leasing, giving, drawer_note, giver_note, with_drawer, new_drawer, having_closed, Has, HasStore, all_left}
-use Rattle.hs_locked.specs.Rule.{home, Facts, StoreOk, StandOk, DeskOk, PostOk, Knows, Kept, LockedRule, first_giver_seat, first_view}
+use Rattle.hs_locked.specs.Views.{with_drawer}
 use Rattle.hs_locked.proofs.Updates.{put, put_here, put_else, left_set, left_and}
 use Rattle.hs_locked.proofs.Spots.{spot_stays, out_stays}
 use Rattle.hs_locked.proofs.Stays.{reseated, seated_too}

@@ -1,23 +1,12 @@
 -- The table of a new locked pool is as the rule wants it, and so are its drawers.
 use Rattle.std.proofs.Common.{◌≡◌, ℕ, suc, ◌+◌, ◌≤◌, List, [], ◌∷◌, ◌++◌, length, map, refl, sym, ap, ap₂, ◌∙◌, subst, arith, add-one}
-use Rattle.std.specs.Prelude.{sum}
-use Rattle.std.specs.List.{AllByRecursion, range_with_len}
-use Rattle.atomic_table.specs.Table.{opening, Splits}
-use Rattle.atomic_table.specs.Seated.{TableId}
-use Rattle.hs_base.specs.declared.limits.TheConstants.{MAX_BUFFERS, MAX_OPERATIONS}
-use Rattle.hs_words.specs.Chunks.{Contents, clear_chunk, clear_chunks}
-use Rattle.hs_words.specs.Pools.{PoolName}
-use Rattle.hs_words.specs.declared.token.Tally.{Tally}
-use Rattle.hs_words.specs.Plans.{Plan, Within}
+use Rattle.hs_locked.proofs.Prelude.{sum, AllByRecursion, range_with_len, opening, Splits, TableId, MAX_OPERATIONS, Contents, clear_chunks, PoolName, Tally, Plan, Within, IsAfter, Drawing, new_drawers, name_of, IsSameSeat, Store, GiverSeat, bare, away, giving, drawer_seat_of, giver_seat_of, new_drawer, StoreOk, LockedRule, first_giver_seat, first_view, PoolSeat, IsFree, drawing_of, IsMaking}
+use Rattle.hs_base.specs.declared.limits.TheConstants.{MAX_BUFFERS}
+use Rattle.hs_words.specs.Chunks.{clear_chunk}
 use Rattle.hs_words.proofs.Plans.{total_is_sum}
-use Rattle.hs_pool.specs.Pool.{IsAfter}
-use Rattle.hs_ring.specs.Parts.{Drawing, new_drawers}
-use Rattle.hs_ring.specs.Seats.{name_of, IsSameSeat}
-use Rattle.hs_locked.specs.declared.store.Store.{Store}
-use Rattle.hs_locked.specs.Views.{GiverSeat, bare, away, giving, drawer_seat_of, giver_seat_of, with_drawer, new_drawer}
-use Rattle.hs_locked.specs.Rule.{StoreOk, LockedRule, first_giver_seat, first_view}
-use Rattle.hs_locked.specs.Seats.{PoolSeat, IsSeatAt, IsFree, drawing_of}
-use Rattle.hs_locked.specs.Making.{making_giver_seat, IsMaking}
+use Rattle.hs_locked.specs.Views.{with_drawer}
+use Rattle.hs_locked.specs.Seats.{IsSeatAt}
+use Rattle.hs_locked.specs.Making.{making_giver_seat}
 use Rattle.hs_locked.proofs.Owed.{Mine, makes_at}
 use Rattle.hs_locked.proofs.Life.{starts}
 

@@ -1,14 +1,10 @@
 -- Each step keeps the rule, for any view that can make it.
 use Rattle.std.proofs.Common.{◌≡◌, ℕ, suc, ◌+◌, ◌%◌, List, [], ◌∷◌, length, sym, subst}
 use mathlib.Core.Option as maybe
-use Rattle.atomic_table.specs.Table.{Me, step, Allows, Splits, Joins}
-use Rattle.hs_words.specs.Plans.{Plan}
-use Rattle.hs_locked.specs.declared.store.Store.{Store}
-use Rattle.hs_locked.specs.Stored.{GoesOn}
-use Rattle.hs_locked.specs.Views.{DrawerSeat, Hand, nothing, kept, GiverSeat, Palm, bare, holds, Stand, away, queued, inside, closing, View, nobody, drawing, leasing, giving, drawer_note, giver_note, without_lease, lease_of, with_lease, note_of, having_heard, with_drawer, new_drawer, having_closed, size_of, event_of}
-use Rattle.hs_locked.specs.Rule.{LockedRule}
-use Rattle.hs_locked.specs.Steps.{did_take_ticket, did_look, did_leave, did_close}
-use Rattle.hs_locked.specs.Seats.{MayTurn, StandsAway, StandsQueued, StandsInside, CanLease, IsLease, stand_of}
+use Rattle.hs_locked.proofs.Prelude.{step, Allows, Splits, Joins, Plan, Store, GoesOn, DrawerSeat, Hand, nothing, kept, GiverSeat, Palm, bare, holds, Stand, away, queued, inside, closing, View, nobody, drawing, leasing, giving, drawer_note, giver_note, without_lease, note_of, new_drawer, having_closed, size_of, event_of, LockedRule, did_take_ticket, did_look, did_leave, did_close, MayTurn, StandsQueued, StandsInside, stand_of}
+use Rattle.atomic_table.specs.Table.{Me}
+use Rattle.hs_locked.specs.Views.{lease_of, with_lease, having_heard, with_drawer}
+use Rattle.hs_locked.specs.Seats.{StandsAway, CanLease, IsLease}
 use Rattle.hs_locked.proofs.Turns.{Held, drawer_takes_ticket, giver_takes_ticket, drawer_looks, giver_looks, closes}
 use Rattle.hs_locked.proofs.Events.{drawer_leaves, giver_leaves}
 use Rattle.hs_locked.proofs.Leases.{leases, takes_lease}

@@ -1,16 +1,8 @@
 -- Whatever is seen of a buffer, in the store or at a seat, is in the place that the rule knows.
 use Rattle.std.proofs.Common.{◌≡◌, ℕ, suc, ◌+◌, ◌<◌, List, refl, sym, ap, ◌∙◌, subst, inl, inr, arith}
-use mathlib.Core.Option.{some}
+use Rattle.hs_locked.proofs.Prelude.{some, get_elem?, waiting, Plan, queue_of, AtSeat, Spot, in_queue, with_drawer, leased, with_giver, Store, Hand, nothing, kept, Palm, bare, holds, Stand, away, queued, inside, closing, View, nobody, drawing, leasing, giving, drawer_note, giver_note, Has, HasStore, Slot, home, out, Facts, gots_in, SlotOk, OutOk, StandOk, HandOk, PalmOk, SpotOk, Kept}
 use mathlib.Core.Option as maybe
-use lib.ListN.{get_elem?}
-use Rattle.hs_pool.specs.Pool.{waiting}
-use Rattle.hs_words.specs.Plans.{Plan}
-use Rattle.hs_words.specs.Ends.{queue_of}
-use Rattle.hs_words.specs.Seats.{AtSeat}
-use Rattle.hs_words.specs.Spots.{Spot, in_queue, with_drawer, leased, with_giver}
-use Rattle.hs_locked.specs.declared.store.Store.{Store}
-use Rattle.hs_locked.specs.Views.{Hand, nothing, kept, Palm, bare, holds, Stand, away, queued, inside, closing, View, nobody, drawing, leasing, giving, drawer_note, giver_note, InHand, InPalm, Has, StandHas, HasStore}
-use Rattle.hs_locked.specs.Rule.{Slot, home, out, Facts, gots_in, SlotOk, OutOk, StandOk, HandOk, PalmOk, SpotOk, Kept}
+use Rattle.hs_locked.specs.Views.{InHand, InPalm, StandHas}
 use Rattle.hs_locked.specs.Places.{BufferPlace, in_line, seat, IsStore, IsThere, IsInOnePlace}
 use Rattle.hs_locked.proofs.Stores.{line}
 use Rattle.hs_locked.proofs.Turns.{St}

@@ -1,18 +1,11 @@
 -- What the seat of a drawer knows as its turn comes and goes.
 use Rattle.std.proofs.Common.{◌≡◌, ℕ, suc, ◌-◌, ◌<◌, ◌≤◌, [], ◌∷◌, refl, sym, ap, ◌∙◌, subst, arith}
-use Rattle.atomic_table.specs.Seated.{TableId}
+use Rattle.hs_locked.proofs.Prelude.{TableId, PoolEvent, Answer, all_of, HasSize, waiting, IsSameSeat, Store, next_draw, GoesOn, DrawerSeat, nothing, away, inside, drawing, drawer_seat_of, drawer_seat_after, hand_after, size_of, event_of, having_left, PoolSeat, StandsInside, stand_of}
 use Rattle.atomic_table.specs.Table.{rest}
-use Rattle.hs_words.specs.PoolHistory.{PoolEvent}
-use Rattle.hs_words.specs.Ends.{Answer}
-use Rattle.hs_words.proofs.Deeds.{all_of}
-use Rattle.hs_pool.specs.Pool.{HasSize, waiting}
 use Rattle.hs_ring.specs.Parts.{AllBelow}
-use Rattle.hs_ring.specs.Seats.{IsSameSeat}
-use Rattle.hs_locked.specs.declared.store.Store.{Store}
-use Rattle.hs_locked.specs.Stored.{next_draw, GoesOn}
-use Rattle.hs_locked.specs.Views.{DrawerSeat, nothing, away, inside, drawing, drawer_seat_of, drawer_seat_after, hand_after, size_of, floor_of, event_of, standing, having_left}
+use Rattle.hs_locked.specs.Views.{floor_of, standing}
 use Rattle.hs_locked.specs.Steps.{Finds}
-use Rattle.hs_locked.specs.Seats.{PoolSeat, IsIdle, IsDrawerSeat, StandsInside, stand_of}
+use Rattle.hs_locked.specs.Seats.{IsIdle, IsDrawerSeat}
 use Rattle.hs_locked.proofs.Turns.{Held}
 use Rattle.hs_locked.proofs.Owed.{Mine}
 use Rattle.hs_locked.proofs.Making.{at_there}

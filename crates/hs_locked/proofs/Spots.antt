@@ -2,12 +2,7 @@
 -- lemmas in `hs_ring`.
 use Rattle.std.proofs.Common.{ℕ, List}
 use mathlib.Core.Option as maybe
-use Rattle.hs_words.specs.Ends.{Deed}
-use Rattle.hs_words.specs.Seats.{AtSeat}
-use Rattle.hs_words.specs.Spots.{Spot, in_queue, with_drawer, leased, with_giver}
-use Rattle.hs_locked.specs.declared.store.Store.{Store}
-use Rattle.hs_locked.specs.Views.{View, Has, HasStore}
-use Rattle.hs_locked.specs.Rule.{Slot, home, out, OutOk, InLine, SpotOk}
+use Rattle.hs_locked.proofs.Prelude.{Deed, AtSeat, Spot, in_queue, with_drawer, leased, with_giver, Store, View, Has, HasStore, Slot, home, out, OutOk, InLine, SpotOk}
 
 pub spot_stays : (n : ℕ) (log log' : List Deed) (seats : ℕ → ℕ) (giver : ℕ) (views views' : List View) (buffer : ℕ)
     → ((number : ℕ) → InLine n log buffer number → InLine n log' buffer number)

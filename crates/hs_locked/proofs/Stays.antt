@@ -1,17 +1,8 @@
 -- What a step leaves as it was. A step is made by one end, and touches at most one buffer, and what that end has in hand.
 use Rattle.std.proofs.Common.{◌≡◌, ◌≢◌, ℕ, suc, ◌<◌, ◌≤◌, List, [], ◌∷◌, ◌++◌, length, set, sym, ap, ◌∙◌, subst, ⊎_elim, arith, length-append}
-use mathlib.Core.Option.{some}
-use lib.ListN.{get_elem?}
-use Rattle.std.specs.List.{AllByRecursion}
-use Rattle.atomic_table.proofs.Lists.{at_set}
-use Rattle.hs_lists.proofs.Places.{elem_push_cases}
-use Rattle.hs_words.specs.Ends.{Deed, Answer, answers_by, Names}
-use Rattle.hs_words.proofs.Deeds.{all_of, got_more, none_more, answers_more, answers_below, are_answers_more, unread_more}
-use Rattle.hs_words.specs.Plans.{Plan}
-use Rattle.hs_words.specs.Spots.{Spot, with_drawer, leased, with_giver, HasLease}
-use Rattle.hs_locked.specs.declared.store.Store.{Store}
-use Rattle.hs_locked.specs.Views.{DrawerSeat, Hand, nothing, kept, GiverSeat, Palm, bare, holds, Stand, View, nobody, drawing, leasing, giving, drawer_note, giver_note}
-use Rattle.hs_locked.specs.Rule.{Slot, Facts, HandOk, PalmOk, DeskOk, PostOk, Knows}
+use Rattle.hs_locked.proofs.Prelude.{some, get_elem?, AllByRecursion, at_set, elem_push_cases, Deed, Answer, all_of, answers_below, are_answers_more, unread_more, Plan, Spot, with_drawer, leased, with_giver, HasLease, Store, DrawerSeat, Hand, nothing, kept, GiverSeat, Palm, bare, holds, Stand, View, nobody, drawing, leasing, giving, drawer_note, giver_note, Slot, Facts, HandOk, PalmOk, DeskOk, PostOk, Knows}
+use Rattle.hs_words.specs.Ends.{answers_by, Names}
+use Rattle.hs_words.proofs.Deeds.{got_more, none_more, answers_more}
 
 -- ---- seats
 

@@ -1,18 +1,14 @@
 -- What the store says of the deeds, and how it goes on.
 use Rattle.std.proofs.Common.{◌≡◌, ℕ, List, [], ◌∷◌, length, reverse, refl, sym, ap, ◌∙◌, subst, arith}
+use Rattle.hs_locked.proofs.Prelude.{PoolEvent, Got, Empty, Given, Deed, events_of, is_any_got, queue_of, Tally, Plan, IsAfter, waiting, Store, GoesOn, StoreOk}
 use lib.ListN.{length-map}
 use Rattle.std.proofs.lemmas.List.{length-reverse, reverse-append, reverse-reverse}
 use Rattle.hs_lists.proofs.Counts.{count_cons as counted}
-use Rattle.hs_words.specs.PoolHistory.{PoolEvent, Got, Empty, Given, Missed, is_empty, is_missed, queue_after, IsHistoryBack}
-use Rattle.hs_words.specs.Ends.{Deed, event_in, events_of, is_any_got, is_any_given, Counts, queue_of}
-use Rattle.hs_words.specs.declared.token.Tally.{Tally}
+use Rattle.hs_words.specs.PoolHistory.{Missed, is_empty, is_missed, queue_after, IsHistoryBack}
+use Rattle.hs_words.specs.Ends.{event_in, is_any_given, Counts}
 use Rattle.hs_words.proofs.Deeds.{stamp_is}
 use Rattle.hs_words.proofs.Waiting.{drawn_kinds, given_kinds}
-use Rattle.hs_words.specs.Plans.{Plan}
-use Rattle.hs_pool.specs.Pool.{IsAfter, waiting}
-use Rattle.hs_locked.specs.declared.store.Store.{Store}
-use Rattle.hs_locked.specs.Stored.{with_one, GoesOn, IsCounted}
-use Rattle.hs_locked.specs.Rule.{StoreOk}
+use Rattle.hs_locked.specs.Stored.{with_one, IsCounted}
 
 module _ (plan : Plan) (log : List Deed) (store : Store) (ok : StoreOk plan log store) where
   back : reverse (reverse (events_of log)) ≡ events_of log

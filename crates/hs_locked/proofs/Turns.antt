@@ -1,25 +1,15 @@
 -- A ticket is taken, and its turn comes; the giver takes the store at the end.
 use Rattle.std.proofs.Common.{◌≡◌, ◌≢◌, ℕ, zero, suc, ◌+◌, ◌*◌, ◌%◌, ◌<◌, ◌≤◌, Bool, true, false, ◌==◌, ◌||◌, List, [], ◌∷◌, length, set, get_or, refl, sym, ap, ◌∙◌, subst, arith, mod-eq_of_lt, length-set, get_or-set_other, get_or-set_same}
-use mathlib.Core.Option.{some}
+use Rattle.hs_locked.proofs.Prelude.{some, ℕ_discrete, get_elem?, step, stepped, Allows, set_here, MAX_OPERATIONS, Deed, AreAnswers, queue_of, all_of, total, Plan, in_queue, with_giver, HasLease, HasSize, waiting, now_with, still_with, Store, DrawerSeat, Hand, nothing, GiverSeat, bare, holds, Stand, away, queued, inside, closing, View, drawing, giving, Has, HasStore, left_in, all_left, Slot, home, out, Facts, SlotOk, StandOk, PalmOk, DeskOk, PostOk, Knows, Kept, LockedRule, did_take_ticket, did_look, did_close}
 use mathlib.Core.Option as maybe
 use mathlib.Core.Logic.{dite}
-use native.Mathlib.Decide.{ℕ_discrete}
-use lib.ListN.{get_elem?}
 use borrow.Author.Tests.{eqb-true}
 use Rattle.std.specs.List.{list_any}
-use Rattle.atomic_table.specs.Table.{State, step, keeps, takes, stepped, Allows}
-use Rattle.atomic_table.proofs.Lists.{set_here}
-use Rattle.hs_base.specs.declared.limits.TheConstants.{MAX_OPERATIONS}
-use Rattle.hs_words.specs.Ends.{Deed, IsTogether, AreAnswers, queue_of}
-use Rattle.hs_words.proofs.Deeds.{all_of, got_below}
-use Rattle.hs_words.specs.Plans.{total, Plan}
-use Rattle.hs_words.specs.Spots.{in_queue, with_giver, HasLease}
-use Rattle.hs_pool.specs.Pool.{HasSize, IsOut, waiting}
-use Rattle.hs_ring.proofs.Spots.{now_with, still_with}
-use Rattle.hs_locked.specs.declared.store.Store.{Store}
-use Rattle.hs_locked.specs.Views.{DrawerSeat, Hand, nothing, GiverSeat, bare, holds, Stand, away, queued, inside, closing, View, drawing, giving, Has, HasStore, left_in, all_left}
-use Rattle.hs_locked.specs.Rule.{Slot, home, out, Facts, HasTheStore, SlotOk, StandOk, PalmOk, DeskOk, PostOk, Knows, Kept, LockedRule}
-use Rattle.hs_locked.specs.Steps.{did_take_ticket, did_look, did_close}
+use Rattle.atomic_table.specs.Table.{State, keeps, takes}
+use Rattle.hs_words.specs.Ends.{IsTogether}
+use Rattle.hs_words.proofs.Deeds.{got_below}
+use Rattle.hs_pool.specs.Pool.{IsOut}
+use Rattle.hs_locked.specs.Rule.{HasTheStore}
 use Rattle.hs_locked.proofs.Updates.{put, put_cases, put_here, put_else, left_set}
 use Rattle.hs_locked.proofs.Stores.{events_are, line, is_counted, lawful}
 use Rattle.hs_locked.proofs.Spots.{spot_stays, out_stays}

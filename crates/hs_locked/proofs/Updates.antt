@@ -1,10 +1,8 @@
 -- Lists of views with one changed.
 use Rattle.std.proofs.Common.{◌≡◌, ℕ, zero, suc, ◌+◌, List, [], ◌∷◌, ◌++◌, set, sym, ap, arith}
-use mathlib.Core.Option.{some, some-injective, some-ne-none}
-use lib.ListN.{get_elem?}
+use Rattle.hs_locked.proofs.Prelude.{some, some-injective, some-ne-none, get_elem?, View, left_in, all_left}
 pub use Rattle.hs_base.proofs.Updates.{put, put_cases, put_here, put_else}
 pub use Rattle.hs_ring.proofs.Updates.{ap₃}
-use Rattle.hs_locked.specs.Views.{View, left_in, all_left}
 
 -- one view is another
 pub left_set : (views : List View) (id : ℕ) (v w : View) → get_elem? views id ≡ some v → all_left (set views id w) + left_in v ≡ all_left views + left_in w

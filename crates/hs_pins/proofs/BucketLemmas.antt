@@ -1,10 +1,9 @@
 -- One attempt more: what flows in raises every term of the level alike, and a token that is taken lowers each by one.
 use Rattle.std.proofs.Common.{◌≡◌, ℕ, ◌+◌, ◌-◌, ◌*◌, ◌≤◌, max, min, List, [], ◌∷◌, refl, arith, ap, sym, ◌∙◌, subst, Bool, true, false}
-use Rattle.std.specs.Prelude.{nat_le, if◌then◌else◌}
+use Rattle.hs_pins.proofs.Prelude.{nat_le, TOKEN, Admitted, Limited, BucketState, level_found, attempted}
+use Rattle.std.specs.Prelude.{if◌then◌else◌}
 use Rattle.std.proofs.lemmas.Bool.{leb-true}
-use Rattle.hs_base.specs.declared.limits.TheConstants.{TOKEN}
-use Rattle.hs_pins.specs.declared.bucket.Attempt.TheVariants.{Admitted, Limited}
-use Rattle.hs_pins.specs.Buckets.{BucketState, HasAttempted, greatest, least_since, level_at, level_found, admitted_of, attempted}
+use Rattle.hs_pins.specs.Buckets.{HasAttempted, greatest, least_since, level_at, admitted_of}
 
 -- no term of the level has less than the tokens that it has lost
 abbrev pub Covers : ℕ → ℕ → ℕ → ℕ → List ℕ → Type 0

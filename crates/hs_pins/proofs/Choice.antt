@@ -1,31 +1,10 @@
 -- The group that is next to go, by the queues: the first of the id for which most is pinned.
 use Rattle.std.proofs.Common.{◌≡◌, ℕ, ◌<◌, ◌≤◌, Bool, true, false, cond, List, [], ◌∷◌, length, map, Option, Some, None, IsSome, refl, sym, ap, subst, ◌∙◌, arith, inl, inr, true≢false}
-use Rattle.std.specs.Prelude.{◌⊎◌, ◌==◌, filter}
-use Rattle.std.specs.Option.{option_map_or, option_and_then}
-use Rattle.std.specs.List.{AllByRecursion}
-use Rattle.std.specs.Map.{lookup, keys_of}
-use Rattle.std.specs.Cmp.{IsTotalOrder}
-use Rattle.std.specs.declared.cmp.Ordering.{Ordering}
-use Rattle.std.specs.declared.cmp.Ordering.TheVariants.{Less, Equal, Greater}
-use Rattle.std.specs.Ordering.{nat_cmp, ordering_then, ordering_reverse, is_le}
-use Rattle.std.proofs.lemmas.Cmp.{nat_cmp_total, on_total, then_total, back_total, tied_itself}
-use Rattle.std.proofs.lemmas.Map.Keys.{sorted_head}
-use Rattle.std.proofs.lemmas.Map.Lookups.{exact_unsigned}
-use Rattle.std.proofs.lemmas.Bool.{lt-ltb, eqb-true, eq-eqb}
-use Rattle.hs_lists.proofs.Alls.{all_mapped, all_always, all_each}
-use Rattle.hs_base.specs.declared.ids.TriggerId.{TriggerId}
-use Rattle.hs_base.specs.declared.settings.TriggerRule.{TriggerRule}
-use Rattle.hs_base.specs.declared.told.Group.{Group}
-use Rattle.hs_words.specs.Buffers.{Buffer}
-use Rattle.hs_pins.specs.declared.priority.Priority.{Priority}
-use Rattle.hs_pins.specs.Priorities.{priority_cmp, priority_of, same_priority, group_at, group_cmp}
-use Rattle.hs_pins.specs.Choosing.{least}
+use Rattle.hs_pins.proofs.Prelude.{◌⊎◌, ◌==◌, filter, option_map_or, option_and_then, AllByRecursion, lookup, keys_of, IsTotalOrder, Ordering, Less, Equal, Greater, nat_cmp, ordering_then, ordering_reverse, is_le, nat_cmp_total, on_total, then_total, tied_itself, sorted_head, exact_unsigned, lt-ltb, eqb-true, eq-eqb, all_each, TriggerId, TriggerRule, Group, Buffer, Priority, priority_cmp, priority_of, same_priority, group_at, group_cmp, least, id_cmp, fullest_id, least_of_id, next_to_go, Groups, Queues, groups_of, count_in, IsFullest, Pin, pin_for, pins_for, pins_under, chunks_at, HasLanes, HasQueues}
+use Rattle.std.proofs.lemmas.Cmp.{back_total}
+use Rattle.hs_lists.proofs.Alls.{all_mapped, all_always}
 use Rattle.hs_pins.specs.Abandoning as abandoning
-use Rattle.hs_pins.specs.Abandoning.{count_of_id, id_cmp, fullest_id, least_of_id, next_to_go}
-use Rattle.hs_pins.specs.Groups.{Groups}
-use Rattle.hs_pins.specs.Queues.{Queues, groups_of, count_in, IsFullest}
-use Rattle.hs_pins.specs.Remembered.{Pin, pin_for, pins_for, pins_under}
-use Rattle.hs_pins.specs.PinsLayout.{chunks_at, HasLanes, HasQueues}
+use Rattle.hs_pins.specs.Abandoning.{count_of_id}
 use Rattle.hs_pins.proofs.Order.{group_total, priority_laws, priority_exact, same_exact, group_exact}
 use Rattle.hs_pins.proofs.Lanes.{Under, chunks_at-cons, chunks_of-head}
 use Rattle.hs_pins.proofs.Waits.{all_there, lane_there, own_priority, pins_for-lane, less_found, same_le}

@@ -1,20 +1,8 @@
 -- The trigger id with most pinned chunks, chosen along the queues: a later id is taken where more is pinned for it.
 use Rattle.std.proofs.Common.{◌≡◌, ℕ, ◌<◌, ◌≤◌, Bool, true, false, cond, [], ◌∷◌, Option, Some, None, IsSome, unwrap_or, refl, sym, ap, subst, ◌∙◌, arith, inl, inr, true≢false}
-use Rattle.std.specs.Prelude.{◌⊎◌, nat_lt, is_some, IfSome, IfNone}
-use Rattle.std.specs.List.{AllByRecursion}
-use Rattle.std.specs.List.Sorted.{IsStrictlySortedBy}
-use Rattle.std.specs.Map.{lookup, keys_of, values_of}
-use Rattle.std.specs.Cmp.{IsTotalOrder, IsEquivalence, eq_by_cmp_equiv}
-use Rattle.std.specs.declared.cmp.Ordering.{Ordering}
-use Rattle.std.specs.declared.cmp.Ordering.TheVariants.{Less, Equal, Greater}
-use Rattle.std.specs.Ordering.{nat_cmp, is_eq, MatchOrdering}
-use Rattle.std.proofs.lemmas.Cmp.{nat_cmp_total, on_total, ranked}
-use Rattle.std.proofs.lemmas.Map.Keys.{sorted_head, sorted_tail}
-use Rattle.std.proofs.lemmas.List.Sums.{sum_by-cons}
-use Rattle.std.proofs.lemmas.Bool.{ltb-true, ltb-false}
-use Rattle.hs_base.specs.declared.ids.TriggerId.{TriggerId}
-use Rattle.hs_pins.specs.Groups.{Groups, count_of}
-use Rattle.hs_pins.specs.Queues.{Queues, same_id, groups_of, total_of, count_in, IsFullest}
+use Rattle.hs_pins.proofs.Prelude.{◌⊎◌, nat_lt, is_some, IfSome, IfNone, AllByRecursion, IsStrictlySortedBy, lookup, keys_of, values_of, IsTotalOrder, IsEquivalence, eq_by_cmp_equiv, Ordering, Less, Equal, Greater, nat_cmp, is_eq, nat_cmp_total, on_total, sorted_head, sorted_tail, sum_by-cons, ltb-true, ltb-false, TriggerId, Groups, count_of, Queues, same_id, groups_of, total_of, count_in, IsFullest}
+use Rattle.std.specs.Ordering.{MatchOrdering}
+use Rattle.std.proofs.lemmas.Cmp.{ranked}
 
 abbrev pub id_cmp : TriggerId → TriggerId → Ordering
 id_cmp a b = nat_cmp a.0 b.0

@@ -1,21 +1,8 @@
 -- The groups of a trigger id with the chunks of one of them changed: how many chunks there are, and that each group has one.
 use Rattle.std.proofs.Common.{◌≡◌, ℕ, ◌+◌, ◌-◌, ◌<◌, ◌≤◌, Bool, true, false, cond, List, [], ◌∷◌, ◌++◌, length, drop, Option, Some, None, IsSome, unwrap_or, refl, sym, ap, ◌∙◌, arith, length-append, nat_eq, true≢false}
-use Rattle.std.specs.Prelude.{slice_get, is_some, OnErr, Result, Ok, Err}
-use Rattle.std.specs.Option.{option_map}
-use Rattle.std.proofs.lemmas.Map.Steps.{set_value_same}
-use Rattle.std.proofs.lemmas.Bool.{eqb-true}
-use Rattle.std.specs.Map.{lookup, set_value, remove_entry, values_of}
-use Rattle.std.proofs.lemmas.Map.Entries.{sum_by-set_value, sum_by-remove_entry}
-use Rattle.std.proofs.lemmas.List.Sums.{sum_by-cons}
-use Rattle.std.specs.BTreeMap.{insert_entry}
-use Rattle.std.specs.declared.cmp.Ordering.{Ordering}
-use Rattle.std.specs.declared.cmp.Ordering.TheVariants.{Less, Equal, Greater}
-use Rattle.std.specs.Ordering.{is_eq, match_ordering}
-use Rattle.hs_pins.specs.declared.priority.Priority.{Priority}
-use Rattle.hs_pins.specs.Priorities.{priority_cmp, same_priority}
-use Rattle.hs_words.specs.Buffers.{Buffer}
-use Rattle.hs_pins.specs.Groups.{Groups, count_of, chunks_of, pinned, without_first}
-use Rattle.hs_pins.specs.Counting.{HaveChunks, IsCounted}
+use Rattle.hs_pins.proofs.Prelude.{slice_get, is_some, Result, Ok, Err, option_map, set_value_same, eqb-true, lookup, set_value, remove_entry, values_of, sum_by-set_value, sum_by-remove_entry, sum_by-cons, insert_entry, Ordering, Less, Equal, Greater, is_eq, match_ordering, Priority, priority_cmp, same_priority, Buffer, Groups, count_of, chunks_of, pinned, HaveChunks, IsCounted}
+use Rattle.std.specs.Prelude.{OnErr}
+use Rattle.hs_pins.specs.Groups.{without_first}
 
 -- an entry that was written as it was
 pub nothing-lost : {A B K V : Type 0} (r : Result A B) (test : K → Bool) (es written : List (K × V)) (old new : V) → lookup test es ≡ Some old

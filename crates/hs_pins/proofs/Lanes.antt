@@ -1,26 +1,10 @@
 -- The groups of one trigger id, as what is pinned for them changes.
 use Rattle.std.proofs.Common.{◌≡◌, ℕ, ◌+◌, ◌-◌, ◌<◌, Bool, true, false, not, cond, ◌||◌, List, [], ◌∷◌, ◌++◌, length, map, drop, Option, Some, None, IsSome, unwrap_or, refl, sym, ap, subst, ◌∙◌, arith, length-append, true≢false}
-use Rattle.std.specs.Prelude.{filter, is_some}
-use Rattle.std.specs.List.{AllByRecursion, list_any}
-use Rattle.std.specs.List.Sorted.{IsStrictlySortedBy}
-use Rattle.std.specs.Map.{lookup, set_value, remove_entry, keys_of}
-use Rattle.std.specs.BTreeMap.{insert_entry}
-use Rattle.std.specs.declared.cmp.Ordering.{Ordering}
-use Rattle.std.specs.declared.cmp.Ordering.TheVariants.{Less, Equal, Greater}
-use Rattle.std.specs.Ordering.{is_eq, match_ordering, ordering_reverse}
-use Rattle.std.proofs.lemmas.Map.{lookup-set_value, lookup-remove_entry, keys-set_value}
-use Rattle.std.proofs.lemmas.Map.Keys.{sorted_head, sorted_tail, IsDistinct-from_sorted}
-use Rattle.std.proofs.lemmas.List.{append-nil, map-append, length-map}
-use Rattle.std.proofs.lemmas.List.Elements.{filter-append}
+use Rattle.hs_pins.proofs.Prelude.{filter, is_some, AllByRecursion, list_any, IsStrictlySortedBy, lookup, set_value, remove_entry, keys_of, insert_entry, Ordering, Less, Equal, Greater, is_eq, match_ordering, ordering_reverse, lookup-set_value, sorted_head, sorted_tail, append-nil, map-append, length-map, filter-append, Group, Buffer, Priority, priority_cmp, priority_of, same_priority, Groups, chunks_of, pinned, IsCounted, IsKept, Pin, pin_for, is_for, pins_for, without_group, without_first, chunks_at, HasLanes}
+use Rattle.std.proofs.lemmas.Map.{lookup-remove_entry, keys-set_value}
+use Rattle.std.proofs.lemmas.Map.Keys.{IsDistinct-from_sorted}
 use Rattle.std.proofs.lemmas.List.Filters.{length-filter_both}
-use Rattle.hs_base.specs.declared.told.Group.{Group}
-use Rattle.hs_words.specs.Buffers.{Buffer}
-use Rattle.hs_pins.specs.declared.priority.Priority.{Priority}
-use Rattle.hs_pins.specs.Priorities.{priority_cmp, priority_of, same_priority}
-use Rattle.hs_pins.specs.Groups.{Groups, chunks_of, pinned, without_first as without_chunk}
-use Rattle.hs_pins.specs.Counting.{IsCounted, IsKept}
-use Rattle.hs_pins.specs.Remembered.{Pin, pin_for, is_for, pins_for, without_group, without_first}
-use Rattle.hs_pins.specs.PinsLayout.{chunks_at, HasLanes}
+use Rattle.hs_pins.specs.Groups.{without_first as without_chunk}
 use Rattle.hs_pins.proofs.Order.{priority_total, priority_laws, same_exact, same_group-priority}
 use Rattle.hs_pins.proofs.GroupLemmas.{counted-pinned, counted-without, counted-rest, counted-added, counted-taken, pinned-some, pinned-none, chunks_of-some, some-found}
 

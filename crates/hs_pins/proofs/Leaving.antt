@@ -1,25 +1,11 @@
 -- Groups go one after another: what is left after the first goes on as it would alone.
 use Rattle.std.proofs.Common.{◌≡◌, ℕ, ◌<◌, ◌≤◌, Bool, true, false, cond, ◌||◌, List, [], ◌∷◌, ◌++◌, length, map, drop, Some, refl, sym, ap, subst, ◌∙◌, arith, inl, inr, true≢false, append-nil, append_assoc}
-use Rattle.std.specs.Prelude.{◌⊎◌, ◌==◌, nat_lt, filter, slice_get}
-use Rattle.std.specs.Option.{option_map_or, option_and_then}
-use Rattle.std.specs.List.{list_any}
-use Rattle.std.specs.declared.cmp.Ordering.{Ordering}
-use Rattle.std.specs.Ordering.{is_le}
-use Rattle.std.proofs.lemmas.Bool.{lt-ltb, le-ltb, ltb-true, ltb-false, eq-eqb}
+use Rattle.hs_pins.proofs.Prelude.{◌⊎◌, ◌==◌, nat_lt, filter, slice_get, option_map_or, option_and_then, list_any, Ordering, is_le, lt-ltb, ltb-true, ltb-false, eq-eqb, TriggerId, Group, Buffer, Priority, Mark, group_at, mark_of, same_mark, group_cmp, same_group, least, id_cmp, fullest_id, least_of_id, next_to_go, leaving, staying, going, relieved, Groups, Queues, with_groups, total_of, IsFullest, Pin, Remembered, pin_for, is_for, pins_for, without_group, is_abandoned, HasPinned, with_mark}
+use Rattle.std.proofs.lemmas.Bool.{le-ltb}
 use Rattle.std.proofs.lemmas.List.Folds.{list_any-append}
-use Rattle.hs_base.specs.declared.ids.TriggerId.{TriggerId}
-use Rattle.hs_base.specs.declared.told.Group.{Group}
-use Rattle.hs_words.specs.Buffers.{Buffer}
-use Rattle.hs_pins.specs.declared.priority.Priority.{Priority}
-use Rattle.hs_pins.specs.declared.priority.Mark.{Mark}
-use Rattle.hs_pins.specs.Priorities.{group_at, mark_of, same_mark, group_cmp, same_group}
-use Rattle.hs_pins.specs.Choosing.{least}
-use Rattle.hs_pins.specs.Abandoning.{groups_of, id_cmp, fullest_id, least_of_id, next_to_go, leaving_within, leaving, staying, going, drops, relieved}
-use Rattle.hs_pins.specs.Groups.{Groups}
+use Rattle.hs_pins.specs.Abandoning.{groups_of, leaving_within, drops}
 use Rattle.hs_pins.specs.Queues as lanes
-use Rattle.hs_pins.specs.Queues.{Queues, with_groups, total_of, IsFullest}
-use Rattle.hs_pins.specs.Remembered.{Pin, Remembered, pin_for, is_for, pins_for, without_group, is_abandoned}
-use Rattle.hs_pins.specs.PinsLayout.{HasPinned, HasMarks, GroupGoes, with_mark, abandoned_one}
+use Rattle.hs_pins.specs.PinsLayout.{HasMarks, GroupGoes, abandoned_one}
 use Rattle.hs_pins.proofs.Order.{same_group-refl, same_group-true, same_mark-group}
 use Rattle.hs_pins.proofs.Lanes.{length-without_group}
 use Rattle.hs_pins.proofs.Queued.{queues-least}

@@ -1,3 +1,4 @@
+mod Prelude
 pub mod BucketLemmas
 pub mod GroupLemmas
 pub mod QueueLemmas

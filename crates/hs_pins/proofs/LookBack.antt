@@ -1,25 +1,8 @@
 -- Any calls, looked back over.
 use Rattle.std.proofs.Common.{◌≡◌, ℕ, ◌+◌, Bool, true, false, not, cond, List, [], ◌∷◌, ◌++◌, map, Option, Some, None, refl, sym, ap, subst, ◌∙◌, append-nil, append_assoc, true≢false}
-use Rattle.std.specs.Prelude.{nat_le, slice_get}
-use Rattle.std.specs.List.{AllByRecursion}
-use Rattle.std.specs.Option.{option_map, option_map_or, option_to_list}
-use Rattle.std.specs.Ordering.{is_le}
-use Rattle.std.proofs.lemmas.Cmp.{tied_itself}
-use Rattle.std.proofs.lemmas.List.Elements.{filter-append}
-use Rattle.hs_base.specs.declared.ids.TraceId.{TraceId}
-use Rattle.hs_base.specs.declared.ids.TriggerId.{TriggerId}
-use Rattle.hs_base.specs.declared.settings.TriggerRule.{TriggerRule}
-use Rattle.hs_base.specs.declared.limits.TheConstants.{TOKEN}
-use Rattle.hs_base.specs.declared.told.Group.{Group}
-use Rattle.hs_base.specs.NodeSets.{with_node}
-use Rattle.hs_words.specs.Buffers.{Buffer}
+use Rattle.hs_pins.proofs.Prelude.{nat_le, slice_get, AllByRecursion, option_map, option_map_or, is_le, tied_itself, filter-append, TraceId, TriggerId, TriggerRule, TOKEN, Group, with_node, Buffer, level_found, attempted, is_no_greater, put_by, ordered_by, Claim, Pin, Remembered, is_claim_of, claim_of, claim_for, with_crumb, pin_for, is_for, pins_for, pins_under, without_group, without_first, rule_of, moments_of, admission, admitted_after, tried_at, with_pin, arrived, comes_back, is_abandoned, leaving, going, staying, goes_behind, order_of, next_of}
+use Rattle.std.specs.Option.{option_to_list}
 use Rattle.hs_pins.specs.declared.bucket.Attempt.TheVariants as attempts
-use Rattle.hs_pins.specs.Buckets.{level_found, attempted}
-use Rattle.hs_pins.specs.Priorities.{is_no_greater}
-use Rattle.hs_pins.specs.Choosing.{put_by, ordered_by}
-use Rattle.hs_pins.specs.Remembered.{Claim, Pin, Remembered, is_claim_of, claim_of, claim_for, with_crumb, pin_for, is_for, pins_for, pins_under, without_group, without_first, rule_of, moments_of, admission, admitted_after, tried_at, with_pin, arrived, comes_back, is_abandoned}
-use Rattle.hs_pins.specs.Abandoning.{leaving, going, staying}
-use Rattle.hs_pins.specs.Waiting.{goes_behind, order_of, next_of}
 use Rattle.hs_pins.specs.Calls.{Call, Tries, Claims, Arrives, Crumbs, Abandons, Takes, after_call, after, tries_of, admits, admitted_of, owner_of, pinned_by, let_go_by, ever_pinned, ever_let_go, LooksBack, ClaimsStay}
 use Rattle.hs_pins.proofs.Order.{group_total, same_group-refl, same_group-true}
 use Rattle.hs_pins.proofs.Waits.{all_ordered, first_is_for}

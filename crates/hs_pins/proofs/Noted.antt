@@ -1,23 +1,15 @@
 -- The claims as they are noted: each with the place of its party.
 use Rattle.std.proofs.Common.{◌≡◌, ℕ, zero, suc, ◌-◌, ◌<◌, ◌≤◌, Bool, true, false, cond, List, [], ◌∷◌, ◌++◌, length, map, take, Option, Some, None, IsSome, refl, sym, ap, subst, ◌∙◌, arith, true≢false}
-use Rattle.std.specs.Prelude.{◌&&◌, ◌==◌, slice_get, replicate}
-use Rattle.std.specs.Option.{option_map, option_map_or}
+use Rattle.hs_pins.proofs.Prelude.{◌==◌, slice_get, option_map, option_map_or, lookup, set_value, eqb-true, eq-eqb, and_parts, map-append, TraceId, NodeId, NodeSet, Group, with_node, same_trace, ClaimNote, Claim, claim_of, with_crumb, party_at, claim_from, AreNoted}
+use Rattle.std.specs.Prelude.{◌&&◌, replicate}
 use Rattle.std.specs.Cmp.Lexicographic.{pointwise, pointwise_decides}
-use Rattle.std.specs.Map.{lookup, set_value}
-use Rattle.std.proofs.lemmas.Bool.{eqb-true, eq-eqb, and_parts}
-use Rattle.std.proofs.lemmas.List.{take_at, map-append}
-use Rattle.hs_base.specs.declared.ids.TraceId.{TraceId}
-use Rattle.hs_base.specs.declared.ids.NodeId.{NodeId}
-use Rattle.hs_base.specs.declared.node_set.NodeSet.{NodeSet}
-use Rattle.hs_base.specs.declared.told.Group.{Group}
+use Rattle.std.proofs.lemmas.List.{take_at}
 use Rattle.hs_base.specs.declared.limits.TheConstants.{MAX_LATERALS}
 use Rattle.hs_base.specs.Laterals.{no_trace}
-use Rattle.hs_base.specs.NodeSets.{has_node, with_node}
-use Rattle.hs_base.specs.Ids.{same_trace}
+use Rattle.hs_base.specs.NodeSets.{has_node}
 use Rattle.hs_pins.specs.declared.claims.Party.{Party}
-use Rattle.hs_pins.specs.declared.claims.ClaimNote.{ClaimNote}
-use Rattle.hs_pins.specs.Remembered.{Claim, claim_of, has_crumb, with_crumb}
-use Rattle.hs_pins.specs.ClaimsLayout.{party_at, claim_by, claim_from, AreNoted}
+use Rattle.hs_pins.specs.Remembered.{has_crumb}
+use Rattle.hs_pins.specs.ClaimsLayout.{claim_by}
 
 abbrev pub Notes : Type 0
 Notes = List (TraceId × ClaimNote)

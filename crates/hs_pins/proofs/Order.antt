@@ -1,18 +1,6 @@
 -- The order of priorities: it is total, and tells all of them apart. So do the tests of groups.
 use Rattle.std.proofs.Common.{◌≡◌, true, refl, sym, ap, subst, true≢false}
-use Rattle.std.specs.Prelude.{◌==◌}
-use Rattle.std.specs.Cmp.{IsTotalOrder, IsEquivalence, eq_by_cmp_equiv}
-use Rattle.std.specs.declared.cmp.Ordering.{Ordering}
-use Rattle.std.specs.declared.cmp.Ordering.TheVariants.{Less, Equal, Greater}
-use Rattle.std.specs.Ordering.{nat_cmp, ordering_then, is_eq}
-use Rattle.std.proofs.lemmas.Cmp.{nat_cmp_total, on_total, then_total}
-use Rattle.std.proofs.lemmas.Map.Lookups.{exact_unsigned}
-use Rattle.std.proofs.lemmas.Bool.{eqb-true, eq-eqb, and_parts}
-use Rattle.hs_lists.proofs.Bools.{bool_same}
-use Rattle.hs_base.specs.declared.told.Group.{Group}
-use Rattle.hs_pins.specs.declared.priority.Priority.{Priority}
-use Rattle.hs_pins.specs.declared.priority.Mark.{Mark}
-use Rattle.hs_pins.specs.Priorities.{priority_cmp, priority_of, same_priority, group_cmp, same_group, mark_of, same_mark}
+use Rattle.hs_pins.proofs.Prelude.{◌==◌, IsTotalOrder, IsEquivalence, eq_by_cmp_equiv, Ordering, Less, Equal, Greater, nat_cmp, ordering_then, is_eq, nat_cmp_total, on_total, then_total, exact_unsigned, eqb-true, eq-eqb, and_parts, bool_same, Group, Priority, Mark, priority_cmp, priority_of, same_priority, group_cmp, same_group, mark_of, same_mark}
 
 then_equal : (o p : Ordering) → ordering_then o p ≡ Equal → (o ≡ Equal) × (p ≡ Equal)
 then_equal Less p e = absurd cc

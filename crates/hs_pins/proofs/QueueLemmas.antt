@@ -1,13 +1,7 @@
 -- The queues of a node with the groups of one trigger id changed: how many chunks there are.
 use Rattle.std.proofs.Common.{◌≡◌, ℕ, ◌+◌, ◌≤◌, Bool, true, false, cond, [], ◌∷◌, Option, Some, None, unwrap_or, refl, sym, ap, ◌∙◌, arith}
-use Rattle.std.specs.Prelude.{OnOk, OnSome, IfSome, IfNone, Result, Ok, Err}
-use Rattle.std.specs.Map.{lookup, set_value, remove_entry}
-use Rattle.std.proofs.lemmas.Map.Entries.{sum_by-set_value, sum_by-remove_entry}
-use Rattle.std.specs.Option.{option_map}
-use Rattle.std.proofs.lemmas.Map.Steps.{set_value_same}
-use Rattle.hs_base.specs.declared.ids.TriggerId.{TriggerId}
-use Rattle.hs_pins.specs.Groups.{Groups, count_of}
-use Rattle.hs_pins.specs.Queues.{Queues, total_of}
+use Rattle.hs_pins.proofs.Prelude.{OnOk, IfSome, IfNone, Result, Ok, Err, lookup, set_value, remove_entry, sum_by-set_value, sum_by-remove_entry, option_map, set_value_same, TriggerId, Groups, count_of, Queues, total_of}
+use Rattle.std.specs.Prelude.{OnSome}
 
 module _ {L : Type 0} where
   pub total-set : (test : TriggerId → Bool) (es : Queues L) (old w : Groups L) → lookup test es ≡ Some old

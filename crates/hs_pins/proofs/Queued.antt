@@ -1,27 +1,9 @@
 -- The queues of all trigger ids, as what is pinned at the node changes.
 use Rattle.std.proofs.Common.{◌≡◌, ◌+◌, ◌<◌, Bool, true, false, not, cond, ◌||◌, List, [], ◌∷◌, ◌++◌, length, map, drop, Option, Some, None, IsSome, unwrap_or, refl, sym, ap, subst, ◌∙◌, arith, inl, inr, length-append, true≢false}
-use Rattle.std.specs.Prelude.{◌==◌, is_some, slice_get}
-use Rattle.std.specs.Option.{option_map_or}
-use Rattle.std.specs.List.{AllByRecursion, list_any}
-use Rattle.std.specs.Map.{lookup}
-use Rattle.std.proofs.lemmas.Map.{lookup-set_value}
-use Rattle.std.proofs.lemmas.Map.Steps.{set_value_same}
-use Rattle.std.proofs.lemmas.Bool.{eqb-true, eq-eqb}
-use Rattle.std.proofs.lemmas.List.{append-nil}
-use Rattle.std.proofs.lemmas.List.Elements.{filter-append}
-use Rattle.hs_lists.proofs.Bools.{bool_same}
-use Rattle.hs_base.specs.declared.ids.TriggerId.{TriggerId}
-use Rattle.hs_base.specs.declared.settings.TriggerRule.{TriggerRule}
-use Rattle.hs_base.specs.declared.told.Group.{Group}
-use Rattle.hs_base.specs.Rules.{is_declared}
-use Rattle.hs_words.specs.Buffers.{Buffer}
-use Rattle.hs_pins.specs.declared.priority.Priority.{Priority}
-use Rattle.hs_pins.specs.Priorities.{priority_of, same_priority, group_at}
-use Rattle.hs_pins.specs.Groups.{Groups, count_of, chunks_of, pinned, greatest_of, without_next as without_next_lane, without_first as without_chunk}
-use Rattle.hs_pins.specs.Queues.{Queues, same_id, groups_of, with_groups, pinned_in, total_of}
-use Rattle.hs_pins.specs.Remembered.{Pin, pin_for, is_for, is_under, pins_for, pins_under, without_group, without_first}
-use Rattle.hs_pins.specs.Waiting.{order_of, without_next}
-use Rattle.hs_pins.specs.PinsLayout.{HasLanes, HasQueues, in_order}
+use Rattle.hs_pins.proofs.Prelude.{◌==◌, is_some, slice_get, option_map_or, AllByRecursion, list_any, lookup, lookup-set_value, set_value_same, eqb-true, eq-eqb, append-nil, filter-append, bool_same, TriggerId, TriggerRule, Group, is_declared, Buffer, Priority, priority_of, same_priority, group_at, Groups, count_of, chunks_of, pinned, greatest_of, Queues, same_id, groups_of, with_groups, pinned_in, total_of, Pin, pin_for, is_for, pins_for, pins_under, without_group, without_first, order_of, HasLanes, HasQueues, in_order}
+use Rattle.hs_pins.specs.Groups.{without_next as without_next_lane, without_first as without_chunk}
+use Rattle.hs_pins.specs.Remembered.{is_under}
+use Rattle.hs_pins.specs.Waiting.{without_next}
 use Rattle.hs_pins.proofs.Order.{same_group-true}
 use Rattle.hs_pins.proofs.Lanes.{lanes-more, lanes-rest, length-without_first, length-without_group, any_found}
 use Rattle.hs_pins.proofs.Waits.{HasLast, has_last, lanes-next, lanes-wait}

@@ -1,32 +1,14 @@
 -- The pins after each call are those of a node that remembers what the call leaves.
 use Rattle.std.proofs.Common.{◌≡◌, ℕ, ◌+◌, ◌<◌, ◌^◌, Bool, true, false, cond, ◌||◌, List, [], ◌∷◌, ◌++◌, length, map, Option, Some, None, IsSome, unwrap_or, refl, sym, ap, subst, ◌∙◌, true≢false}
-use Rattle.std.specs.Prelude.{◌==◌, filter, is_some}
-use Rattle.std.specs.Option.{option_map, option_map_or, option_and_then}
-use Rattle.std.specs.List.{list_any}
-use Rattle.std.specs.Map.{lookup, set_value}
-use Rattle.std.proofs.lemmas.Map.{lookup-set_value}
-use Rattle.hs_base.specs.declared.ids.NodeId.{NodeId}
-use Rattle.hs_base.specs.declared.ids.TraceId.{TraceId}
-use Rattle.hs_base.specs.declared.ids.TriggerId.{TriggerId}
-use Rattle.hs_base.specs.declared.node_set.NodeSet.{NodeSet}
-use Rattle.hs_base.specs.declared.settings.TriggerRule.{TriggerRule}
-use Rattle.hs_base.specs.declared.told.Group.{Group}
-use Rattle.hs_base.specs.Rules.{is_declared}
-use Rattle.hs_words.specs.Buffers.{Buffer}
+use Rattle.hs_pins.proofs.Prelude.{◌==◌, filter, is_some, option_map, option_map_or, option_and_then, list_any, lookup, set_value, lookup-set_value, NodeId, TraceId, TriggerId, NodeSet, TriggerRule, Group, is_declared, Buffer, Priority, Mark, priority_of, mark_of, same_mark, BucketState, attempted, fresh_bucket, Groups, greatest_of, Queues, same_id, groups_of, with_groups, pinned_in, fresh_queues, Claim, Remembered, IsSound, claim_of, claim_for, with_crumb, rule_of, moments_of, admission, admitted_after, tried_at, claimed, with_pin, arrived, comes_back, is_abandoned, crumbed, relieved, taken, Remembers, HasPinned, HasLanes, HasQueues, fresh_buckets_of, in_order}
 use Rattle.hs_words.specs.Chunks.{header_in}
 use Rattle.hs_words.specs.declared.page.Header.{Header}
 use Rattle.hs_pins.specs.declared.bucket.Attempt.{Attempt}
 use Rattle.hs_pins.specs.declared.claim.Admitted.{Admitted}
-use Rattle.hs_pins.specs.declared.priority.Priority.{Priority}
-use Rattle.hs_pins.specs.declared.priority.Mark.{Mark}
-use Rattle.hs_pins.specs.Priorities.{priority_of, mark_of, same_mark}
-use Rattle.hs_pins.specs.Buckets.{BucketState, attempted, fresh_bucket}
-use Rattle.hs_pins.specs.Groups.{Groups, greatest_of, without_next as without_next_lane}
-use Rattle.hs_pins.specs.Queues.{Queues, same_id, has_queue, groups_of, with_groups, pinned_in, fresh_queues}
-use Rattle.hs_pins.specs.Remembered.{Claim, Remembered, IsSound, Tried, fresh, claim_of, claim_for, with_crumb, rule_of, moments_of, admission, admitted_after, answered, tried_at, claimed, with_pin, arrived, comes_back, is_abandoned, crumbed}
-use Rattle.hs_pins.specs.Abandoning.{relieved}
-use Rattle.hs_pins.specs.Waiting.{taken}
-use Rattle.hs_pins.specs.PinsLayout.{Buckets, Pinning, Remembers, HasPinned, HasLanes, HasQueues, MatchBucket, Attempts, bucket_in, fresh_buckets_of, waiting, in_order}
+use Rattle.hs_pins.specs.Groups.{without_next as without_next_lane}
+use Rattle.hs_pins.specs.Queues.{has_queue}
+use Rattle.hs_pins.specs.Remembered.{Tried, fresh, answered}
+use Rattle.hs_pins.specs.PinsLayout.{Buckets, Pinning, MatchBucket, Attempts, bucket_in, waiting}
 use Rattle.hs_pins.proofs.Lanes.{lanes-empty}
 use Rattle.hs_pins.proofs.Fullest.{id_laws, same_id-true}
 use Rattle.hs_pins.proofs.Queued.{same_id-test, queues-more, queues-first, queues-wait, one_id}

@@ -1,19 +1,8 @@
 -- A map that is filled by rising rules has them in their order.
 use Rattle.std.proofs.Common.{◌≡◌, ℕ, zero, suc, ◌+◌, ◌<◌, List, [], ◌∷◌, ◌++◌, length, map, take, get_or, AllPairs, refl, sym, ap, ◌∙◌, arith, add-one}
+use Rattle.hs_pins.proofs.Prelude.{map-append, AllByRecursion, insert_entry, nat_cmp, match_ordering, Ordering, Greater, TriggerId, TriggerRule, values_of, sum_by-cons, Groups, count_of, total_of, fresh_queues}
 use Rattle.std.proofs.Math.Seq.{take-suc}
-use Rattle.std.proofs.lemmas.List.{map-append}
-use Rattle.std.specs.List.{AllByRecursion}
-use Rattle.std.specs.BTreeMap.{insert_entry}
 use Rattle.std.specs.Cmp.{nat_cmp_is}
-use Rattle.std.specs.Ordering.{nat_cmp, match_ordering}
-use Rattle.std.specs.declared.cmp.Ordering.{Ordering}
-use Rattle.std.specs.declared.cmp.Ordering.TheVariants.{Greater}
-use Rattle.hs_base.specs.declared.ids.TriggerId.{TriggerId}
-use Rattle.hs_base.specs.declared.settings.TriggerRule.{TriggerRule}
-use Rattle.std.specs.Map.{values_of}
-use Rattle.std.proofs.lemmas.List.Sums.{sum_by-cons}
-use Rattle.hs_pins.specs.Groups.{Groups, count_of}
-use Rattle.hs_pins.specs.Queues.{total_of, fresh_queues}
 
 abbrev id_cmp : TriggerId → TriggerId → Ordering
 id_cmp a b = nat_cmp a.0 b.0

@@ -1,24 +1,10 @@
 -- What always holds of what a node remembers, after each call.
 use Rattle.std.proofs.Common.{◌≡◌, ℕ, ◌+◌, ◌<◌, ◌≤◌, ◌^◌, Bool, true, false, not, cond, List, [], ◌∷◌, ◌++◌, length, map, Option, Some, None, refl, subst, ◌∙◌, arith, length-append}
-use Rattle.std.specs.Option.{option_map_or}
-use Rattle.std.specs.List.{AllByRecursion}
-use Rattle.std.proofs.lemmas.List.{length-map}
+use Rattle.hs_pins.proofs.Prelude.{option_map_or, AllByRecursion, length-map, NodeId, TraceId, TriggerId, NodeSet, TriggerRule, Group, with_node, is_declared, same_trace, Buffer, Claim, Pin, Remembered, IsSound, is_claim_of, claim_of, with_crumb, pin_for, is_for, without_group, without_first, tried_at, claimed, with_pin, crumbed, leaving, staying, relieved, next_of, taken}
 use Rattle.std.proofs.lemmas.Cmp.{nat_eq_equiv}
 use Rattle.hs_lists.proofs.Alls.{all_push, all_append, all_filter}
 use Rattle.hs_lists.proofs.Filters.{filter_few}
-use Rattle.hs_base.specs.declared.ids.NodeId.{NodeId}
-use Rattle.hs_base.specs.declared.ids.TraceId.{TraceId}
-use Rattle.hs_base.specs.declared.ids.TriggerId.{TriggerId}
-use Rattle.hs_base.specs.declared.node_set.NodeSet.{NodeSet}
-use Rattle.hs_base.specs.declared.settings.TriggerRule.{TriggerRule}
-use Rattle.hs_base.specs.declared.told.Group.{Group}
-use Rattle.hs_base.specs.NodeSets.{with_node}
-use Rattle.hs_base.specs.Rules.{is_declared}
-use Rattle.hs_base.specs.Ids.{same_trace}
-use Rattle.hs_words.specs.Buffers.{Buffer}
-use Rattle.hs_pins.specs.Remembered.{Claim, Pin, Remembered, IsSound, AreApart, is_claim_of, claim_of, with_crumb, pin_for, is_for, without_group, without_first, tried_at, claimed, with_pin, crumbed}
-use Rattle.hs_pins.specs.Abandoning.{leaving, staying, relieved}
-use Rattle.hs_pins.specs.Waiting.{next_of, taken}
+use Rattle.hs_pins.specs.Remembered.{AreApart}
 
 -- ---- claims
 

@@ -1,29 +1,10 @@
 -- What waits for one trigger id: the chunks of its groups from the greatest priority on are what is pinned for it, in order.
 use Rattle.std.proofs.Common.{◌≡◌, ℕ, zero, suc, ◌-◌, ◌<◌, Bool, true, false, cond, List, [], ◌∷◌, ◌++◌, length, map, drop, Option, Some, None, IsSome, unwrap_or, refl, sym, ap, subst, ◌∙◌, arith, inl, inr, true≢false}
-use Rattle.std.specs.Prelude.{◌⊎◌, is_some, slice_get}
-use Rattle.std.specs.Option.{option_map, option_and_then}
-use Rattle.std.specs.List.{AllByRecursion}
-use Rattle.std.specs.List.Sorted.{IsStrictlySortedBy}
-use Rattle.std.specs.Map.{lookup, set_value, remove_entry, keys_of}
-use Rattle.std.specs.declared.cmp.Ordering.{Ordering}
-use Rattle.std.specs.declared.cmp.Ordering.TheVariants.{Less, Equal, Greater}
-use Rattle.std.specs.Ordering.{is_eq, is_le, ordering_reverse}
-use Rattle.std.proofs.lemmas.Map.Keys.{sorted_head, sorted_tail}
+use Rattle.hs_pins.proofs.Prelude.{◌⊎◌, is_some, slice_get, option_map, option_and_then, AllByRecursion, IsStrictlySortedBy, lookup, set_value, remove_entry, keys_of, Ordering, Less, Equal, Greater, is_eq, is_le, ordering_reverse, sorted_head, sorted_tail, bool_same, all_each, TriggerId, Group, Buffer, Priority, priority_cmp, priority_of, same_priority, group_at, is_no_greater, put_by, ordered_by, Groups, count_of, chunks_of, greatest_of, HaveChunks, IsKept, Pin, pin_for, is_for, pins_for, without_first, goes_behind, chunks_at, HasLanes, in_order}
 use Rattle.std.proofs.lemmas.List.{nil_from_length}
-use Rattle.hs_lists.proofs.Bools.{bool_same}
-use Rattle.hs_lists.proofs.Alls.{all_each}
-use Rattle.hs_base.specs.declared.ids.TriggerId.{TriggerId}
-use Rattle.hs_base.specs.declared.told.Group.{Group}
-use Rattle.hs_words.specs.Buffers.{Buffer}
-use Rattle.hs_pins.specs.declared.priority.Priority.{Priority}
-use Rattle.hs_pins.specs.Priorities.{priority_cmp, priority_of, same_priority, group_at, is_no_greater}
-use Rattle.hs_pins.specs.Choosing.{put_by, ordered_by}
-use Rattle.hs_pins.specs.Groups.{Groups, count_of, chunks_of, greatest_of, next_of, without_next, without_first as without_chunk}
-use Rattle.hs_pins.specs.Counting.{HaveChunks, IsKept}
-use Rattle.hs_pins.specs.Remembered.{Pin, pin_for, is_for, pins_for, without_first}
-use Rattle.hs_pins.specs.Waiting.{goes_behind, used_bytes}
+use Rattle.hs_pins.specs.Groups.{next_of, without_next, without_first as without_chunk}
+use Rattle.hs_pins.specs.Waiting.{used_bytes}
 use Rattle.hs_pins.proofs.GroupLemmas.{some-found}
-use Rattle.hs_pins.specs.PinsLayout.{chunks_at, HasLanes, in_order}
 use Rattle.hs_pins.proofs.Order.{priority_total, priority_laws, same_exact, same_group-true}
 use Rattle.hs_pins.proofs.Lanes.{Under, lanes-first, chunks_at-cons, for_priority}
 

@@ -1,27 +1,8 @@
 -- A new node is where the machine begins.
 use Rattle.std.proofs.Common.{◌≡◌, ℕ, zero, suc, ◌+◌, ◌<◌, List, [], ◌∷◌, ◌++◌, length, map, Some, inl, inr, refl, sym, ap, subst, ◌∙◌, arith, slice_get, unwrap_or, count_by, length-append}
-use Rattle.std.proofs.lemmas.List.FromFn.{length-map-range_with_len}
-use Rattle.std.specs.List.{AllByRecursion, range_with_len}
-use Rattle.hs_lists.proofs.Places.{get_push_cases}
-use Rattle.hs_lists.proofs.Ranges.{map_range_from}
-use Rattle.hs_agent.specs.Runs.{Follows, new_run}
-use Rattle.hs_coord.specs.Following.{Messages}
-use Rattle.hs_journal.specs.declared.journal.Draw.{Draw}
-use Rattle.hs_journal.specs.Views.{PlainJournal}
-use Rattle.hs_law_journal.specs.Following.{asks_to, is_from, Run, node_start}
-use Rattle.hs_law_lockstep.specs.Lockstep.{machine_start, done_at}
-use Rattle.hs_law_lockstep.specs.Parts.{node_at, heard_in}
-use Rattle.hs_law_lockstep.specs.Reaching.{MachinesStartSo}
-use Rattle.hs_replay_client.specs.Places.{ReplayClientIsAt}
-use Rattle.hs_replay_client.specs.ReplayClients.{PlainReplayClient}
-use Rattle.hs_pool.specs.Pool.{Pool, IsAfter}
-use Rattle.hs_records.specs.Plain.{PlainSettings, PlainWorkload, Operation}
-use Rattle.hs_law_sends.specs.Sending.{operations_at, place_of}
-use Rattle.hs_words.specs.Chunks.{Contents, clear_chunk, clear_chunks}
-use Rattle.hs_words.specs.PoolHistory.{PoolEvent}
-use Rattle.hs_replay.specs.Making.{AreNew}
-use Rattle.hs_replay.specs.Parts.{PlainReplayNode}
-use Rattle.hs_replay.specs.Standing.{PoolStands, NodeIsAt}
+use Rattle.hs_replay.proofs.Prelude.{length-map-range_with_len, AllByRecursion, range_with_len, get_push_cases, map_range_from, Follows, new_run, Messages, Draw, PlainJournal, asks_to, is_from, Run, machine_start, done_at, node_at, heard_in, MachinesStartSo, ReplayClientIsAt, PlainReplayClient, Pool, IsAfter, PlainSettings, PlainWorkload, Operation, operations_at, place_of, clear_chunks, PoolEvent, AreNew, PlainReplayNode, PoolStands, NodeIsAt}
+use Rattle.hs_law_journal.specs.Following.{node_start}
+use Rattle.hs_words.specs.Chunks.{Contents, clear_chunk}
 
 -- ---- lists of nothing
 

@@ -1,39 +1,15 @@
 -- The books of the nodes, one node after another.
 use Rattle.std.proofs.Common.{◌≡◌, ℕ, zero, suc, ◌+◌, ◌*◌, ◌/◌, ◌<◌, ◌≤◌, List, [], ◌∷◌, ◌++◌, length, map, take, Some, refl, sym, ap, subst, ◌∙◌, arith, slice_get, mul-le-mul_right}
-use Rattle.std.proofs.lemmas.Nat.{div-mul-add}
+use Rattle.hs_replay.proofs.Prelude.{div-mul-add, eqb-true, map-append, slice_get_within, range_with_len, range_append, take_whole, suc_le, NodeId, Message, Messages, PlainCoordinator, HasTaken, ClientId, PlainAgentBook, PlainClientBook, agent_book_of, client_book_of, PlainJournal, ClientBook, is_left_bare, NodeRun, Run, followed, Machine, lockstep, heard_in, MachinesAreWhole, book_of, client_book, PlainWorkload, draws_at, operations_at, place_of, AllClosed, HasEnded, IsBookAt, client_noted, PlainReplayNode}
 use Rattle.std.proofs.Math.Nat.{mul-add-mod_self_right, mod-eq_of_lt}
-use Rattle.std.proofs.lemmas.Bool.{eqb-true}
-use Rattle.std.proofs.lemmas.List.{map-append, nil_from_length}
-use Rattle.std.proofs.lemmas.Option.{slice_get_within}
-use Rattle.std.specs.List.{range_with_len}
-use Rattle.hs_lists.proofs.Ranges.{range_append}
+use Rattle.std.proofs.lemmas.List.{nil_from_length}
 use Rattle.hs_lists.proofs.Tests.{list_all_at}
 use Rattle.hs_lists.proofs.Bools.{second_true}
 use Rattle.hs_lists.proofs.Places.{take_more}
-use Rattle.hs_lists.proofs.Parts.{take_whole}
-use Rattle.hs_lists.proofs.Numbers.{suc_le}
-use Rattle.hs_base.specs.declared.ids.NodeId.{NodeId}
-use Rattle.hs_coord.specs.Following.{Message, Messages}
-use Rattle.hs_coord.specs.Kept.{PlainCoordinator, HasTaken}
-use Rattle.hs_base.specs.declared.ids.ClientId.{ClientId}
 use Rattle.hs_client.specs.Calls.{note_of}
-use Rattle.hs_journal.specs.Books.{PlainAgentBook, PlainClientBook, agent_book_of, client_book_of}
-use Rattle.hs_journal.specs.Views.{PlainJournal}
 use Rattle.hs_journal.specs.declared.books.AgentBook.{AgentBook}
-use Rattle.hs_journal.specs.declared.books.ClientBook.{ClientBook}
-use Rattle.hs_law_journal.specs.Ends.{is_left_bare}
-use Rattle.hs_law_journal.specs.Following.{NodeRun, Run, followed}
-use Rattle.hs_law_lockstep.specs.Lockstep.{Machine, lockstep}
-use Rattle.hs_law_lockstep.specs.Parts.{heard_in}
-use Rattle.hs_law_lockstep.specs.Reaching.{MachinesAreWhole}
-use Rattle.hs_law_agent.specs.Books.{book_of}
-use Rattle.hs_law_outcome.specs.Outcomes.{client_at, client_book, client_books, agent_books}
+use Rattle.hs_law_outcome.specs.Outcomes.{client_at, client_books, agent_books}
 use Rattle.hs_records.specs.Pages.{pages_of}
-use Rattle.hs_records.specs.Plain.{PlainWorkload}
-use Rattle.hs_law_sends.specs.Sending.{draws_at, operations_at, place_of}
-use Rattle.hs_replay.specs.All.{AllClosed}
-use Rattle.hs_replay.specs.Finishing.{HasEnded, IsBookAt, client_noted}
-use Rattle.hs_replay.specs.Parts.{PlainReplayNode}
 
 -- ---- lists
 

@@ -1,26 +1,10 @@
 -- Node after node the coordinator hears what the machine's coordinator hears, and then all stand where that machine says.
 use Rattle.std.proofs.Common.{◌≡◌, ℕ, zero, suc, ◌+◌, ◌-◌, ◌<◌, ◌≤◌, min, Bool, true, false, cond, List, [], ◌∷◌, ◌++◌, length, replicate, take, refl, sym, ap, subst, ◌∙◌, Option, Some, None, arith, slice_get, count_by, eqb, eqb-true, append-nil}
-use Rattle.std.specs.List.{AllByRecursion, flat_map}
-use Rattle.std.specs.Option.{option_and_then}
+use Rattle.hs_replay.proofs.Prelude.{AllByRecursion, flat_map, option_and_then, same_Some, take_whole, count_push, MAX_TAKEN, NodeId, Message, Messages, PlainCoordinator, PlainWorkload, is_from, NodeRun, Run, message_of, followed, Machine, heard_in, after_names, StepByStep, MachinesAreWhole, message_named, HasHeard, AllAt, name_of, waiting, HearsNode, HeardUpTo, PlainReplayNode, NodeIsHeard}
 use Rattle.std.proofs.lemmas.Grind.{flat_map-append}
-use Rattle.std.proofs.lemmas.Option.{same_Some}
-use Rattle.hs_lists.proofs.Parts.{take_whole}
-use Rattle.hs_lists.proofs.Counts.{count_push}
-use Rattle.hs_base.specs.declared.limits.TheConstants.{MAX_TAKEN}
-use Rattle.hs_base.specs.declared.ids.NodeId.{NodeId}
-use Rattle.hs_coord.specs.Following.{Message, Messages}
-use Rattle.hs_coord.specs.Kept.{PlainCoordinator}
-use Rattle.hs_records.specs.Plain.{PlainWorkload}
-use Rattle.hs_law_journal.specs.Following.{is_from, NodeRun, Run, message_of, followed}
-use Rattle.hs_law_lockstep.specs.Lockstep.{Machine, told_of, coordinator_hears}
-use Rattle.hs_law_lockstep.specs.Parts.{heard_in, CoordinatorHearsSo}
-use Rattle.hs_law_journal.specs.Performing.{after_names, StepByStep}
-use Rattle.hs_law_lockstep.specs.Reaching.{Hears, MachinesAreWhole}
-use Rattle.hs_law_lockstep.proofs.Standing.{message_named}
-use Rattle.hs_replay.specs.All.{HasHeard, AllAt}
-use Rattle.hs_replay.specs.Hearing.{name_of, waiting, HearsNode, HeardUpTo}
-use Rattle.hs_replay.specs.Parts.{PlainReplayNode}
-use Rattle.hs_replay.specs.Standing.{NodeIsHeard}
+use Rattle.hs_law_lockstep.specs.Lockstep.{told_of, coordinator_hears}
+use Rattle.hs_law_lockstep.specs.Parts.{CoordinatorHearsSo}
+use Rattle.hs_law_lockstep.specs.Reaching.{Hears}
 
 -- ---- lists
 

@@ -1,8 +1,7 @@
 -- What one step more takes from the queues.
 use Rattle.std.proofs.Common.{◌≡◌, ◌+◌, true, List, [], ◌∷◌, ◌++◌, ap, arith}
-use Rattle.hs_lists.proofs.Counts.{one_if}
-use Rattle.hs_journal.specs.declared.journal.Step.{Step}
-use Rattle.hs_law_journal.specs.Following.{Queue, takes, taken}
+use Rattle.hs_replay.proofs.Prelude.{one_if, Step, takes, taken}
+use Rattle.hs_law_journal.specs.Following.{Queue}
 use Rattle.hs_law_journal.proofs.Logs.{taken_push}
 
 pub taken_once : (queue : Queue) (log : List Step) (step : Step) → takes queue step ≡ true → taken queue (log ++ step ∷ []) ≡ taken queue log + 1

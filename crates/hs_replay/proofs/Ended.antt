@@ -1,22 +1,7 @@
 -- What the clients and the agent of a node noted, when all is done.
 use Rattle.std.proofs.Common.{◌≡◌, ℕ, zero, suc, ◌+◌, List, [], ◌∷◌, ◌++◌, length, map, Some, None, refl, sym, ap, subst, ◌∙◌, arith, slice_get, append_assoc, length-append}
-use Rattle.std.proofs.lemmas.List.{map-append}
-use Rattle.std.proofs.lemmas.Option.{slice_get_within}
-use Rattle.std.specs.List.{range_with_len}
-use Rattle.hs_agent.specs.Runs.{Knows, state_of}
-use Rattle.hs_journal.specs.Books.{PlainAgentBook, PlainClientBook, client_book_of}
-use Rattle.hs_journal.specs.declared.books.ClientBook.{ClientBook}
-use Rattle.hs_law_journal.specs.Following.{Chunks, Crumbs, Triggers, taken}
-use Rattle.hs_law_lockstep.specs.Lockstep.{Machine}
-use Rattle.hs_law_agent.specs.Books.{book_of}
-use Rattle.hs_law_agent.specs.State.{AgentState}
-use Rattle.hs_replay_client.specs.Places.{ReplayClientIsAt, IsDone, Notes}
-use Rattle.hs_replay_client.specs.ReplayClients.{PlainReplayClient}
-use Rattle.hs_records.specs.Plain.{PlainWorkload}
-use Rattle.hs_law_sends.specs.Sending.{draws_at, operations_at, place_of}
-use Rattle.hs_replay.specs.Finishing.{HasEnded, HaveEnded, IsBookAt, client_noted}
-use Rattle.hs_replay.specs.Parts.{PlainReplayNode}
-use Rattle.hs_replay.specs.Standing.{run_of}
+use Rattle.hs_replay.proofs.Prelude.{map-append, slice_get_within, range_with_len, Knows, state_of, PlainAgentBook, PlainClientBook, client_book_of, ClientBook, Chunks, Crumbs, Triggers, taken, Machine, book_of, AgentState, ReplayClientIsAt, PlainReplayClient, PlainWorkload, draws_at, operations_at, place_of, HasEnded, HaveEnded, IsBookAt, client_noted, PlainReplayNode, run_of}
+use Rattle.hs_replay_client.specs.Places.{IsDone, Notes}
 use Rattle.hs_replay.proofs.LeftOver.{player_at}
 
 range_more : {A : Type 0} (f : ℕ → A) (start count : ℕ) → map f (range_with_len start (suc count)) ≡ map f (range_with_len start count) ++ f (start + count) ∷ []

@@ -1,41 +1,21 @@
 -- What is in the hand goes back to the pool.
 use Rattle.std.proofs.Common.{◌≡◌, ℕ, zero, suc, ◌+◌, ◌-◌, ◌<◌, ◌≤◌, ◌^◌, Bool, true, false, List, [], ◌∷◌, ◌++◌, length, map, take, reverse, Option, Some, None, inl, inr, refl, sym, ap, subst, ◌∙◌, arith, option_map, append-nil, slice_get, IsSome, count_by}
-use Rattle.std.specs.Prelude.{◌↔◌}
-use Rattle.std.specs.List.{range_with_len}
-use Rattle.std.specs.Option.{option_and_then}
-use Rattle.std.proofs.lemmas.Bool.{cases_lt}
-use Rattle.std.proofs.lemmas.Option.{same_Some}
-use Rattle.hs_agent.specs.Keeping.{PlainAgent}
+use Rattle.hs_replay.proofs.Prelude.{◌↔◌, range_with_len, option_and_then, cases_lt, same_Some, PlainAgent, take_whole, all_at, all_each, sheet_in, Follows, Knows, after_offer, offered_next, state_of, Step, Asks, taken, asks_to, is_from, NodeRun, event_of, perform, page_of, pool_history, taken_still, Machine, agents_give, heard_in, AgentsGiveSo, after_steps, StepByStep, EventsGoOn, EventsAddThis, StepsSayWhatTheyTell, sheets_of, AgentState, AgentEvent, after_event, Pool, IsAfter, PlainWorkload, DrawnPage, Buffer, Sheet, Told, PlainReplayNode, StandsStill, IsGiving, Remain, ReplayClientsStand, NodeIsAt, IsLent, run_of}
 use Rattle.std.proofs.lemmas.List.{length-drop}
-use Rattle.hs_lists.proofs.Parts.{length_map, take_whole}
-use Rattle.hs_lists.proofs.Alls.{all_at, all_each}
+use Rattle.hs_lists.proofs.Parts.{length_map}
 use Rattle.hs_agent.specs.Placing.{place_of}
-use Rattle.hs_agent.specs.Points.{sheet_in}
-use Rattle.hs_agent.specs.Runs.{Run, Follows, Knows, after_offer, first_place, offered_next, state_of}
-use Rattle.hs_journal.specs.declared.journal.Step.{Step}
+use Rattle.hs_agent.specs.Runs.{Run, first_place}
 use Rattle.hs_journal.specs.declared.journal.Step.TheVariants as steps
-use Rattle.hs_law_journal.specs.Following.{Asks, taken, asks_to, is_from, NodeRun, event_of, perform}
-use Rattle.hs_law_journal.specs.Pooled.{buffer_of, page_of, pool_events, pool_history}
-use Rattle.hs_law_journal.proofs.Logs.{taken_still}
-use Rattle.hs_law_lockstep.specs.Lockstep.{Machine, give_steps, agents_give}
-use Rattle.hs_law_lockstep.specs.Parts.{heard_in, GivesNext, AgentGives, AgentsGiveSo}
-use Rattle.hs_law_journal.specs.Performing.{after_steps, StepByStep}
-use Rattle.hs_law_agent.specs.Laws.{EventsGoOn, EventsAddThis, StepsSayWhatTheyTell, sheets_of}
+use Rattle.hs_law_journal.specs.Pooled.{buffer_of, pool_events}
+use Rattle.hs_law_lockstep.specs.Lockstep.{give_steps}
+use Rattle.hs_law_lockstep.specs.Parts.{GivesNext, AgentGives}
 use Rattle.hs_law_agent.specs.Standings.{Taken}
-use Rattle.hs_law_agent.specs.State.{AgentState}
-use Rattle.hs_law_agent.specs.Stepping.{AgentEvent, Gave, Given, after_event}
-use Rattle.hs_pool.specs.Pool.{Pool, IsAfter, IsGiven, IsOut, HasSize}
+use Rattle.hs_law_agent.specs.Stepping.{Gave, Given}
+use Rattle.hs_pool.specs.Pool.{IsGiven, IsOut, HasSize}
 use Rattle.hs_words.specs.declared.token.Given.{Given as Answer}
 use Rattle.hs_words.specs.declared.token.Given.TheVariants as answers
-use Rattle.hs_records.specs.Plain.{PlainWorkload}
-use Rattle.hs_law_sends.specs.Drawn.{DrawnPage}
-use Rattle.hs_words.specs.Buffers.{Buffer}
-use Rattle.hs_words.specs.Pages.{Sheet}
 use Rattle.hs_words.specs.PoolHistory as pools
-use Rattle.hs_base.specs.declared.told.Told.{Told}
-use Rattle.hs_replay.specs.Parts.{PlainReplayNode}
-use Rattle.hs_replay.specs.Passing.{StandsStill, IsGiving, GivesNextOf}
-use Rattle.hs_replay.specs.Standing.{Remain, ReplayClientsStand, NodeIsAt, IsLent, run_of}
+use Rattle.hs_replay.specs.Passing.{GivesNextOf}
 use Rattle.hs_replay.proofs.Readying.{none_moves}
 use Rattle.hs_replay.proofs.Passed.{with_steps_stand, restand}
 use Rattle.hs_replay.proofs.Taken.{one_more}

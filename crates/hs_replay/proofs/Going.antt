@@ -1,44 +1,18 @@
 -- A client does its next operations: the node is where the machine says then.
 use Rattle.std.proofs.Common.{◌≡◌, ℕ, zero, suc, ◌+◌, ◌*◌, ◌<◌, ◌^◌, List, [], ◌∷◌, ◌++◌, length, map, reverse, Option, Some, None, inl, inr, refl, sym, ap, subst, ◌∙◌, arith, slice_get, append-nil, length-set, count_by, fold, get_or, mul-le-mul_right}
-use Rattle.std.specs.List.{range_with_len}
-use Rattle.std.specs.Option.{option_and_then}
+use Rattle.hs_replay.proofs.Prelude.{range_with_len, option_and_then, same_Some, slice_get-get_or, slice_get_within, Listing, MachinesAreWhole, Op, operation_of, length-map-range_with_len, suc_le, get_set_cases, map_range_from, all_each, PlainJournal, sheet_in, ClientId, ChangesAt, Messages, Draw, Chunks, Crumbs, Triggers, Asks, taken, asks_to, is_from, NodeRun, followed, page_of, pool_history, Machine, done_at, client_goes, ClientGoes, ClientsGoSo, ReplayClientIsAt, IsWithin, PlainReplayClient, Pool, IsAfter, PlainWorkload, DrawnPage, ClientSends, client_sends, node_sends, draws_at, operations_at, place_of, Buffer, Sheet, PoolEvent, node_goes, AreOf, PlainReplayNode, StandsStill, Remain, ReplayClientStands, ReplayClientsStand, IsLent, NodeIsAt}
 use Rattle.std.proofs.lemmas.Bool.{cases_eq}
-use Rattle.std.proofs.lemmas.Option.{same_Some, slice_get-get_or, slice_get_within}
-use Rattle.hs_base.specs.Listing.{Listing}
 use Rattle.hs_base.specs.declared.settings.Settings.{Settings}
-use Rattle.hs_law_lockstep.specs.Reaching.{Goes, MachinesAreWhole}
-use Rattle.hs_workload.specs.declared.operation.Op.{Op}
-use Rattle.hs_workload.specs.Views.{operation_of}
-use Rattle.std.proofs.lemmas.List.FromFn.{length-map-range_with_len}
-use Rattle.hs_lists.proofs.Numbers.{suc_le}
-use Rattle.hs_lists.proofs.Places.{get_set_cases}
-use Rattle.hs_lists.proofs.Ranges.{map_range_from}
-use Rattle.hs_lists.proofs.Alls.{all_each}
-use Rattle.hs_journal.specs.Views.{PlainJournal}
-use Rattle.hs_agent.specs.Points.{sheet_in}
-use Rattle.hs_base.specs.declared.ids.ClientId.{ClientId}
+use Rattle.hs_law_lockstep.specs.Reaching.{Goes}
 use Rattle.hs_base.specs.declared.limits.TheConstants.{MAX_OPERATIONS}
-use Rattle.hs_base.specs.Changing.{ChangesAt}
-use Rattle.hs_coord.specs.Following.{Messages}
-use Rattle.hs_journal.specs.declared.journal.Draw.{Draw}
-use Rattle.hs_law_journal.specs.Following.{Chunks, Crumbs, Triggers, Asks, taken, asks_to, is_from, NodeRun, followed}
-use Rattle.hs_law_journal.specs.Pooled.{buffer_of, event_drawn, page_of, pool_history}
-use Rattle.hs_law_lockstep.specs.Lockstep.{Machine, done_at, client_goes, next_draws}
-use Rattle.hs_law_lockstep.specs.Parts.{next_done, next_drawn, next_pages, sending, ClientGoes, ClientsGoSo}
-use Rattle.hs_replay_client.specs.Places.{ReplayClientIsAt, IsWithin, Goes as PlayerGoes, KeepsPool, Went}
-use Rattle.hs_replay_client.specs.ReplayClients.{PlainReplayClient}
-use Rattle.hs_pool.specs.Pool.{Pool, IsAfter}
-use Rattle.hs_records.specs.Plain.{PlainWorkload}
-use Rattle.hs_law_sends.specs.Drawn.{DrawnPage, drawn_from, drawn_pages}
-use Rattle.hs_law_sends.specs.Sending.{ClientSends, client_sends, node_sends, draws_at, operations_at, place_of}
+use Rattle.hs_law_journal.specs.Pooled.{buffer_of, event_drawn}
+use Rattle.hs_law_lockstep.specs.Lockstep.{next_draws}
+use Rattle.hs_law_lockstep.specs.Parts.{next_done, next_drawn, next_pages, sending}
+use Rattle.hs_replay_client.specs.Places.{Goes as PlayerGoes, KeepsPool, Went}
+use Rattle.hs_law_sends.specs.Drawn.{drawn_from, drawn_pages}
 use Rattle.hs_law_sends.specs.Timing.{TimedPage, timed_pages}
-use Rattle.hs_words.specs.Buffers.{Buffer}
-use Rattle.hs_words.specs.Pages.{Sheet}
-use Rattle.hs_words.specs.PoolHistory.{PoolEvent, queue_after}
-use Rattle.hs_replay.specs.Going.{node_goes, AreOf, IsOneOf}
-use Rattle.hs_replay.specs.Parts.{PlainReplayNode}
-use Rattle.hs_replay.specs.Passing.{StandsStill}
-use Rattle.hs_replay.specs.Standing.{Remain, ReplayClientStands, ReplayClientsStand, IsLent, NodeIsAt}
+use Rattle.hs_words.specs.PoolHistory.{queue_after}
+use Rattle.hs_replay.specs.Going.{IsOneOf}
 
 -- ---- pages
 

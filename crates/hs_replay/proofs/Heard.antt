@@ -1,35 +1,16 @@
 -- A message leaves its node, and the asks to which it leads go to theirs: then all stand where they do when it was heard too.
 use Rattle.std.proofs.Common.{◌≡◌, ◌≢◌, ◌⊎◌, inl, inr, ℕ, zero, suc, ◌+◌, ◌<◌, ◌≤◌, Bool, true, false, cond, List, [], ◌∷◌, ◌++◌, length, refl, sym, ap, subst, ◌∙◌, Option, Some, None, arith, option_map, slice_get, count_by, replicate, append_assoc, append-nil, length-append, length-set, eqb, eqb-true, eq-eqb}
-use Rattle.std.specs.Option.{option_and_then}
+use Rattle.hs_replay.proofs.Prelude.{option_and_then, same_Some, slice_get_within, get_there, get_set_cases, get_mid, all_at, count_push, MAX_NODES, MAX_TAKEN, NodeId, Ask, Told, ChangesAt, Message, Messages, PlainCoordinator, HasTaken, PlainWorkload, node_sends, taken, asks_to, is_from, NodeRun, message_of, followed, pool_history, Machine, node_at, after_names, StepByStep, message_named, AllHeard, with_ask, AreAsked, name_of, HeardOf, waiting, HearsNode, PlainReplayNode, Remain, ReplayClientsStand, ReplayAgentStands, PoolStands, NodeIsHeard}
 use Rattle.std.proofs.lemmas.Grind.{replicate_next}
-use Rattle.std.proofs.lemmas.Option.{same_Some, slice_get_past, slice_get_within}
-use Rattle.hs_lists.proofs.Places.{get_there, get_set_cases, get_mid}
-use Rattle.hs_lists.proofs.Alls.{all_at}
-use Rattle.hs_lists.proofs.Counts.{count_push}
-use Rattle.hs_base.specs.declared.limits.TheConstants.{MAX_NODES, MAX_TAKEN}
+use Rattle.std.proofs.lemmas.Option.{slice_get_past}
 use Rattle.hs_base.specs.NodeSets.{has_node}
-use Rattle.hs_base.specs.declared.ids.NodeId.{NodeId}
-use Rattle.hs_base.specs.declared.told.Ask.{Ask}
-use Rattle.hs_base.specs.declared.told.Told.{Told}
-use Rattle.hs_base.specs.Changing.{ChangesAt}
-use Rattle.hs_coord.specs.Following.{Message, Messages, message, first_of, is_newly_asked, AreAsks}
-use Rattle.hs_coord.specs.Kept.{PlainCoordinator, HasTaken}
+use Rattle.hs_coord.specs.Following.{message, first_of, is_newly_asked, AreAsks}
 use Rattle.hs_coord.specs.declared.asks.Asks.{Asks}
-use Rattle.hs_records.specs.Plain.{PlainWorkload}
-use Rattle.hs_law_sends.specs.Sending.{node_sends}
-use Rattle.hs_law_journal.specs.Following.{Asks as AskQueue, taken, ask_by, asks_to, is_from, NodeRun, message_of, followed}
-use Rattle.hs_law_journal.specs.Pooled.{pool_history}
+use Rattle.hs_law_journal.specs.Following.{Asks as AskQueue, ask_by}
 use Rattle.hs_law_lockstep.specs.Conditions.{MachinesTellWithin}
-use Rattle.hs_law_lockstep.specs.Lockstep.{Machine}
-use Rattle.hs_law_lockstep.specs.Parts.{node_at}
-use Rattle.hs_law_journal.specs.Performing.{after_names, StepByStep}
-use Rattle.hs_law_lockstep.proofs.Standing.{message_named}
 use Rattle.hs_law_agent.specs.Leading.{IsToldBelow}
 use Rattle.hs_workload.specs.declared.word.Setting.TheVariants as settings
-use Rattle.hs_replay.specs.All.{AllHeard}
-use Rattle.hs_replay.specs.Hearing.{with_ask, with_told, TellsNext, asked_by, AreAsked, name_of, HeardOf, IsHeardOut, waiting, HearsNode}
-use Rattle.hs_replay.specs.Parts.{PlainReplayNode}
-use Rattle.hs_replay.specs.Standing.{Remain, ReplayClientsStand, ReplayAgentStands, PoolStands, NodeIsHeard}
+use Rattle.hs_replay.specs.Hearing.{with_told, TellsNext, asked_by, IsHeardOut}
 use Rattle.hs_replay.proofs.Taken.{more_remain}
 
 -- ---- lists

@@ -1,28 +1,18 @@
 -- What a node has left, as the machine has it.
 use Rattle.std.proofs.Common.{◌≡◌, ℕ, zero, suc, ◌+◌, ◌<◌, Bool, true, false, ◌&&◌, List, [], ◌∷◌, length, zip, Some, None, inl, inr, refl, sym, ap, subst, ◌∙◌, arith, slice_get, eqb, eq-eqb, ◌==◌, count_by, length-append}
-use Rattle.std.proofs.lemmas.List.FromFn.{length-map-range_with_len}
+use Rattle.hs_replay.proofs.Prelude.{length-map-range_with_len, eqb-true, cases_lt, same_Some, slice_get_within, ◌↔◌, AllByRecursion, range_with_len, list_all_fails, list_all_by_place, Chunks, Crumbs, Triggers, Asks, taken, asks_to, is_from, NodeRun, followed, Machine, ReplayClientIsAt, PlainReplayClient, Operation, PlainWorkload, ClientSends, client_sends, draws_at, operations_at, place_of, IsValid, done_of, all_of, are_clients_bare, PlainReplayNode, Remain, NodeIsAt, ReplayClientsStand}
 use Rattle.hs_replay.proofs.Readying.{sends_there}
-use Rattle.std.proofs.lemmas.Bool.{eqb-true, cases_lt, and_from, and_parts}
-use Rattle.std.proofs.lemmas.Option.{same_Some, slice_get_within}
-use Rattle.std.specs.Prelude.{◌↔◌, IsTrue, unwrap_or}
-use Rattle.std.specs.List.{AllByRecursion, range_with_len}
+use Rattle.std.proofs.lemmas.Bool.{and_from, and_parts}
+use Rattle.std.specs.Prelude.{IsTrue, unwrap_or}
 use Rattle.hs_lists.proofs.Bools.{bool_same}
-use Rattle.hs_lists.proofs.Tests.{list_all_fails, list_all_by_place}
 use Rattle.hs_lists.proofs.Places.{zipped_at}
 use Rattle.hs_law_journal.specs.Ends.{took_all}
-use Rattle.hs_law_journal.specs.Following.{Chunks, Crumbs, Triggers, Asks, taken, asks_to, is_from, NodeRun, followed}
-use Rattle.hs_law_lockstep.specs.Lockstep.{Machine}
-use Rattle.hs_replay_client.specs.Places.{ReplayClientIsAt, TellsLeft, TellsBare}
-use Rattle.hs_replay_client.specs.ReplayClients.{PlainReplayClient}
-use Rattle.hs_records.specs.Plain.{Operation, PlainWorkload}
-use Rattle.hs_law_sends.specs.Sending.{ClientSends, client_sends, draws_at, operations_at, place_of, sent_within}
+use Rattle.hs_replay_client.specs.Places.{TellsLeft, TellsBare}
+use Rattle.hs_law_sends.specs.Sending.{sent_within}
 use Rattle.hs_law_sends.specs.SoFar.{AllChunksAreSent, AllCrumbsAreSent, AllTriggersAreSent}
 use Rattle.hs_records.specs.Records.{AreBracketed}
-use Rattle.hs_workload.specs.Validity.{IsValid, IsClient}
+use Rattle.hs_workload.specs.Validity.{IsClient}
 use Rattle.hs_workload.specs.declared.word.Setting.TheVariants as settings
-use Rattle.hs_replay.specs.Left.{done_of, all_of, are_clients_bare}
-use Rattle.hs_replay.specs.Parts.{PlainReplayNode}
-use Rattle.hs_replay.specs.Standing.{Remain, NodeIsAt, ReplayClientsStand}
 
 -- the agent took all that a client of its run sent
 abbrev pub AllTaken : NodeRun → ℕ → Type 0

@@ -1,24 +1,12 @@
 -- What waits in a queue is taken item by item.
 use Rattle.std.proofs.Common.{◌≡◌, ℕ, zero, suc, ◌+◌, ◌-◌, ◌≤◌, min, Bool, true, false, List, [], ◌∷◌, ◌++◌, length, replicate, refl, sym, ap, subst, ◌∙◌, arith, append_assoc, append-nil, eq-eqb}
-use Rattle.std.proofs.lemmas.Bool.{ne_eqb}
-use Rattle.std.specs.List.{flat_map, range_with_len}
-use Rattle.std.specs.Option.{option_and_then}
-use Rattle.hs_lists.proofs.Counts.{one_if}
-use Rattle.hs_base.specs.declared.limits.TheConstants.{MAX_TAKEN}
-use Rattle.hs_journal.specs.declared.journal.Step.{Step}
+use Rattle.hs_replay.proofs.Prelude.{ne_eqb, flat_map, range_with_len, option_and_then, one_if, MAX_TAKEN, Step, NodeRun, takes, taken, Machine, heard_in, after_steps, StepByStep, PlainWorkload, Queue, PlainReplayNode, IsAmid, IsDrained, WentBy, TookOne, TookSome, TakesNext, takes_by, takes_first, step_from, IsQueueOf}
 use Rattle.hs_journal.specs.declared.journal.Step.TheVariants as steps
 use Rattle.hs_law_journal.specs.Following as following
-use Rattle.hs_law_journal.specs.Following.{NodeRun, takes, taken}
-use Rattle.hs_law_lockstep.specs.Lockstep.{Machine}
-use Rattle.hs_law_lockstep.specs.Parts.{heard_in}
-use Rattle.hs_law_journal.specs.Performing.{after_steps, StepByStep}
 use Rattle.hs_law_lockstep.proofs.Items.{taken_both}
-use Rattle.hs_records.specs.Plain.{PlainWorkload}
-use Rattle.hs_replay.specs.declared.queue.Queue.{Queue}
 use Rattle.hs_replay.specs.declared.queue.Queue.TheVariants as queues
-use Rattle.hs_replay.specs.Parts.{PlainReplayNode}
-use Rattle.hs_replay.specs.Passing.{IsAmid, IsDrained, WentBy, TookOne, TookSome, TakesNext, sent_to, takes_by, takes_of_client, takes_first}
-use Rattle.hs_replay.specs.Queues.{queue_of, step_from, IsQueueOf}
+use Rattle.hs_replay.specs.Passing.{sent_to, takes_of_client}
+use Rattle.hs_replay.specs.Queues.{queue_of}
 
 -- ---- counts
 

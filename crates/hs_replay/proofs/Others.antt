@@ -1,38 +1,15 @@
 -- What the clients of one node do leaves all other nodes where they are.
 use Rattle.std.proofs.Common.{◌≡◌, ◌≢◌, ◌⊎◌, inl, inr, ℕ, zero, suc, ◌+◌, ◌*◌, ◌/◌, ◌<◌, ◌≤◌, List, [], length, take, drop, fold, map, refl, sym, ap, subst, ◌∙◌, Some, arith, slice_get, unwrap_or, length-set, length-take, length-drop}
+use Rattle.hs_replay.proofs.Prelude.{range_with_len, div-mul-add, slice_get_within, get_there, get_set_cases, range_append, MAX_NODES, Listing, ChangesAt, Messages, PlainCoordinator, Draw, Chunks, Crumbs, Triggers, taken, NodeRun, followed, Machine, client_goes, clients_go, agents_take, agents_give, done_at, node_at, heard_in, ClientGoes, ClientsGoSo, AgentsTakeSo, AgentsGiveSo, IsReached, MachinesAreWhole, ReplayClientIsAt, PlainReplayClient, PlainWorkload, draws_at, node_sends, operations_at, place_of, IsValid, workload_of, Workload, Op, HasHeard, AllAt, NodesAt, clients_gone, NodesBetween, node_goes, AreOf, PlainReplayNode, ReplayClientStands, NodeIsHeard, NodeIsAt}
 use Rattle.std.proofs.lemmas.List.{length-map}
-use Rattle.std.specs.List.{range_with_len}
 use Rattle.std.proofs.Math.Nat.{suc-mul}
 use Rattle.std.proofs.lemmas.List.Sums.{fold-append}
-use Rattle.std.proofs.lemmas.Nat.{mul-add-lt, div-mul-add}
-use Rattle.std.proofs.lemmas.Option.{slice_get_within}
-use Rattle.hs_lists.proofs.Places.{get_there, get_set_cases}
-use Rattle.hs_lists.proofs.Ranges.{range_append}
-use Rattle.hs_base.specs.declared.limits.TheConstants.{MAX_NODES, MAX_CLIENTS}
-use Rattle.hs_base.specs.Listing.{Listing}
-use Rattle.hs_base.specs.Changing.{ChangesAt}
-use Rattle.hs_coord.specs.Following.{Messages}
-use Rattle.hs_coord.specs.Kept.{PlainCoordinator}
-use Rattle.hs_journal.specs.declared.journal.Draw.{Draw}
-use Rattle.hs_law_journal.specs.Following.{Chunks, Crumbs, Triggers, taken, NodeRun, followed}
-use Rattle.hs_law_lockstep.specs.Lockstep.{Machine, client_goes, clients_go, agents_take, agents_give, done_at}
-use Rattle.hs_law_lockstep.specs.Parts.{node_at, heard_in, ClientGoes, ClientsGoSo, AgentsTakeSo, AgentsGiveSo}
+use Rattle.std.proofs.lemmas.Nat.{mul-add-lt}
+use Rattle.hs_base.specs.declared.limits.TheConstants.{MAX_CLIENTS}
 use Rattle.hs_law_lockstep.specs.Reaching as reaching
-use Rattle.hs_law_lockstep.specs.Reaching.{IsReached, MachinesAreWhole}
-use Rattle.hs_replay_client.specs.Places.{ReplayClientIsAt}
-use Rattle.hs_replay_client.specs.ReplayClients.{PlainReplayClient}
-use Rattle.hs_records.specs.Plain.{PlainWorkload}
-use Rattle.hs_law_sends.specs.Sending.{draws_at, node_sends, operations_at, place_of}
-use Rattle.hs_workload.specs.Validity.{IsValid}
-use Rattle.hs_workload.specs.Views.{operations_of, workload_of}
-use Rattle.hs_workload.specs.declared.operation.Workload.{Workload}
+use Rattle.hs_workload.specs.Views.{operations_of}
 use Rattle.hs_workload.specs.declared.word.Setting.TheVariants as settings
-use Rattle.hs_workload.specs.declared.operation.Op.{Op}
 use Rattle.hs_workload.proofs.Sizes.{product_few, last_low, operations_sliced}
-use Rattle.hs_replay.specs.All.{HasHeard, AllAt, NodesAt, clients_gone, NodesBetween}
-use Rattle.hs_replay.specs.Going.{node_goes, AreOf}
-use Rattle.hs_replay.specs.Parts.{PlainReplayNode}
-use Rattle.hs_replay.specs.Standing.{ReplayClientStands, NodeIsHeard, NodeIsAt}
 
 -- ---- lists
 

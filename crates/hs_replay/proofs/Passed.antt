@@ -1,22 +1,10 @@
 -- A pass of a node's agent up to its turn is what the machine says of it.
 use Rattle.std.proofs.Common.{◌≡◌, ℕ, zero, suc, ◌+◌, List, [], ◌∷◌, ◌++◌, length, map, zip, Some, refl, sym, ap, subst, ◌∙◌}
-use Rattle.std.specs.List.{flat_map, range_with_len}
-use Rattle.std.proofs.lemmas.Option.{same_Some}
-use Rattle.hs_coord.specs.Following.{Messages}
-use Rattle.hs_journal.specs.declared.journal.Step.{Step}
+use Rattle.hs_replay.proofs.Prelude.{flat_map, range_with_len, same_Some, Messages, Step, NodeRun, followed, pool_history, Machine, done_at, agents_take, heard_in, AgentsTakeSo, after_steps, PlainWorkload, ClientSends, client_sends, place_of, PoolEvent, PlainReplayNode, IsAmid, WentBy, StandsStill, takes_by, takes_first, NodeIsAt, ReplayNodeStands}
 use Rattle.hs_journal.specs.declared.journal.Step.TheVariants as steps
-use Rattle.hs_law_journal.specs.Following.{NodeRun, followed}
-use Rattle.hs_law_journal.specs.Pooled.{pool_history}
-use Rattle.hs_law_lockstep.specs.Lockstep.{Machine, done_at, with_steps, takes_of, takes_all, pass_steps, agents_take}
-use Rattle.hs_law_lockstep.specs.Parts.{heard_in, AgentTakes, AgentsTakeSo}
-use Rattle.hs_law_journal.specs.Performing.{after_steps}
-use Rattle.hs_records.specs.Plain.{PlainWorkload}
-use Rattle.hs_law_sends.specs.Sending.{ClientSends, client_sends, place_of}
-use Rattle.hs_words.specs.PoolHistory.{PoolEvent}
+use Rattle.hs_law_lockstep.specs.Lockstep.{with_steps, takes_of, takes_all, pass_steps}
+use Rattle.hs_law_lockstep.specs.Parts.{AgentTakes}
 use Rattle.hs_replay.specs.declared.queue.Queue.TheVariants as queues
-use Rattle.hs_replay.specs.Parts.{PlainReplayNode}
-use Rattle.hs_replay.specs.Passing.{IsAmid, WentBy, StandsStill, takes_by, takes_first}
-use Rattle.hs_replay.specs.Standing.{NodeIsAt, ReplayNodeStands}
 use Rattle.hs_replay.proofs.Looping.{takes_in_pass}
 
 -- a node that stands still, before its pass

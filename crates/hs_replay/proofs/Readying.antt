@@ -1,28 +1,12 @@
 -- The next item of a queue, taken out for the agent: the step that takes it is ready, and the other parts stand where they stood.
 use Rattle.std.proofs.Common.{◌≡◌, ℕ, ◌+◌, ◌<◌, true, false, List, [], ◌∷◌, ◌++◌, length, set, Option, Some, inl, inr, refl, sym, ap, subst, ◌∙◌, arith, option_map, eq-eqb, nat_eq, length-set}
-use Rattle.std.proofs.lemmas.Bool.{ne_eqb}
-use Rattle.std.specs.Prelude.{slice_get}
-use Rattle.std.specs.Option.{option_and_then}
-use Rattle.hs_lists.proofs.Places.{get_set_cases}
-use Rattle.hs_lists.proofs.Ranges.{map_range_from}
-use Rattle.hs_agent.specs.Points.{sheet_in}
-use Rattle.hs_base.specs.declared.told.Crumb.{Crumb}
-use Rattle.hs_base.specs.declared.told.Trigger.{Trigger}
-use Rattle.hs_journal.specs.declared.journal.Step.{Step}
+use Rattle.hs_replay.proofs.Prelude.{ne_eqb, slice_get, option_and_then, get_set_cases, map_range_from, sheet_in, Crumb, Trigger, Step, Chunks, Crumbs, Triggers, takes, taken, NodeRun, event_of, page_of, taken_still, Machine, done_at, heard_in, AgentEvent, Took, Chunk, Crumbed, Triggered, ReplayClientIsAt, PlainReplayClient, PlainWorkload, DrawnPage, ClientSends, client_sends, node_sends, draws_at, operations_at, place_of, Sheet, ReplayClientStands, ReplayClientsStand, IsLent}
 use Rattle.hs_journal.specs.declared.journal.Step.TheVariants as steps
-use Rattle.hs_law_journal.specs.Following.{Queue, Chunks, Crumbs, Triggers, takes, taken, NodeRun, event_of, next_of}
-use Rattle.hs_law_journal.specs.Pooled.{page_of, buffer_of as buffer_in_draw}
-use Rattle.hs_law_journal.proofs.Logs.{taken_still}
-use Rattle.hs_law_lockstep.specs.Lockstep.{Machine, done_at}
-use Rattle.hs_law_lockstep.specs.Parts.{heard_in}
-use Rattle.hs_law_agent.specs.Stepping.{AgentEvent, Took, Chunk, Crumbed, Triggered}
-use Rattle.hs_replay_client.specs.Places.{ReplayClientIsAt, IsChunkAt}
-use Rattle.hs_replay_client.specs.ReplayClients.{PlainReplayClient, Unleased}
-use Rattle.hs_records.specs.Plain.{PlainWorkload}
-use Rattle.hs_law_sends.specs.Drawn.{DrawnPage}
-use Rattle.hs_law_sends.specs.Sending.{Sent, ClientSends, client_sends, node_sends, draws_at, operations_at, place_of}
-use Rattle.hs_words.specs.Pages.{Sheet}
-use Rattle.hs_replay.specs.Standing.{ReplayClientStands, ReplayClientsStand, IsLent}
+use Rattle.hs_law_journal.specs.Following.{Queue, next_of}
+use Rattle.hs_law_journal.specs.Pooled.{buffer_of as buffer_in_draw}
+use Rattle.hs_replay_client.specs.Places.{IsChunkAt}
+use Rattle.hs_replay_client.specs.ReplayClients.{Unleased}
+use Rattle.hs_law_sends.specs.Sending.{Sent}
 use Rattle.hs_replay.proofs.Counting.{taken_once}
 
 -- ---- clients

@@ -1,30 +1,12 @@
 -- Rounds and closing: what is left, what is bare, and how far the schedule is.
 use Rattle.std.proofs.Common.{◌≡◌, ◌⊎◌, inl, inr, ℕ, zero, suc, ◌+◌, ◌*◌, ◌/◌, ◌%◌, ◌<◌, ◌≤◌, true, false, List, length, take, drop, fold, refl, sym, ap, subst, ◌∙◌, Some, arith, slice_get}
-use Rattle.std.specs.List.{range_with_len}
+use Rattle.hs_replay.proofs.Prelude.{range_with_len, cases_lt, slice_get_within, list_all_fails, list_all_by_place, Listing, PlainCoordinator, is_left_bare, rounds_of, NodeRun, followed, AllDone, behind_rounds, passed, HasClosing, Machine, machine_start, client_goes, clients_go, rounds, done_at, node_at, heard_in, ClientsGoSo, IsReached, MachinesAreWhole, PlainWorkload, operations_at, place_of, IsValid, workload_of, Op, Workload, NodesAt, AllAt, TellsLeft, AllClosed, HasClients, IsNodeDone, TellsNodeLeft, PlainReplayNode, StandsStill}
 use Rattle.std.proofs.Math.Nat.{div-add-mod, div-lt_iff_lt-mul, mod-lt, mul_comm}
-use Rattle.std.proofs.lemmas.Bool.{cases_lt}
-use Rattle.std.proofs.lemmas.Option.{slice_get_within}
-use Rattle.hs_lists.proofs.Tests.{list_all_fails, list_all_by_place}
-use Rattle.hs_base.specs.Listing.{Listing}
-use Rattle.hs_coord.specs.Kept.{PlainCoordinator}
-use Rattle.hs_law_journal.specs.Ends.{is_left_bare, is_bare, rounds_of}
-use Rattle.hs_law_journal.specs.Following.{NodeRun, followed}
+use Rattle.hs_law_journal.specs.Ends.{is_bare}
 use Rattle.hs_law_journal.specs.Played.{played}
-use Rattle.hs_law_lockstep.specs.Ending.{AllDone, HasRounds, behind_rounds, passed, HasClosing}
-use Rattle.hs_law_lockstep.specs.Lockstep.{Machine, machine_start, client_goes, clients_go, passes, round, rounds, done_at}
-use Rattle.hs_law_lockstep.specs.Parts.{node_at, heard_in, ClientsGoSo}
+use Rattle.hs_law_lockstep.specs.Ending.{HasRounds}
+use Rattle.hs_law_lockstep.specs.Lockstep.{passes, round}
 use Rattle.hs_law_lockstep.specs.Reaching as reaching
-use Rattle.hs_law_lockstep.specs.Reaching.{IsReached, MachinesAreWhole}
-use Rattle.hs_records.specs.Plain.{PlainWorkload}
-use Rattle.hs_law_sends.specs.Sending.{operations_at, place_of}
-use Rattle.hs_workload.specs.Validity.{IsValid}
-use Rattle.hs_workload.specs.Views.{workload_of}
-use Rattle.hs_workload.specs.declared.operation.Op.{Op}
-use Rattle.hs_workload.specs.declared.operation.Workload.{Workload}
-use Rattle.hs_replay.specs.All.{NodesAt, AllAt, TellsLeft, AllClosed}
-use Rattle.hs_replay.specs.Left.{HasClients, IsNodeDone, TellsNodeLeft}
-use Rattle.hs_replay.specs.Parts.{PlainReplayNode}
-use Rattle.hs_replay.specs.Passing.{StandsStill}
 use Rattle.hs_replay.proofs.Others.{place_below, gone, clients_are, all_still}
 
 -- each place is that of a client of a node

@@ -1,17 +1,6 @@
 -- All nodes where nothing was done, and their coordinator.
 use Rattle.std.proofs.Common.{◌≡◌, inl, inr, ℕ, zero, suc, ◌+◌, List, [], ◌∷◌, ◌++◌, length, Some, None, Result, Ok, Err, IfOk, sym, ap, subst, ◌∙◌, arith, slice_get, length-append}
-use Rattle.hs_lists.proofs.Places.{get_push_cases}
-use Rattle.hs_coord.specs.Following.{Messages}
-use Rattle.hs_coord.specs.Kept.{PlainCoordinator, HasTaken}
-use Rattle.hs_law_journal.specs.Following.{Run}
-use Rattle.hs_law_lockstep.specs.Lockstep.{machine_start}
-use Rattle.hs_law_lockstep.specs.Parts.{heard_in}
-use Rattle.hs_law_lockstep.specs.Reaching.{MachinesStartSo}
-use Rattle.hs_records.specs.Plain.{PlainWorkload}
-use Rattle.hs_replay.specs.All.{AllAt, NodesAt}
-use Rattle.hs_replay.specs.Making.{AreMade}
-use Rattle.hs_replay.specs.Parts.{PlainReplayNode}
-use Rattle.hs_replay.specs.Standing.{NodeIsAt}
+use Rattle.hs_replay.proofs.Prelude.{get_push_cases, Messages, PlainCoordinator, HasTaken, Run, machine_start, heard_in, MachinesStartSo, PlainWorkload, AllAt, NodesAt, AreMade, PlainReplayNode, NodeIsAt}
 
 nothing_at : (W : PlainWorkload) (nodes : List PlainReplayNode) (place : ℕ) (node : PlainReplayNode) → nodes ≡ [] → slice_get nodes place ≡ Some node → NodeIsAt W (machine_start W) place node
 nothing_at W [] zero node none at = let nobody : None ≡ Some node = at in absurd cc

@@ -1,35 +1,15 @@
 -- The agent takes an item that was taken out for it: the node's run performed the step.
 use Rattle.std.proofs.Common.{◌≡◌, ℕ, ◌+◌, ◌<◌, ◌^◌, List, [], ◌∷◌, ◌++◌, map, Option, Some, None, sym, ap, subst, ◌∙◌, option_map, append_assoc, count_by}
-use Rattle.std.proofs.lemmas.List.{map-append}
-use Rattle.std.specs.List.{AllByRecursion}
-use Rattle.std.specs.Option.{option_and_then, option_to_list}
-use Rattle.hs_lists.proofs.Alls.{all_each, all_append}
-use Rattle.hs_agent.specs.declared.input.Input.{Input}
+use Rattle.hs_replay.proofs.Prelude.{map-append, AllByRecursion, option_and_then, all_each, Input, PlainAgent, sheet_in, Follows, Knows, Told, Messages, Step, Asks, taken, asks_to, is_from, NodeRun, event_of, perform, Machine, heard_in, after_steps, StepByStep, EventsGoOn, EventsAddThis, StepsSayWhatTheyTell, sheets_of, AgentState, AgentEvent, Took, after_event, PlainSettings, PlainWorkload, Buffer, Sheet, PlainReplayNode, IsAmid, IsReady, IsThere, TookOne, WentBy, step_from, Queue, Remain, ReplayClientsStand, ReplayAgentStands, IsLent, run_of}
+use Rattle.std.specs.Option.{option_to_list}
+use Rattle.hs_lists.proofs.Alls.{all_append}
 use Rattle.hs_agent.specs.declared.input.Input.TheVariants as inputs
-use Rattle.hs_agent.specs.Keeping.{PlainAgent}
-use Rattle.hs_agent.specs.Points.{sheet_in}
-use Rattle.hs_agent.specs.Runs.{Follows, IsTakable, Knows, after_input, buffers_in, input_of, point_of, told_in}
+use Rattle.hs_agent.specs.Runs.{IsTakable, after_input, buffers_in, input_of, point_of, told_in}
 use Rattle.hs_agent.proofs.Brought.{sheets_brought}
-use Rattle.hs_base.specs.declared.told.Told.{Told}
-use Rattle.hs_coord.specs.Following.{Messages}
-use Rattle.hs_journal.specs.declared.journal.Step.{Step}
-use Rattle.hs_law_journal.specs.Following.{Asks, taken, asks_to, is_from, NodeRun, event_of, perform}
 use Rattle.hs_law_journal.specs.Fitting.{MayTake}
 use Rattle.hs_law_lockstep.specs.Conditions.{MachinesFit}
-use Rattle.hs_law_lockstep.specs.Lockstep.{Machine}
-use Rattle.hs_law_lockstep.specs.Parts.{heard_in}
-use Rattle.hs_law_journal.specs.Performing.{after_steps, StepByStep}
-use Rattle.hs_law_agent.specs.Laws.{EventsGoOn, EventsAddThis, StepsSayWhatTheyTell, sheets_of}
-use Rattle.hs_law_agent.specs.State.{AgentState}
-use Rattle.hs_law_agent.specs.Stepping.{AgentEvent, Took, after, after_event, told_by}
-use Rattle.hs_records.specs.Plain.{PlainSettings, PlainWorkload}
-use Rattle.hs_words.specs.Buffers.{Buffer}
-use Rattle.hs_words.specs.Pages.{Sheet}
-use Rattle.hs_replay.specs.Parts.{PlainReplayNode}
-use Rattle.hs_replay.specs.Passing.{IsAmid, IsReady, IsThere, TookOne, WentBy, FitsChunk}
-use Rattle.hs_replay.specs.Queues.{step_from}
-use Rattle.hs_replay.specs.declared.queue.Queue.{Queue}
-use Rattle.hs_replay.specs.Standing.{Remain, ReplayClientsStand, ReplayAgentStands, IsLent, run_of}
+use Rattle.hs_law_agent.specs.Stepping.{after, told_by}
+use Rattle.hs_replay.specs.Passing.{FitsChunk}
 
 -- ---- lists
 

@@ -1,34 +1,11 @@
 -- What each call that takes an item out of a queue leads to.
 use Rattle.std.proofs.Common.{◌≡◌, ℕ, ◌<◌, false, List, [], ◌∷◌, ◌++◌, length, Option, Some, None, refl, sym, ap, subst, ◌∙◌, arith, option_map, append_assoc, append-nil, length-append}
-use Rattle.std.specs.Prelude.{slice_get, IsSome}
-use Rattle.std.proofs.lemmas.Option.{slice_get_within}
-use Rattle.hs_lists.proofs.Places.{get_mid}
-use Rattle.hs_agent.specs.declared.input.Input.{Input}
+use Rattle.hs_replay.proofs.Prelude.{slice_get, slice_get_within, get_mid, Input, Ask, Crumb, Trigger, ChangesAt, Step, Chunks, Crumbs, Triggers, Asks, takes, taken, NodeRun, asks_to, Machine, done_at, heard_in, Took, Chunk, Crumbed, Triggered, TakesChunk, TakesCrumb, TakesTrigger, PlainReplayClient, PlainWorkload, draws_at, operations_at, place_of, Held, buffer_of, sheet_in, pool_history, taken_still, Sheet, PlainReplayNode, IsAmid, IsReady, IsDrained, IsThere, Remain, ReplayClientsStand, ReplayNodeStands}
+use Rattle.std.specs.Prelude.{IsSome}
 use Rattle.hs_agent.specs.declared.input.Input.TheVariants as inputs
-use Rattle.hs_base.specs.declared.told.Ask.{Ask}
-use Rattle.hs_base.specs.declared.told.Crumb.{Crumb}
-use Rattle.hs_base.specs.declared.told.Trigger.{Trigger}
-use Rattle.hs_base.specs.Changing.{ChangesAt}
-use Rattle.hs_journal.specs.declared.journal.Step.{Step}
 use Rattle.hs_journal.specs.declared.journal.Step.TheVariants as steps
-use Rattle.hs_law_journal.specs.Following.{Chunks, Crumbs, Triggers, Asks, takes, taken, NodeRun, asks_to}
-use Rattle.hs_law_lockstep.specs.Lockstep.{Machine, done_at}
-use Rattle.hs_law_lockstep.specs.Parts.{heard_in}
-use Rattle.hs_law_agent.specs.Stepping.{Took, Chunk, Crumbed, Triggered, Asked}
-use Rattle.hs_replay_client.specs.Places.{TakesChunk, TakesCrumb, TakesTrigger}
-use Rattle.hs_replay_client.specs.ReplayClients.{PlainReplayClient}
-use Rattle.hs_records.specs.Plain.{PlainWorkload}
-use Rattle.hs_law_sends.specs.Sending.{draws_at, operations_at, place_of}
-use Rattle.hs_words.specs.declared.token.Held.{Held}
-use Rattle.hs_words.specs.Buffers.{buffer_of}
-use Rattle.hs_agent.specs.Points.{sheet_in}
-use Rattle.hs_law_journal.specs.Pooled.{pool_history}
-use Rattle.hs_law_journal.proofs.Logs.{taken_still}
-use Rattle.hs_words.specs.Pages.{Sheet}
+use Rattle.hs_law_agent.specs.Stepping.{Asked}
 use Rattle.hs_replay.specs.declared.queue.Queue.TheVariants as queues
-use Rattle.hs_replay.specs.Parts.{PlainReplayNode}
-use Rattle.hs_replay.specs.Passing.{IsAmid, IsReady, IsDrained, IsThere}
-use Rattle.hs_replay.specs.Standing.{Remain, ReplayClientsStand, ReplayNodeStands}
 use Rattle.hs_replay.proofs.Counting.{taken_once}
 use Rattle.hs_replay.proofs.Readying.{none_moves, sheet_is, chunk_ready, crumb_ready, trigger_ready, chunk_lent, chunk_moved, crumb_moved, trigger_moved, players_set, players_same, chunks_else, crumbs_else, triggers_else}
 

@@ -1,5 +1,5 @@
 -- What follows of a value that there is.
-use Rattle.std.specs.Prelude.{Result, Ok, Err, IfOk}
+use Rattle.hs_replay.proofs.Prelude.{Result, Ok, Err, IfOk}
 
 pub on_ok_value : {T E : Type 0} (r : Result T E) (P Q : T → Type 0) → IfOk r P → ((x : T) → P x → Q x) → IfOk r Q
 on_ok_value (Ok x) P Q h f = f x h

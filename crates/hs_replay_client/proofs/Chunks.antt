@@ -1,24 +1,14 @@
 -- The chunk at a place of those that were sent: its page, its draw, and where these stand.
 use Rattle.std.proofs.Common.{◌≡◌, ℕ, zero, suc, Bool, true, false, List, [], ◌∷◌, ◌++◌, length, filter, Some, refl, sym, ap, ◌∙◌, subst, arith}
-use Rattle.std.proofs.lemmas.Option.{slice_get-map, same_Some}
-use Rattle.std.specs.Prelude.{slice_get, nat_lt, if◌then◌else◌}
-use Rattle.std.specs.Option.{option_map}
-use Rattle.std.specs.List.{flat_map}
-use Rattle.hs_lists.proofs.Places.{get_front}
-use Rattle.hs_base.specs.declared.ids.ClientId.{ClientId}
-use Rattle.hs_journal.specs.declared.journal.Draw.{Draw}
+use Rattle.hs_replay_client.proofs.Prelude.{slice_get-map, same_Some, slice_get, nat_lt, option_map, flat_map, get_front, ClientId, Draw, Operation, PlainSettings, DrawnPage, ChunksAreInOrder, Sent, sends_of, sent_within, timed_pages, Contents, clear_chunk, Unleased, IsPlayable, chunk_of, chunks_within}
+use Rattle.std.specs.Prelude.{if◌then◌else◌}
 use Rattle.hs_journal.specs.declared.journal.Draw.TheVariants as noted
-use Rattle.hs_records.specs.Plain.{Operation, PlainSettings}
-use Rattle.hs_law_sends.specs.Drawn.{DrawnPage, has_buffer}
-use Rattle.hs_law_sends.specs.Order.{ChunksAreInOrder}
-use Rattle.hs_law_sends.specs.Sending.{Sent, sends_of, sent_chunks, sent_within, sheet_of}
-use Rattle.hs_law_sends.specs.Timing.{timed_pages}
+use Rattle.hs_law_sends.specs.Drawn.{has_buffer}
+use Rattle.hs_law_sends.specs.Sending.{sent_chunks, sheet_of}
 use Rattle.hs_law_sends.proofs.Order.{page_at}
-use Rattle.hs_words.specs.Chunks.{Contents, with_page, clear_chunk}
+use Rattle.hs_words.specs.Chunks.{with_page}
 use Rattle.hs_words.specs.Pages.{Sheet}
-use Rattle.hs_replay_client.specs.ReplayClients.{Unleased}
-use Rattle.hs_law_sends.specs.Playable.{IsPlayable}
-use Rattle.hs_replay_client.specs.Places.{IsChunkAt, chunk_by, chunk_of, chunks_within}
+use Rattle.hs_replay_client.specs.Places.{IsChunkAt, chunk_by}
 use Rattle.hs_replay_client.proofs.Fronts.{drawn_within}
 use Rattle.hs_replay_client.proofs.Lists.{sent_first}
 

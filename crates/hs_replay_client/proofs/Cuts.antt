@@ -1,11 +1,7 @@
 -- A client that has recorded some pieces of a payload, and has the rest of it still to record.
 use Rattle.std.proofs.Common.{◌≡◌, ℕ, ◌+◌, ◌<◌, ◌≤◌, List, [], ◌∷◌, ◌++◌, length, map, take, drop, refl, sym, ap, ap₂, ◌∙◌, arith, subst}
-use Rattle.hs_base.specs.declared.limits.TheConstants.{MIN_SIZE}
-use Rattle.hs_records.specs.Records.{Piece, Segment, piece_limit, payload_pieces, piece_count, record_pieces}
-use Rattle.hs_records.proofs.Payloads.{AreCut}
-use Rattle.hs_replay_client.specs.ReplayClients.{Unleased}
-use Rattle.hs_replay_client.specs.Wells.{Way, IsReadyFor}
-use Rattle.hs_replay_client.specs.Writing.{Made, Writing, IsSound, Spends, IsWriting, Records}
+use Rattle.hs_replay_client.proofs.Prelude.{MIN_SIZE, Piece, Segment, piece_limit, piece_count, record_pieces, AreCut, Unleased, Way, IsReadyFor, Made, Writing, IsSound, Spends, IsWriting, Records}
+use Rattle.hs_records.specs.Records.{payload_pieces}
 use Rattle.hs_replay_client.proofs.Spending.{ready_less, spends_none, spends_more}
 use Rattle.hs_replay_client.proofs.Steps.{piece_of}
 

@@ -1,17 +1,12 @@
 -- Draws one behind another.
 use Rattle.std.proofs.Common.{◌≡◌, ℕ, zero, suc, ◌+◌, List, [], ◌∷◌, ◌++◌, length, map, drop, reverse, refl, sym, ap, ap₂, ◌∙◌, subst, arith, append_assoc, length-append}
-use Rattle.std.proofs.lemmas.List.{append-nil, reverse-append, length-map, map-append}
-use Rattle.hs_journal.specs.declared.journal.Draw.{Draw}
+use Rattle.hs_replay_client.proofs.Prelude.{append-nil, reverse-append, length-map, map-append, Draw, Drawn, PoolEvent, queue_after, Pool, IsAfter, draws_behind, event_drawn, length_next, note_drawn, OnlyDraws}
 use Rattle.hs_journal.specs.declared.journal.Draw.TheVariants as noted
-use Rattle.hs_words.specs.declared.token.Drawn.{Drawn}
 use Rattle.hs_words.specs.declared.token.Drawn.TheVariants as drawn
-use Rattle.hs_words.specs.PoolHistory.{PoolEvent, Got, Empty, queue_after}
+use Rattle.hs_words.specs.PoolHistory.{Got, Empty}
 use Rattle.hs_words.specs.PoolAnswers as answers
-use Rattle.hs_pool.specs.Pool.{Pool, IsAfter, Extends, Draws, number_of}
-use Rattle.hs_law_sends.specs.Draws.{next_draws, draws_behind, event_drawn}
-use Rattle.hs_law_sends.proofs.Order.{length_next}
-use Rattle.hs_replay_client.specs.Wells.{note_drawn}
-use Rattle.hs_replay_client.specs.Pooled.{OnlyDraws}
+use Rattle.hs_pool.specs.Pool.{Extends, Draws, number_of}
+use Rattle.hs_law_sends.specs.Draws.{next_draws}
 
 drop_none : (m : ℕ) → drop {A = ℕ} m [] ≡ []
 drop_none zero = refl

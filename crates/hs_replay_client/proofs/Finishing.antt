@@ -1,22 +1,11 @@
 -- The book of a client that has done all its operations.
 use Rattle.std.proofs.Common.{◌≡◌, ℕ, List, [], ◌∷◌, length, map, take, Option, None, IsNone, refl, sym, ap, ◌∙◌, subst, arith}
-use Rattle.std.proofs.lemmas.List.{append-nil, take_all}
-use Rattle.std.specs.Prelude.{is_some}
-use Rattle.std.specs.List.{flat_map}
-use Rattle.hs_lists.proofs.Options.{is_some_false}
-use Rattle.hs_base.specs.declared.ids.ClientId.{ClientId}
-use Rattle.hs_base.specs.declared.ids.TraceId.{TraceId}
-use Rattle.hs_client.specs.Core.{Core, Step, Began, Wrote, Needed, Supplied, Ended_, Refused, all_pages, new_core}
-use Rattle.hs_client.specs.Calls.{AreSteps, IsBook, after, note_of}
-use Rattle.hs_journal.specs.declared.journal.Draw.{Draw}
+use Rattle.hs_replay_client.proofs.Prelude.{append-nil, take_all, is_some, flat_map, is_some_false, ClientId, TraceId, Core, Step, Began, Wrote, Needed, Supplied, Ended_, Refused, new_core, AreSteps, IsBook, after, Draw, Operation, PlainSettings, PlainReplayClient, new_of, Gone, HasDone, ReplayClientIsAt, IsDone, gone_of, made_for}
+use Rattle.hs_client.specs.Core.{all_pages}
+use Rattle.hs_client.specs.Calls.{note_of}
 use Rattle.hs_journal.specs.Books.{PlainClientBook}
 use Rattle.hs_records.specs.Pages.{pages_of, segment_pages}
-use Rattle.hs_records.specs.Plain.{Operation, PlainSettings}
 use Rattle.hs_law_sends.proofs.OneMore.{none_open}
-use Rattle.hs_replay_client.specs.ReplayClients.{PlainReplayClient}
-use Rattle.hs_replay_client.specs.Writing.{new_of}
-use Rattle.hs_replay_client.specs.Doing.{Gone, HasDone}
-use Rattle.hs_replay_client.specs.Places.{ReplayClientIsAt, IsDone, gone_of, made_for}
 use Rattle.hs_replay_client.proofs.Standing.{recorded}
 
 after-client : (new : Core (Unit {0})) (steps : List (Step (Unit {0}))) → (after new steps).client ≡ new.client

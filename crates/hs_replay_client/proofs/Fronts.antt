@@ -1,21 +1,12 @@
 -- The chunks of the pages that are sent first. The pages of a client are sent in their order, so these are a front of its pages.
 use Rattle.std.proofs.Common.{◌≡◌, ℕ, ◌+◌, ◌≤◌, Bool, true, false, List, [], ◌∷◌, map, filter, refl, sym, ap, ◌∙◌, arith}
-use Rattle.std.proofs.lemmas.Bool.{ltb-false, le-ltb}
-use Rattle.std.specs.Prelude.{nat_lt}
-use Rattle.std.specs.List.{flat_map}
-use Rattle.hs_base.specs.declared.ids.ClientId.{ClientId}
-use Rattle.hs_journal.specs.declared.journal.Draw.{Draw}
+use Rattle.hs_replay_client.proofs.Prelude.{ltb-false, le-ltb, nat_lt, flat_map, ClientId, Draw, filled_chunks, clear_chunk, DrawnPage, pages_within, Unleased, buffer_got, chunk_of}
 use Rattle.hs_journal.specs.declared.journal.Draw.TheVariants as noted
-use Rattle.hs_client.specs.Calls.{filled, filled_chunks}
-use Rattle.hs_words.specs.Chunks.{clear_chunk}
+use Rattle.hs_client.specs.Calls.{filled}
 use Rattle.hs_records.specs.Pages.{PlainPage}
-use Rattle.hs_law_sends.specs.Drawn.{DrawnPage, drawn_from}
+use Rattle.hs_law_sends.specs.Drawn.{drawn_from}
 use Rattle.hs_law_sends.specs.Laws.{IsTimely}
-use Rattle.hs_law_sends.specs.SoFar.{pages_within}
 use Rattle.hs_law_sends.specs.Timing.{TimedPage}
-use Rattle.hs_replay_client.specs.ReplayClients.{Unleased}
-use Rattle.hs_replay_client.specs.Writing.{buffer_got}
-use Rattle.hs_replay_client.specs.Places.{chunk_of}
 
 abbrev pub page_in : TimedPage → PlainPage
 page_in p = p.page

@@ -1,28 +1,12 @@
 -- A client goes through its operations.
 use Rattle.std.proofs.Common.{◌≡◌, ℕ, ◌+◌, ◌<◌, ◌≤◌, true, false, List, [], ◌∷◌, ◌++◌, length, map, Option, Some, None, IsSome, inl, inr, refl, sym, ap, ◌∙◌, subst, arith, append_assoc}
-use Rattle.std.proofs.lemmas.List.{append-nil, length-map}
-use Rattle.std.proofs.lemmas.Option.{slice_get-map, slice_get_cases}
-use Rattle.std.specs.Prelude.{is_some, slice_get}
-use Rattle.std.specs.Option.{option_map}
+use Rattle.hs_replay_client.proofs.Prelude.{append-nil, length-map, slice_get-map, is_some, slice_get, option_map, is_some_false, TraceId, AutoRule, Watch, Operation, Begin, Point, End, Fire, Sample, PlainSettings, operation_pieces, client_pieces, client_more, ClientId, Working, Way, Made, Spends, Gone, HasDone, Does, MayDo, IsPlayable, made_for}
+use Rattle.std.proofs.lemmas.Option.{slice_get_cases}
 use Rattle.hs_lists.proofs.Alls.{all_mid}
-use Rattle.hs_lists.proofs.Options.{is_some_false}
-use Rattle.hs_base.specs.declared.ids.TraceId.{TraceId}
-use Rattle.hs_base.specs.declared.settings.AutoRule.{AutoRule}
-use Rattle.hs_auto.specs.Watching.{Watch}
-use Rattle.hs_records.specs.Plain.{Operation, Begin, Point, End, Fire, Sample, PlainSettings}
 use Rattle.hs_records.specs.Plain as plain
 use Rattle.hs_records.specs.Records.{AreBracketed}
 use Rattle.hs_law_sends.proofs.OneMore.{bracketed_behind}
-use Rattle.hs_workload.specs.LookBack.{operation_pieces}
-use Rattle.hs_workload.specs.Validity.{IsOperation, client_pieces}
-use Rattle.hs_workload.proofs.Keeps.{client_more}
-use Rattle.hs_base.specs.declared.ids.ClientId.{ClientId}
-use Rattle.hs_replay_client.specs.ReplayClients.{Working}
-use Rattle.hs_replay_client.specs.Wells.{Way}
-use Rattle.hs_replay_client.specs.Writing.{Made, Spends}
-use Rattle.hs_replay_client.specs.Doing.{Gone, HasDone, Does, MayDo}
-use Rattle.hs_law_sends.specs.Playable.{IsPlayable}
-use Rattle.hs_replay_client.specs.Places.{made_for}
+use Rattle.hs_workload.specs.Validity.{IsOperation}
 use Rattle.hs_replay_client.proofs.Spending.{spends_none, spends_more}
 
 -- ---- operations in parts

@@ -1,20 +1,7 @@
 -- A client that was made has done nothing.
 use Rattle.std.proofs.Common.{◌≡◌, ◌≤◌, List, [], ◌++◌, map, reverse, refl, sym, ap, subst, arith}
-use Rattle.std.specs.List.{AllByRecursion}
+use Rattle.hs_replay_client.proofs.Prelude.{AllByRecursion, ClientId, MIN_SIZE, Watch, HasSampled, Core, with_all, Draw, Operation, PlainSettings, segments_from, segments_of, coming, Working, PlainReplayClient, Made, IsSound, new_of, Gone, HasDone, IsPlayable, ReplayClientIsAt, made_for}
 use Rattle.hs_lists.proofs.Alls.{all_everywhere}
-use Rattle.hs_base.specs.declared.ids.ClientId.{ClientId}
-use Rattle.hs_base.specs.declared.limits.TheConstants.{MIN_SIZE}
-use Rattle.hs_auto.specs.Watching.{Watch, HasSampled}
-use Rattle.hs_client.specs.Core.{Core}
-use Rattle.hs_client.specs.Calls.{with_all}
-use Rattle.hs_journal.specs.declared.journal.Draw.{Draw}
-use Rattle.hs_records.specs.Plain.{Operation, PlainSettings}
-use Rattle.hs_records.specs.Records.{segments_from, segments_of, coming}
-use Rattle.hs_replay_client.specs.ReplayClients.{Working, PlainReplayClient}
-use Rattle.hs_replay_client.specs.Writing.{Made, IsSound, new_of}
-use Rattle.hs_replay_client.specs.Doing.{Gone, HasDone}
-use Rattle.hs_law_sends.specs.Playable.{IsPlayable}
-use Rattle.hs_replay_client.specs.Places.{ReplayClientIsAt, made_for}
 use Rattle.hs_replay_client.proofs.Standing.{Laws, is_at}
 
 -- what is known of a client that was made

@@ -1,28 +1,15 @@
 -- A client that has done some operations does one more.
 use Rattle.std.proofs.Common.{◌≡◌, ℕ, ◌+◌, ◌≤◌, Bool, false, List, [], ◌∷◌, ◌++◌, length, reverse, Option, Some, None, IsSome, refl, sym, ap, ap₂, ◌∙◌, subst, arith, append_assoc}
-use Rattle.std.proofs.lemmas.List.{append-nil, reverse-append}
-use Rattle.std.specs.Prelude.{is_some}
+use Rattle.hs_replay_client.proofs.Prelude.{append-nil, reverse-append, is_some, TraceId, Crumb, Trigger, Operation, Begin, Point, End, Fire, Piece, Segment, numbered_of, piece_count, record_pieces, segments_from, segments_of, coming, Core, Began, after_step, May, Way, AreWatching, has_open_page, trigger_in, OneMore, at, operation_pieces, client_more, Unleased, Working, Made, Writing, IsSound, IsWriting, Records, EndsTrace, Gone, HasDone, Does}
 use Rattle.hs_lists.proofs.Options.{is_some_true, some_item}
-use Rattle.hs_base.specs.declared.ids.TraceId.{TraceId}
 use Rattle.hs_base.specs.declared.ids.NodeId.{NodeId}
-use Rattle.hs_base.specs.declared.told.Crumb.{Crumb}
-use Rattle.hs_base.specs.declared.told.Trigger.{Trigger}
-use Rattle.hs_records.specs.Plain.{Operation, Begin, Point, End, Fire}
 use Rattle.hs_records.specs.Plain as plain
-use Rattle.hs_records.specs.Records.{NumberedOperation, Piece, Segment, numbered_of, open_behind, pieces_until_end, piece_count, record_pieces, segments_from, segments_of, coming}
-use Rattle.hs_client.specs.Core.{Core, Began, after_step}
-use Rattle.hs_client.specs.Calls.{May}
-use Rattle.hs_replay_client.specs.Wells.{Way}
-use Rattle.hs_law_sends.specs.OneMore.{next_behind, AreWatching}
-use Rattle.hs_law_sends.specs.SoFar.{has_open_page}
-use Rattle.hs_law_sends.specs.Sending.{crumb_in, trigger_in}
-use Rattle.hs_law_sends.proofs.Adding.{OneMore, page_more, at, unseen, begin_unseen, point_unseen, end_unseen, crumb_unseen, fire_unseen, begin_no_crumb, begin_no_trigger, point_no_crumb, point_no_trigger, end_no_crumb, end_no_trigger, coming_crumb, crumb_no_trigger, coming_fire, fire_no_crumb, trigger_of_fire}
+use Rattle.hs_records.specs.Records.{NumberedOperation, open_behind, pieces_until_end}
+use Rattle.hs_law_sends.specs.OneMore.{next_behind}
+use Rattle.hs_law_sends.specs.Sending.{crumb_in}
+use Rattle.hs_law_sends.proofs.Adding.{page_more, unseen, begin_unseen, point_unseen, end_unseen, crumb_unseen, fire_unseen, begin_no_crumb, begin_no_trigger, point_no_crumb, point_no_trigger, end_no_crumb, end_no_trigger, coming_crumb, crumb_no_trigger, coming_fire, fire_no_crumb, trigger_of_fire}
 use Rattle.hs_law_sends.proofs.OneMore.{open_push}
-use Rattle.hs_workload.specs.LookBack.{operation_pieces}
-use Rattle.hs_workload.proofs.Keeps.{client_more}
-use Rattle.hs_replay_client.specs.ReplayClients.{Unleased, Working}
-use Rattle.hs_replay_client.specs.Writing.{Made, Writing, IsSound, IsWriting, Records, EndsTrace}
-use Rattle.hs_replay_client.specs.Doing.{Gone, HasDone, Does, writing_of}
+use Rattle.hs_replay_client.specs.Doing.{writing_of}
 use Rattle.hs_replay_client.proofs.Sound.{sound_began}
 use Rattle.hs_replay_client.proofs.Steps.{began_trace}
 

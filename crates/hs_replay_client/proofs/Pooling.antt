@@ -1,17 +1,9 @@
 -- A client that draws from a pool: its draws are those behind the pool's history.
 use Rattle.std.proofs.Common.{◌≡◌, ℕ, ◌+◌, ◌-◌, List, [], ◌∷◌, ◌++◌, length, map, reverse, refl, sym, ap, ◌∙◌, subst, arith, append_assoc, length-append}
-use Rattle.std.proofs.lemmas.List.{append-nil}
-use Rattle.hs_base.specs.declared.ids.ClientId.{ClientId}
-use Rattle.hs_journal.specs.declared.journal.Draw.{Draw}
-use Rattle.hs_pool.specs.Pool.{Pool, IsAfter, HasSize}
-use Rattle.hs_records.specs.Plain.{Operation, PlainSettings}
-use Rattle.hs_law_sends.specs.Draws.{draws_behind, count_started, event_drawn}
-use Rattle.hs_law_sends.proofs.Order.{length_next}
-use Rattle.hs_words.specs.PoolHistory.{PoolEvent, queue_after}
-use Rattle.hs_replay_client.specs.ReplayClients.{PlainReplayClient}
-use Rattle.hs_replay_client.specs.Wells.{DrawsAll}
-use Rattle.hs_replay_client.specs.Pooled.{OnlyDraws, pool_way}
-use Rattle.hs_replay_client.specs.Places.{ReplayClientIsAt, Went, WentOn, draws_going}
+use Rattle.hs_replay_client.proofs.Prelude.{append-nil, ClientId, Draw, Pool, IsAfter, Operation, PlainSettings, draws_behind, count_started, event_drawn, length_next, PoolEvent, queue_after, PlainReplayClient, DrawsAll, OnlyDraws, ReplayClientIsAt, WentOn}
+use Rattle.hs_pool.specs.Pool.{HasSize}
+use Rattle.hs_replay_client.specs.Pooled.{pool_way}
+use Rattle.hs_replay_client.specs.Places.{Went, draws_going}
 use Rattle.hs_replay_client.proofs.Drawing.{draws_none, draws_more}
 
 -- the same draws behind other ones

@@ -1,19 +1,7 @@
 -- The next operation of a client that is among its operations may be done.
 use Rattle.std.proofs.Common.{◌≡◌, ℕ, ◌+◌, ◌≤◌, List, ◌∷◌, ◌++◌, take, sym, ap, ◌∙◌, subst, arith}
-use Rattle.hs_base.specs.declared.ids.ClientId.{ClientId}
+use Rattle.hs_replay_client.proofs.Prelude.{ClientId, AutoRule, Draw, Operation, PlainSettings, sends_of, operation_pieces, client_pieces, Working, PlainReplayClient, Way, IsReadyFor, IsSound, HasDone, MayDo, IsPlayable, ReplayClientIsAt, gone_of, made_for}
 use Rattle.hs_base.specs.declared.limits.TheConstants.{MAX_OPERATIONS}
-use Rattle.hs_base.specs.declared.settings.AutoRule.{AutoRule}
-use Rattle.hs_journal.specs.declared.journal.Draw.{Draw}
-use Rattle.hs_records.specs.Plain.{Operation, PlainSettings}
-use Rattle.hs_law_sends.specs.Sending.{sends_of}
-use Rattle.hs_workload.specs.LookBack.{operation_pieces}
-use Rattle.hs_workload.specs.Validity.{client_pieces}
-use Rattle.hs_replay_client.specs.ReplayClients.{Working, PlainReplayClient}
-use Rattle.hs_replay_client.specs.Wells.{Way, IsReadyFor}
-use Rattle.hs_replay_client.specs.Writing.{IsSound}
-use Rattle.hs_replay_client.specs.Doing.{HasDone, MayDo}
-use Rattle.hs_law_sends.specs.Playable.{IsPlayable}
-use Rattle.hs_replay_client.specs.Places.{ReplayClientIsAt, gone_of, made_for}
 use Rattle.hs_replay_client.proofs.Going.{HasGone, may_do, pieces_append}
 use Rattle.hs_replay_client.proofs.Spending.{ready_less}
 

@@ -1,14 +1,9 @@
 -- What the calls of a client's core leave, and what they spend.
 use Rattle.std.proofs.Common.{◌≡◌, ℕ, ◌+◌, Bool, List, [], ◌∷◌, ◌++◌, Option, Some, None, IsSome, refl, sym, ap, ◌∙◌, subst, arith}
-use Rattle.std.specs.Option.{option_to_list}
-use Rattle.hs_words.specs.declared.token.Drawn.{Drawn}
+use Rattle.hs_replay_client.proofs.Prelude.{option_to_list, Drawn, buffer_of, Core, Wrote, Needed, Supplied, Ended_, after_step, handed, draw_of, number_after, supplied, May, Unleased, Way, IsClear, note_drawn, Writing, IsSound, CountsOne, Records, EndsTrace, IsWriting}
 use Rattle.hs_words.specs.declared.token.Drawn.TheVariants as drawn
-use Rattle.hs_words.specs.Buffers.{buffer_of}
-use Rattle.hs_client.specs.Core.{Core, Wrote, Needed, Supplied, Ended_, after_step, closed, handed, draw_of, HasClearChunk, number_after, supplied, next_page, piece}
-use Rattle.hs_client.specs.Calls.{May}
-use Rattle.hs_replay_client.specs.ReplayClients.{Unleased}
-use Rattle.hs_replay_client.specs.Wells.{Way, IsClear, note_drawn}
-use Rattle.hs_replay_client.specs.Writing.{Writing, IsSound, CountsOne, WritesPieces, Records, EndsTrace, IsWriting}
+use Rattle.hs_client.specs.Core.{closed, HasClearChunk, next_page, piece}
+use Rattle.hs_replay_client.specs.Writing.{WritesPieces}
 use Rattle.hs_replay_client.proofs.Sound.{some_map, sound_wrote, sound_supplied, sound_ended}
 use Rattle.hs_replay_client.proofs.Spending.{spends_one}
 use Rattle.hs_replay_client.proofs.Steps.{piece_of, wrote, needed, drew, ended_trace}

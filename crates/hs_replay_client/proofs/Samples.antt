@@ -1,26 +1,15 @@
 -- A sample that an autotrigger of a client is given.
 use Rattle.std.proofs.Common.{◌≡◌, ℕ, ◌<◌, List, [], ◌∷◌, ◌++◌, length, set, get_or, reverse, Option, Some, refl, sym, ap, ◌∙◌, subst, arith}
-use Rattle.std.proofs.lemmas.Option.{same_Some, slice_get-map, slice_get_within}
-use Rattle.std.specs.Prelude.{slice_get}
-use Rattle.std.specs.Option.{option_map_or, option_map}
+use Rattle.hs_replay_client.proofs.Prelude.{same_Some, slice_get-map, slice_get, option_map, TraceId, Trigger, AutoRule, fired_by, Operation, Sample, numbered_of, Watch, HasSampled, AreWatching, trigger_in, OneMore, at, Working, Does}
+use Rattle.std.proofs.lemmas.Option.{slice_get_within}
+use Rattle.std.specs.Option.{option_map_or}
 use Rattle.hs_lists.proofs.Lent.{lent_from}
-use Rattle.hs_base.specs.declared.ids.TraceId.{TraceId}
 use Rattle.hs_base.specs.declared.ids.TriggerId.{TriggerId}
-use Rattle.hs_base.specs.declared.told.Trigger.{Trigger}
-use Rattle.hs_base.specs.declared.settings.AutoRule.{AutoRule}
-use Rattle.hs_base.specs.Rules.{fired_by}
-use Rattle.hs_records.specs.Plain.{Operation, Sample}
-use Rattle.hs_records.specs.Records.{numbered_of}
 use Rattle.hs_auto.specs.Firing.{sampled}
 use Rattle.hs_auto.specs.Firing as firing
-use Rattle.hs_auto.specs.Watching.{Watch, HasSampled}
 use Rattle.hs_auto.specs.declared.sampled.Sampled.{Sampled}
-use Rattle.hs_law_sends.specs.OneMore.{AreWatching}
-use Rattle.hs_law_sends.specs.Sending.{samples_of, trigger_in, trigger_of}
+use Rattle.hs_law_sends.specs.Sending.{samples_of, trigger_of}
 use Rattle.hs_law_sends.proofs.Sampling.{sample, fired_trigger, trigger_is, watches, coming_sample, sample_no_crumb}
-use Rattle.hs_law_sends.proofs.Adding.{OneMore, at}
-use Rattle.hs_replay_client.specs.ReplayClients.{Working}
-use Rattle.hs_replay_client.specs.Doing.{Does}
 use Rattle.hs_replay_client.proofs.Operations.{IsApart, apart_writes, done_now, none_more}
 
 -- ---- the autotriggers

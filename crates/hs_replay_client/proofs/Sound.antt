@@ -1,12 +1,6 @@
 -- What holds of a core between calls holds after each call.
 use Rattle.std.proofs.Common.{◌≡◌, ℕ, ◌≤◌, Bool, List, Option, Some, None, IsSome, refl}
-use Rattle.std.specs.Option.{option_map}
-use Rattle.hs_base.specs.declared.ids.TraceId.{TraceId}
-use Rattle.hs_base.specs.declared.limits.TheConstants.{MIN_SIZE}
-use Rattle.hs_client.specs.Core.{Core, Began, Wrote, Supplied, Ended_, after_step}
-use Rattle.hs_client.specs.Calls.{May}
-use Rattle.hs_replay_client.specs.ReplayClients.{Unleased}
-use Rattle.hs_replay_client.specs.Writing.{IsSound}
+use Rattle.hs_replay_client.proofs.Prelude.{option_map, TraceId, MIN_SIZE, Core, Began, Wrote, Supplied, Ended_, after_step, May, Unleased, IsSound}
 
 pub some_map : {A B : Type 0} (f : A → B) (o : Option A) → IsSome o → IsSome (option_map f o)
 some_map f None some = absurd cc

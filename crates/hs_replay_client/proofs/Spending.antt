@@ -1,10 +1,6 @@
 -- What calls spend, one behind another.
 use Rattle.std.proofs.Common.{◌≡◌, ℕ, ◌+◌, ◌≤◌, List, [], ◌∷◌, ◌++◌, refl, sym, ap, ◌∙◌, subst, arith, append_assoc, length-append}
-use Rattle.std.proofs.lemmas.List.{append-nil}
-use Rattle.hs_journal.specs.declared.journal.Draw.{Draw}
-use Rattle.hs_client.specs.Core.{Core}
-use Rattle.hs_replay_client.specs.Wells.{Way, IsReadyFor, DrawsAll}
-use Rattle.hs_replay_client.specs.Writing.{Spends, CountsOne}
+use Rattle.hs_replay_client.proofs.Prelude.{append-nil, Draw, Core, Way, IsReadyFor, DrawsAll, Spends, CountsOne}
 
 module _ {P : Type 0} (way : Way P) where
   pub draws_both : (first second : List Draw) (well middle well' : P) → DrawsAll way first well middle → DrawsAll way second middle well' → DrawsAll way (first ++ second) well well'

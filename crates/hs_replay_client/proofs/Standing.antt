@@ -1,29 +1,12 @@
 -- What a client has done says where it is.
 use Rattle.std.proofs.Common.{◌≡◌, ℕ, ◌≤◌, false, List, [], ◌++◌, length, map, take, drop, reverse, refl, sym, ap, ◌∙◌, subst, arith, length-append}
-use Rattle.std.proofs.lemmas.List.{append-nil, take-append-drop, length-take-le, take_at, drop_at}
-use Rattle.std.specs.Prelude.{is_some}
-use Rattle.std.specs.List.{flat_map}
-use Rattle.hs_base.specs.declared.ids.ClientId.{ClientId}
-use Rattle.hs_base.specs.declared.told.Crumb.{Crumb}
-use Rattle.hs_base.specs.declared.told.Trigger.{Trigger}
-use Rattle.hs_client.specs.Core.{Core, Step, new_core}
-use Rattle.hs_client.specs.Calls.{AreSteps, IsBook, after, draws_supplied, filled_chunks, segments_of_steps, with_all}
-use Rattle.hs_records.specs.Plain.{Operation, PlainSettings}
-use Rattle.hs_records.specs.Records.{segments_of}
+use Rattle.hs_replay_client.proofs.Prelude.{append-nil, take-append-drop, length-take-le, take_at, drop_at, is_some, flat_map, ClientId, Crumb, Trigger, Core, Step, new_core, AreSteps, IsBook, after, draws_supplied, filled_chunks, segments_of_steps, with_all, Operation, PlainSettings, segments_of, count_started, items_of, Sent, sends_of, sent_within, has_open_page, pages_within, timed_pages, Working, PlainReplayClient, Made, new_of, buffer_got, Gone, HasDone, IsPlayable, ReplayClientIsAt, Waits, chunk_of, chunks_within, gone_of, made_for}
 use Rattle.hs_records.proofs.Payloads.{nothing_comes}
-use Rattle.hs_law_sends.specs.Draws.{count_started}
 use Rattle.hs_law_sends.specs.Drawn.{drawn_pages}
 use Rattle.hs_law_sends.specs.Laws.{TimedPagesAreTimely}
-use Rattle.hs_law_sends.specs.OneMore.{items_of}
-use Rattle.hs_law_sends.specs.Sending.{Sent, sends_of, sent_within, sent_crumbs, sent_triggers}
+use Rattle.hs_law_sends.specs.Sending.{sent_crumbs, sent_triggers}
 use Rattle.hs_law_sends.specs.HandedOut.{CoresHandOutSoFar}
-use Rattle.hs_law_sends.specs.SoFar.{has_open_page, pages_within, FirstCrumbsAreSent, FirstTriggersAreSent}
-use Rattle.hs_law_sends.specs.Timing.{timed_pages}
-use Rattle.hs_replay_client.specs.ReplayClients.{Working, PlainReplayClient}
-use Rattle.hs_replay_client.specs.Writing.{Made, new_of, buffer_got}
-use Rattle.hs_replay_client.specs.Doing.{Gone, HasDone}
-use Rattle.hs_law_sends.specs.Playable.{IsPlayable}
-use Rattle.hs_replay_client.specs.Places.{ReplayClientIsAt, Waits, chunk_of, chunks_within, gone_of, made_for}
+use Rattle.hs_law_sends.specs.SoFar.{FirstCrumbsAreSent, FirstTriggersAreSent}
 use Rattle.hs_replay_client.proofs.Fronts.{page_in, front_drawn, filled_are}
 
 -- what is known of cores and of clients

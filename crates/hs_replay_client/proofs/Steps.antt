@@ -1,19 +1,10 @@
 -- What each call of a client's parts does to the steps of its core.
 use Rattle.std.proofs.Common.{◌≡◌, ℕ, Bool, List, [], ◌∷◌, ◌++◌, map, reverse, Option, Some, None, refl, sym, ap, ap₂, ◌∙◌, subst, append_assoc}
-use Rattle.std.proofs.lemmas.List.{reverse-append, map-append}
-use Rattle.std.specs.Option.{option_to_list}
-use Rattle.hs_base.specs.declared.ids.TraceId.{TraceId}
-use Rattle.hs_records.specs.Records.{Piece, Segment}
-use Rattle.hs_words.specs.declared.token.Drawn.{Drawn}
+use Rattle.hs_replay_client.proofs.Prelude.{reverse-append, map-append, option_to_list, TraceId, Piece, Segment, Drawn, Contents, clear_chunk, buffer_of, Core, Step, Began, Wrote, Needed, Supplied, Ended_, Refused, after_step, handed, draw_of, number_after, supplied, May, after, segments_of_steps, draws_supplied, with_all, Unleased, IsClear, Made, Writing, new_of, buffer_got, IsWriting}
 use Rattle.hs_words.specs.declared.token.Drawn.TheVariants as drawn
-use Rattle.hs_words.specs.Chunks.{Contents, clear_chunk}
-use Rattle.hs_words.specs.Buffers.{buffer_of}
-use Rattle.hs_client.specs.Core.{Core, Step, Began, Wrote, Needed, Supplied, Ended_, Refused, after_step, handed, draw_of, number_after, supplied}
-use Rattle.hs_client.specs.Calls.{May, after, next_number, segments_of_steps, with_last, chunks_supplied, draws_supplied, handed_out, with_all}
+use Rattle.hs_client.specs.Calls.{next_number, with_last, chunks_supplied, handed_out}
 use Rattle.hs_client.proofs.AllSteps.{with_all-open}
-use Rattle.hs_replay_client.specs.ReplayClients.{Unleased}
-use Rattle.hs_replay_client.specs.Wells.{IsClear}
-use Rattle.hs_replay_client.specs.Writing.{Made, Writing, new_of, buffer_got, ComesBy, IsWriting}
+use Rattle.hs_replay_client.specs.Writing.{ComesBy}
 
 abbrev pub piece_of : ℕ → ℕ → List ℕ → Piece
 piece_of number moment payload = record { number = number; moment = moment; payload = payload }

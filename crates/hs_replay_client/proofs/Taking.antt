@@ -1,23 +1,10 @@
 -- What the agent takes leaves the client where it is, with one item more taken.
 use Rattle.std.proofs.Common.{◌≡◌, ◌↔◌, ℕ, ◌+◌, ◌≤◌, Bool, IsTrue, List, [], ◌∷◌, ◌++◌, length, take, drop, Option, Some, None, refl, sym, ap, ◌∙◌, subst, arith, append_assoc}
-use Rattle.std.proofs.lemmas.List.{length-map, drop_all}
-use Rattle.std.proofs.lemmas.Option.{slice_get-map, same_Some}
-use Rattle.std.specs.Prelude.{slice_get}
-use Rattle.std.specs.Option.{option_map, option_to_list}
-use Rattle.hs_lists.proofs.Places.{get_front}
-use Rattle.hs_base.specs.declared.ids.ClientId.{ClientId}
-use Rattle.hs_base.specs.declared.told.Crumb.{Crumb}
-use Rattle.hs_base.specs.declared.told.Trigger.{Trigger}
-use Rattle.hs_journal.specs.declared.journal.Draw.{Draw}
-use Rattle.hs_records.specs.Plain.{Operation, PlainSettings}
-use Rattle.hs_records.specs.Records.{segments_from, segments_of, coming}
-use Rattle.hs_law_sends.specs.OneMore.{items_of}
-use Rattle.hs_law_sends.specs.Order.{AreInOrder, CrumbsAreInOrder, TriggersAreInOrder, ChunksAreInOrder}
-use Rattle.hs_law_sends.specs.Sending.{Sent, sends_of, sent_within}
-use Rattle.hs_replay_client.specs.ReplayClients.{Unleased, Working, PlainReplayClient}
-use Rattle.hs_replay_client.specs.Writing.{Made, IsWriting}
-use Rattle.hs_replay_client.specs.Doing.{Gone, HasDone, HasNothing}
-use Rattle.hs_replay_client.specs.Places.{ReplayClientIsAt, IsItemAt, Waits, chunks_within, gone_of, made_for, TakesChunk, TakesCrumb, TakesTrigger, TellsBare}
+use Rattle.hs_replay_client.proofs.Prelude.{length-map, slice_get-map, same_Some, slice_get, option_map, option_to_list, get_front, ClientId, Crumb, Trigger, Draw, Operation, PlainSettings, segments_from, segments_of, coming, items_of, AreInOrder, ChunksAreInOrder, Sent, sends_of, sent_within, Unleased, Working, PlainReplayClient, Made, IsWriting, Gone, HasDone, ReplayClientIsAt, Waits, chunks_within, gone_of, made_for, TakesChunk, TakesCrumb, TakesTrigger, TellsBare}
+use Rattle.std.proofs.lemmas.List.{drop_all}
+use Rattle.hs_law_sends.specs.Order.{CrumbsAreInOrder, TriggersAreInOrder}
+use Rattle.hs_replay_client.specs.Doing.{HasNothing}
+use Rattle.hs_replay_client.specs.Places.{IsItemAt}
 use Rattle.hs_replay_client.proofs.Chunks.{chunk_at, chunks_counted}
 use Rattle.hs_replay_client.proofs.Lists.{is_next, none_waits, sent_first}
 use Rattle.hs_replay_client.proofs.Steps.{chunk_taken}

@@ -1,15 +1,6 @@
 -- Where a client is that went through operations.
 use Rattle.std.proofs.Common.{◌≡◌, ℕ, ◌≤◌, List, ◌++◌, length, take, refl, ap, ◌∙◌, subst}
-use Rattle.std.proofs.lemmas.List.{length-take-le}
-use Rattle.hs_base.specs.declared.ids.ClientId.{ClientId}
-use Rattle.hs_journal.specs.declared.journal.Draw.{Draw}
-use Rattle.hs_records.specs.Plain.{Operation, PlainSettings}
-use Rattle.hs_law_sends.specs.Sending.{sends_of, sent_within}
-use Rattle.hs_law_sends.specs.OneMore.{items_of}
-use Rattle.hs_replay_client.specs.ReplayClients.{Working, PlainReplayClient}
-use Rattle.hs_replay_client.specs.Wells.{Way}
-use Rattle.hs_replay_client.specs.Doing.{HasDone}
-use Rattle.hs_replay_client.specs.Places.{ReplayClientIsAt, WentOn, chunks_within, gone_of, made_for}
+use Rattle.hs_replay_client.proofs.Prelude.{length-take-le, ClientId, Draw, Operation, PlainSettings, sends_of, sent_within, items_of, Working, PlainReplayClient, Way, HasDone, ReplayClientIsAt, WentOn, chunks_within, gone_of, made_for}
 use Rattle.hs_replay_client.proofs.Going.{HasGone}
 use Rattle.hs_replay_client.proofs.Standing.{Laws, HasTaken, is_at}
 

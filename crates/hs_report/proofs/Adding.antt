@@ -1,12 +1,9 @@
 -- Pages that are added in their order.
 use Rattle.std.proofs.Common.{ℕ, ◌<◌, ◌≤◌, List, length, get_or, take, ◌^◌, sym, subst, arith}
-use Rattle.std.proofs.lemmas.List.{get_or-take, length-take, get_or_default}
+use Rattle.hs_report.proofs.Prelude.{get_or-take, length-take, CanBeAdded, Sheets, Sheet, Reported, SpellAll, bytes_of}
+use Rattle.std.proofs.lemmas.List.{get_or_default}
 use Rattle.std.proofs.lemmas.List.Elements.{All-take}
-use Rattle.hs_collect.specs.Collected.{CanBeAdded, CanPrecede, end_of}
-use Rattle.hs_collect.specs.Views.{Sheets}
-use Rattle.hs_words.specs.Pages.{Sheet}
-use Rattle.hs_report.specs.declared.pages.Reported.{Reported}
-use Rattle.hs_report.specs.Pages.{SpellAll, bytes_of}
+use Rattle.hs_collect.specs.Collected.{CanPrecede, end_of}
 use Rattle.hs_report.proofs.Sent.{Beside, sheet_at}
 
 pub page_at : (k : ℕ) (sheets : Sheets) (pages : List Reported) (d : Reported) → SpellAll sheets (bytes_of pages) → k < length pages → Beside (λ (p : Reported). p.bytes.now) sheets k (get_or pages k d)

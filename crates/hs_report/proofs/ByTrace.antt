@@ -1,14 +1,8 @@
 -- Entries that are sorted by trace: those of a trace stand together, in the order that they had.
 use Rattle.std.proofs.Common.{◌≡◌, ℕ, suc, ◌+◌, ◌<◌, ◌≤◌, Bool, true, false, cond, not, ◌||◌, eqb, ltb, leb, List, [], ◌∷◌, ◌++◌, length, get_or, take, drop, sym, ap, ◌∙◌, refl, append-nil, length-drop, arith}
-use Rattle.std.specs.List.{filter, list_any}
-use Rattle.std.specs.List.Sorted.{ties, IsStableByKey, IsPartitionPoint}
+use Rattle.hs_report.proofs.Prelude.{filter, list_any, ties, nat_tests, get_or-take, get_or-drop, length-take, take-append-drop, filter-append, TraceId, Entry, is_of}
+use Rattle.std.specs.List.Sorted.{IsStableByKey, IsPartitionPoint}
 use Rattle.std.specs.Ordering.{nat_cmp, is_lt}
-use Rattle.std.proofs.lemmas.Bool.Decides.{nat_tests}
-use Rattle.std.proofs.lemmas.List.{get_or-take, get_or-drop, length-take, take-append-drop}
-use Rattle.std.proofs.lemmas.List.Elements.{filter-append}
-use Rattle.hs_base.specs.declared.ids.TraceId.{TraceId}
-use Rattle.hs_ledger.specs.declared.ledger.Entry.{Entry}
-use Rattle.hs_law_outcome.specs.Reports.{is_of}
 use Rattle.hs_report.proofs.Stable.{stable_keeps}
 
 abbrev pub number_of : Entry → ℕ

@@ -1,20 +1,13 @@
 -- Traces in rising order, each once: a sort and then a removal of what is repeated gives what putting each in its place gives.
 use Rattle.std.proofs.Common.{◌≡◌, ℕ, suc, ◌+◌, ◌<◌, ◌≤◌, Bool, true, false, cond, ◌||◌, eqb, ltb, List, [], ◌∷◌, ◌++◌, map, sym, ap, ◌∙◌, refl, subst, append-nil, arith}
-use Rattle.std.specs.List.{AllByRecursion, list_any, sum_by, dedup, dedup_from}
-use Rattle.std.specs.List.Sorted.{IsPermutation, IsNonDecreasingBy}
+use Rattle.hs_report.proofs.Prelude.{AllByRecursion, list_any, IsPermutation, IsNonDecreasingBy, or_left, nat_tests, flat_map-append, recursion_from_All, TraceId, AgentBook, Claim, rising_traces, claimed_by, all_claimed}
+use Rattle.std.specs.List.{sum_by, dedup, dedup_from}
 use Rattle.std.proofs.Math.Bool.{or_self_left}
-use Rattle.std.proofs.lemmas.Bool.{or_from, or_left}
-use Rattle.std.proofs.lemmas.Bool.Decides.{nat_tests}
-use Rattle.std.proofs.lemmas.List.Concat.{flat_map-append}
-use Rattle.std.proofs.lemmas.List.Elements.{recursion_from_All}
+use Rattle.std.proofs.lemmas.Bool.{or_from}
 use Rattle.std.proofs.lemmas.List.Sorted.{sum_by-IsPermutation}
 use Rattle.std.proofs.lemmas.List.Sums.{sum_by-cons}
 use Rattle.hs_lists.proofs.Bools.{or_swap}
-use Rattle.hs_base.specs.declared.ids.TraceId.{TraceId}
-use Rattle.hs_journal.specs.declared.books.AgentBook.{AgentBook}
-use Rattle.hs_journal.specs.declared.books.Claim.{Claim}
-use Rattle.hs_law_outcome.specs.Outcomes.{put_trace, rising_traces}
-use Rattle.hs_report.specs.Claims.{claimed_by, all_claimed}
+use Rattle.hs_law_outcome.specs.Outcomes.{put_trace}
 use Rattle.hs_report.proofs.Loops.{Joins}
 
 pub all_claimed_join : Joins all_claimed

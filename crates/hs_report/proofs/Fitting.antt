@@ -1,37 +1,32 @@
 -- What fits: the records of a valid workload, their pieces, and the pages that hold these.
 use Rattle.std.proofs.Common.{◌≡◌, ℕ, zero, suc, ◌+◌, ◌<◌, ◌≤◌, ◌^◌, Bool, true, false, cond, eqb, List, [], ◌∷◌, ◌++◌, length, map, Option, Some, None, sym, ap, ◌∙◌, refl, subst, append_assoc, length-append, lit≤, arith}
-use Rattle.std.specs.Prelude.{option_map, slice_get, unwrap_or}
-use Rattle.std.specs.List.{AllByRecursion, flat_map, concat, range_with_len}
-use Rattle.std.proofs.lemmas.List.{length-map}
+use Rattle.hs_report.proofs.Prelude.{option_map, slice_get, AllByRecursion, flat_map, range_with_len, length-map, recursion_from_All, slice_get_within, ClientId, TraceId, outcome_of, Sheet, IsPage, all_records, PlainWorkload, IsValid}
+use Rattle.std.specs.Prelude.{unwrap_or}
+use Rattle.std.specs.List.{concat}
 use Rattle.std.proofs.lemmas.List.Concat.{concat_is}
-use Rattle.std.proofs.lemmas.List.Elements.{recursion_from_All}
-use Rattle.std.proofs.lemmas.Option.{slice_get_within}
 use Rattle.hs_lists.proofs.Alls.{all_append, all_front, all_back, all_at}
-use Rattle.hs_base.specs.declared.ids.ClientId.{ClientId}
-use Rattle.hs_base.specs.declared.ids.TraceId.{TraceId}
 use Rattle.hs_base.specs.declared.limits.TheConstants.{MIN_SIZE, MAX_SIZE, MAX_OPERATIONS, MAX_PAYLOAD}
 use Rattle.hs_client.specs.Calls.{sheet_for, written}
 use Rattle.hs_law_outcome.specs.CollectedReports.{IsClientsPage, ReportedPagesAreOfClients}
-use Rattle.hs_law_outcome.specs.Outcomes.{outcome_of}
 use Rattle.hs_law_outcome.specs.Readable.{LawfulJournalsCanBeRead}
 use Rattle.hs_records.specs.Records.{AreBracketed}
 use Rattle.hs_law_sends.specs.Laws.{PagesFit, TimedPagesAreThePages}
 use Rattle.hs_law_sends.specs.Timing.{TimedPage, timed_pages}
 use Rattle.hs_words.specs.Chunks.{used_of}
-use Rattle.hs_words.specs.Pages.{Sheet, IsPage, FitsPiece}
+use Rattle.hs_words.specs.Pages.{FitsPiece}
 use Rattle.hs_workload.specs.declared.word.Setting.TheVariants as settings
 use Rattle.hs_report.specs.Fitting.{ReportedPagesArePages, JournalsCanBeRead}
 use Rattle.hs_report.proofs.Shapes.{ends_its_traces}
-use Rattle.hs_law_outcome.specs.Records.{all_records, client_records}
+use Rattle.hs_law_outcome.specs.Records.{client_records}
 use Rattle.hs_law_outcome.proofs.ClientBooks.{length_named}
 use Rattle.hs_records.specs.Pages.{PlainPage, first_record, pages_of}
-use Rattle.hs_records.specs.Plain.{Operation, Begin, Point, Crumb, End, Fire, Sample, PlainSettings, PlainWorkload}
+use Rattle.hs_records.specs.Plain.{Operation, Begin, Point, Crumb, End, Fire, Sample, PlainSettings}
 use Rattle.hs_records.specs.Records.{Record, Piece, open_behind, numbered_from, record_in, record_at, records_of, record_pieces, payload_pieces, piece_count}
 use Rattle.hs_records.specs.Laws.{CarriesRecords, CarryRecords, PagesHoldThePieces, traces_of, pieces_of_records, pieces_on}
 use Rattle.hs_law_sends.specs.Sending.{operations_at, place_of}
 use Rattle.hs_text.specs.Text.{trace_digits}
 use Rattle.hs_workload.specs.LookBack.{operation_pieces}
-use Rattle.hs_workload.specs.Validity.{IsOperation, IsClient, IsValid, HasDigits, client_pieces, workload_pieces}
+use Rattle.hs_workload.specs.Validity.{IsOperation, IsClient, HasDigits, client_pieces, workload_pieces}
 use Rattle.hs_report.proofs.Basics.{place_at}
 
 -- ---- the client at a place

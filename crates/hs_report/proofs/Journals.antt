@@ -1,18 +1,12 @@
 -- The books have the journal.
 use Rattle.std.proofs.Common.{◌≡◌, ℕ, ◌+◌, true, eqb, List, [], ◌∷◌, ◌++◌, length, map, Option, Some, None, unwrap_or, sym, ap, ◌∙◌, refl, append-nil, append_assoc, length-append, arith}
-use Rattle.std.specs.List.{AllByRecursion, flat_map, filter_map, cons_option, range_with_len, list_all}
-use Rattle.std.specs.Prelude.{option_map, slice_get}
-use Rattle.std.proofs.lemmas.Bool.Decides.{nat_tests}
-use Rattle.std.proofs.lemmas.List.{map-append}
-use Rattle.hs_lists.proofs.Bools.{first_true, second_true}
+use Rattle.hs_report.proofs.Prelude.{AllByRecursion, flat_map, range_with_len, option_map, slice_get, nat_tests, map-append, first_true, second_true, PlainClientBook, PlainAgentBook, agent_book_of, AgentBook, Claim, PlainJournal, PlainWorkload, Sheet, page_bytes, claimed_by, all_claimed, sent_by, all_sent}
+use Rattle.std.specs.List.{filter_map, cons_option, list_all}
 use Rattle.hs_base.specs.declared.ids.NodeId.{NodeId}
-use Rattle.hs_journal.specs.Books.{PlainClientBook, PlainAgentBook, client_book_of, agent_book_of}
-use Rattle.hs_journal.specs.declared.books.AgentBook.{AgentBook}
+use Rattle.hs_journal.specs.Books.{client_book_of}
 use Rattle.hs_journal.specs.declared.books.ClientBook.{ClientBook}
-use Rattle.hs_journal.specs.declared.books.Claim.{Claim}
 use Rattle.hs_journal.specs.declared.journal.Draw.{Draw}
 use Rattle.hs_journal.specs.declared.journal.Step.{Step}
-use Rattle.hs_journal.specs.Views.{PlainJournal}
 use Rattle.hs_law_journal.specs.Following.{NodeRun, followed, log_at}
 use Rattle.hs_law_journal.specs.Extending.{IsOfJournal, RunsAreOfTheJournal}
 use Rattle.hs_law_journal.specs.Orders.{FollowingPlaysOut}
@@ -21,14 +15,10 @@ use Rattle.hs_law_agent.specs.Standings.{Taken}
 use Rattle.hs_law_agent.specs.State.{ClaimedTrace}
 use Rattle.hs_law_outcome.specs.Outcomes.{client_book, claimed_at, reported_at}
 use Rattle.hs_law_outcome.specs.Readable.{JournalsHaveTheShape}
-use Rattle.hs_records.specs.Plain.{PlainWorkload}
 use Rattle.hs_law_sends.specs.Sending.{draws_at}
-use Rattle.hs_words.specs.Pages.{Sheet, page_bytes}
 use Rattle.hs_report.specs.declared.outcome.Books.{Books}
-use Rattle.hs_report.specs.Claims.{claimed_by, all_claimed}
 use Rattle.hs_report.specs.Journals.{journal_by}
 use Rattle.hs_report.specs.Outcomes.{AreBooksOf}
-use Rattle.hs_report.specs.Pages.{sent_by, all_sent}
 use Rattle.hs_report.proofs.Basics.{place_at}
 
 -- ---- lists by their places

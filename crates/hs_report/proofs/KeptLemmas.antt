@@ -1,35 +1,10 @@
 -- What stays of a ledger's entries makes the same reports of the claimed traces as all of them.
 use Rattle.std.proofs.Common.{◌≡◌, ℕ, ◌+◌, ◌<◌, Bool, true, false, ◌&&◌, ◌||◌, cond, not, eqb, List, [], ◌∷◌, length, get_or, take, map, sym, ap, ◌∙◌, refl, eq-eqb, arith}
-use Rattle.std.specs.List.{filter, list_any}
+use Rattle.hs_report.proofs.Prelude.{filter, list_any, or_left, take_more, nat_tests, first_true, second_true, filter_weaker, TraceId, RecordId, same_trace, is_among, Placed, is_same, PlainJournal, IsLawful, Entry, is_reported, CollectedRecordsAreWhole, was_reported, outcome_of, is_of, PlainWorkload, IsValid, Sorted, Outcome, AreFatesOf, has_entry, is_kept, kept_of, IsOutcome, AreSorted, records_by, report_by, gaps_of}
 use Rattle.std.proofs.Math.Bool.{or-true}
-use Rattle.std.proofs.lemmas.Bool.{or_left}
-use Rattle.std.proofs.lemmas.List.{take_more}
 use Rattle.std.proofs.lemmas.List.Folds.{list_any-append}
-use Rattle.std.proofs.lemmas.Bool.Decides.{nat_tests}
 use Rattle.std.proofs.lemmas.List.Elements.{filter_agree}
 use Rattle.std.proofs.lemmas.Map.Views.{any-filter_same}
-use Rattle.hs_lists.proofs.Bools.{first_true, second_true}
-use Rattle.hs_lists.proofs.Filters.{filter_weaker}
-use Rattle.hs_base.specs.declared.ids.TraceId.{TraceId}
-use Rattle.hs_base.specs.declared.ids.RecordId.{RecordId}
-use Rattle.hs_base.specs.Ids.{same_trace, is_among}
-use Rattle.hs_collect.specs.Collected.{Placed, is_same}
-use Rattle.hs_journal.specs.Views.{PlainJournal}
-use Rattle.hs_law_journal.specs.Lawful.{IsLawful}
-use Rattle.hs_ledger.specs.declared.ledger.Entry.{Entry}
-use Rattle.hs_ledger.specs.Totals.{is_reported}
-use Rattle.hs_law_outcome.specs.CollectedReports.{CollectedRecordsAreWhole, was_reported}
-use Rattle.hs_law_outcome.specs.Outcomes.{outcome_of}
-use Rattle.hs_law_outcome.specs.Reports.{is_of}
-use Rattle.hs_records.specs.Plain.{PlainWorkload}
-use Rattle.hs_workload.specs.Validity.{IsValid}
-use Rattle.hs_report.specs.declared.fates.Sorted.{Sorted}
-use Rattle.hs_report.specs.declared.outcome.Outcome.{Outcome}
-use Rattle.hs_report.specs.Fates.{AreFatesOf, has_entry}
-use Rattle.hs_report.specs.Kept.{is_kept, kept_of}
-use Rattle.hs_report.specs.Outcomes.{IsOutcome}
-use Rattle.hs_report.specs.Sorted.{AreSorted, records_by}
-use Rattle.hs_report.specs.Sources.{report_by, gaps_of}
 use Rattle.hs_report.proofs.Written.{shown, reports_are}
 
 -- ---- two functions that agree where it counts

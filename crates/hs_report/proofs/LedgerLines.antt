@@ -1,12 +1,10 @@
 -- Lines of a ledger by the words that were appended.
 use Rattle.std.proofs.Common.{◌≡◌, ℕ, List, [], ◌∷◌, ◌++◌, decimal, codes, sym, ap, ◌∙◌, append_assoc}
-use Rattle.hs_base.specs.declared.told.Fate.{Fate}
+use Rattle.hs_report.proofs.Prelude.{Fate, line_of, hex_text, trace_word, line_written, spaced_one, Entry, fate_words, entry_line}
 use Rattle.hs_base.specs.declared.told.Fate.TheVariants.{Null, Live, Reported, Evicted, Abandoned}
-use Rattle.hs_text.specs.Text.{line_of, hex_text}
-use Rattle.hs_text.specs.Writing.{spaced, trace_word, line_of-spaced, line_written, spaced_more, spaced_one}
-use Rattle.hs_ledger.specs.declared.ledger.Entry.{Entry}
+use Rattle.hs_text.specs.Writing.{spaced, line_of-spaced, spaced_more}
 use Rattle.hs_ledger.specs.declared.ledger.Totals.{Totals}
-use Rattle.hs_law_outcome.specs.OutcomeText.{fate_words, entry_line, total_line}
+use Rattle.hs_law_outcome.specs.OutcomeText.{total_line}
 
 -- two words, each behind a space
 pub spaced_two : (out first both a b : List ℕ) → first ≡ out ++ 32 ∷ a → both ≡ first ++ 32 ∷ b → both ≡ out ++ spaced (a ∷ b ∷ [])

@@ -1,3 +1,4 @@
+mod Prelude
 pub mod Basics
 pub mod Stable
 pub mod LedgerLines

@@ -1,19 +1,7 @@
 -- A loop that appends for each element what a function of lists gives of it.
 use Rattle.std.proofs.Common.{◌≡◌, ◌+◌, ◌<◌, ◌≤◌, ℕ, not, List, [], ◌∷◌, ◌++◌, length, get_or, take, map, sym, ap, ◌∙◌, append_assoc, append-nil}
-use Rattle.std.specs.List.{filter, flat_map}
-use Rattle.std.proofs.lemmas.List.{take_more, take_all, map-append}
-use Rattle.std.proofs.lemmas.List.Concat.{flat_map-append}
-use Rattle.std.proofs.lemmas.List.Elements.{filter-append}
-use Rattle.hs_base.specs.declared.ids.TraceId.{TraceId}
-use Rattle.hs_collect.specs.Collected.{Placed}
-use Rattle.hs_collect.specs.Views.{placed_of}
+use Rattle.hs_report.proofs.Prelude.{filter, flat_map, take_more, take_all, map-append, flat_map-append, filter-append, TraceId, Placed, placed_of, Entry, is_reported, reported_wholes, was_reported, placed_line, gap_line, report_lines, text_of, report_by}
 use Rattle.hs_collect.specs.declared.records.TraceRecord.{TraceRecord}
-use Rattle.hs_ledger.specs.declared.ledger.Entry.{Entry}
-use Rattle.hs_ledger.specs.Totals.{is_reported}
-use Rattle.hs_law_outcome.specs.CollectedReports.{reported_wholes, was_reported}
-use Rattle.hs_law_outcome.specs.OutcomeText.{placed_line, gap_line, report_lines}
-use Rattle.hs_text.specs.Text.{text_of}
-use Rattle.hs_report.specs.Sources.{report_by}
 
 -- the function of two lists behind each other is what it gives of both
 abbrev pub Joins : {X Y : Type 0} → (List X → List Y) → Type 0

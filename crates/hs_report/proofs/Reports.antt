@@ -1,18 +1,10 @@
 -- The report of a trace, by what was appended.
 use Rattle.std.proofs.Common.{◌≡◌, ℕ, Bool, true, false, cond, ◌&&◌, not, List, [], ◌∷◌, ◌++◌, map, codes, sym, ap, ◌∙◌, refl, subst, append_assoc, arith}
-use Rattle.std.specs.List.{filter, flat_map}
-use Rattle.std.proofs.lemmas.List.Concat.{flat_map-append}
-use Rattle.hs_base.specs.declared.ids.TraceId.{TraceId}
-use Rattle.hs_collect.specs.Collected.{Placed, AreCollected, AreWholes, is_of, page_pieces, pieces_of}
-use Rattle.hs_collect.specs.Views.{Sheets, Collection}
-use Rattle.hs_ledger.specs.declared.ledger.Entry.{Entry}
-use Rattle.hs_ledger.specs.Totals.{is_reported}
-use Rattle.hs_law_outcome.specs.OutcomeText.{placed_line, gap_line, report_lines}
+use Rattle.hs_report.proofs.Prelude.{filter, flat_map, flat_map-append, TraceId, Placed, AreCollected, AreWholes, pieces_of, Sheets, Entry, is_reported, placed_line, gap_line, report_lines, line_of, text_of, trace_word, line_written, spaced_one, Hold, gaps_of, report_by}
+use Rattle.hs_collect.specs.Collected.{is_of, page_pieces}
+use Rattle.hs_collect.specs.Views.{Collection}
 use Rattle.hs_law_outcome.specs.Reports as reports
-use Rattle.hs_text.specs.Text.{line_of, text_of}
-use Rattle.hs_text.specs.Writing.{trace_word, line_written, spaced_one}
 use Rattle.hs_report.specs.declared.fates.Fates.{Fates}
-use Rattle.hs_report.specs.Sources.{Hold, gaps_of, report_by}
 use Rattle.hs_report.proofs.Loops.{unreported, gap_lines}
 
 -- two tests one after the other

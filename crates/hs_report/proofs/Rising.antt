@@ -1,19 +1,12 @@
 -- Pages that are sorted by the places of their traces show these traces in that order.
 use Rattle.std.proofs.Common.{◌≡◌, ◌==◌, ℕ, suc, ◌+◌, ◌<◌, ◌≤◌, Bool, true, false, ◌||◌, cond, List, [], ◌∷◌, length, get_or, drop, map, Some, slice_get, sym, ap, ◌∙◌, refl, subst, arith, inl, inr, ◌⊎◌, add-one}
-use Rattle.std.specs.List.{filter, list_any, IsDistinct}
-use Rattle.std.specs.List.Sorted.{IsPermutation, IsSortedBy}
+use Rattle.hs_report.proofs.Prelude.{filter, list_any, IsDistinct, IsPermutation, IsSortedBy, nat_tests, get_or-drop, All-from_recursion, slice_get_within, TraceId, first_seen, Sheets, Reported, Traces, Note, note_of, noted}
 use Rattle.std.proofs.lemmas.Bool.{cases_lt, cases_order}
-use Rattle.std.proofs.lemmas.Bool.Decides.{nat_tests}
-use Rattle.std.proofs.lemmas.List.{get_or-drop, length-drop, drop_all, drop_more}
-use Rattle.std.proofs.lemmas.List.Elements.{All-from_recursion}
+use Rattle.std.proofs.lemmas.List.{length-drop, drop_all, drop_more}
 use Rattle.std.proofs.lemmas.List.Sorted.{list_any-IsPermutation}
 use Rattle.std.proofs.lemmas.Map.Keys.{apart_from_distinct}
-use Rattle.std.proofs.lemmas.Option.{slice_get_within, get_or_from_slice_get, slice_get-get_or}
-use Rattle.hs_base.specs.declared.ids.TraceId.{TraceId}
-use Rattle.hs_collect.specs.Collected.{first_seen, is_of}
-use Rattle.hs_collect.specs.Views.{Sheets}
-use Rattle.hs_report.specs.declared.pages.Reported.{Reported}
-use Rattle.hs_report.specs.Pages.{Traces, Note, note_of, noted}
+use Rattle.std.proofs.lemmas.Option.{get_or_from_slice_get, slice_get-get_or}
+use Rattle.hs_collect.specs.Collected.{is_of}
 use Rattle.hs_report.proofs.ByTrace.{filter_whole}
 use Rattle.hs_report.proofs.Seen.{is_trace, is_other, seen_once, seen_of_page}
 

@@ -1,22 +1,15 @@
 -- Pages that are sorted by the places of their traces and by client are a reordering: they keep the order of the pages of each client and
 -- trace, and that in which the traces are first seen.
 use Rattle.std.proofs.Common.{◌≡◌, ℕ, ◌<◌, Bool, true, false, cond, not, ◌&&◌, eqb, List, [], ◌∷◌, length, get_or, set, map, Option, Some, None, slice_get, sym, ap, ◌∙◌, refl, subst, arith}
-use Rattle.std.specs.List.{AllByRecursion, All, filter, swap, IsDistinct}
-use Rattle.std.specs.List.Sorted.{IsPermutation, IsSortedBy, IsStableBy, ties}
+use Rattle.hs_report.proofs.Prelude.{AllByRecursion, filter, IsDistinct, IsPermutation, IsSortedBy, IsStableBy, ties, nat_tests, All-from_recursion, recursion_from_All, All-filter, length-map, ClientId, TraceId, first_seen, Sheets, Sheet, IsPage, page_bytes, Reported, Traces, Note, bytes_of, note_of, noted}
+use Rattle.std.specs.List.{All, swap}
 use Rattle.std.specs.Option.{option_map_or}
-use Rattle.std.proofs.lemmas.Bool.Decides.{nat_tests}
-use Rattle.std.proofs.lemmas.List.Elements.{All-from_recursion, recursion_from_All, All-filter}
-use Rattle.std.proofs.lemmas.List.{map-set, get_or-map, length-map}
+use Rattle.std.proofs.lemmas.List.{map-set, get_or-map}
 use Rattle.std.proofs.lemmas.List.Sorted.{All-permutation, IsPermutation-swap, IsPermutation-keeps, IsPermutation-map}
 use Rattle.hs_lists.proofs.Filters.{filter_mapped}
-use Rattle.hs_base.specs.declared.ids.ClientId.{ClientId}
-use Rattle.hs_base.specs.declared.ids.TraceId.{TraceId}
-use Rattle.hs_collect.specs.Collected.{first_seen, is_by}
-use Rattle.hs_collect.specs.Views.{Sheets}
-use Rattle.hs_words.specs.Pages.{Sheet, IsPage, page_bytes}
+use Rattle.hs_collect.specs.Collected.{is_by}
 use Rattle.hs_law_outcome.proofs.Origins.{same_client}
-use Rattle.hs_report.specs.declared.pages.Reported.{Reported}
-use Rattle.hs_report.specs.Pages.{Traces, Note, AreReported, Reordered, bytes_of, note_of, noted}
+use Rattle.hs_report.specs.Pages.{AreReported, Reordered}
 use Rattle.hs_report.proofs.Rising.{PutsEarlierFirst, same_place, seen_as_before}
 use Rattle.hs_report.proofs.Seen.{is_trace, seen_once}
 use Rattle.hs_report.proofs.Stable.{stable_keeps}

@@ -1,14 +1,8 @@
 -- The traces of pages as they are first seen: one page more, each stands once, and each is that of a page.
 use Rattle.std.proofs.Common.{◌≡◌, ◌==◌, Bool, true, false, not, ◌||◌, cond, [], ◌∷◌, ◌++◌, length, sym, ap, ◌∙◌, refl, append-nil, arith}
-use Rattle.std.specs.List.{AllByRecursion, filter, list_any, IsDistinct}
-use Rattle.std.proofs.lemmas.Bool.Decides.{nat_tests}
-use Rattle.std.proofs.lemmas.List.Elements.{filter-append, filter_passes, recursion_from_All, All-from_recursion, All-filter}
-use Rattle.hs_lists.proofs.Filters.{filter_weaker}
-use Rattle.hs_base.specs.declared.ids.TraceId.{TraceId}
-use Rattle.hs_collect.specs.Collected.{first_seen, is_of}
-use Rattle.hs_collect.specs.Views.{Sheets}
-use Rattle.hs_words.specs.Pages.{Sheet}
-use Rattle.hs_report.specs.Pages.{Traces, with_trace}
+use Rattle.hs_report.proofs.Prelude.{AllByRecursion, filter, list_any, IsDistinct, nat_tests, filter-append, recursion_from_All, All-from_recursion, All-filter, filter_weaker, TraceId, first_seen, Sheets, Sheet, Traces, with_trace}
+use Rattle.std.proofs.lemmas.List.Elements.{filter_passes}
+use Rattle.hs_collect.specs.Collected.{is_of}
 use Rattle.hs_report.proofs.ByTrace.{any_filtered}
 
 abbrev pub is_trace : TraceId → TraceId → Bool

@@ -1,15 +1,7 @@
 -- Pages and their bytes, one beside another, and what is read of one page more.
 use Rattle.std.proofs.Common.{◌≡◌, ◌==◌, ℕ, zero, suc, ◌+◌, ◌<◌, ◌≤◌, Bool, true, false, cond, List, [], ◌∷◌, ◌++◌, length, get_or, take, drop, map, Some, slice_get, sym, ap, ◌∙◌, refl, append-nil, arith}
-use Rattle.std.specs.List.{AllByRecursion, list_any}
-use Rattle.std.proofs.lemmas.List.{map-append, take_more, take-append-drop, take_all, length-map}
-use Rattle.std.proofs.lemmas.List.Concat.{flat_map-append}
-use Rattle.hs_base.specs.declared.ids.TraceId.{TraceId}
-use Rattle.hs_collect.specs.Views.{Sheets}
-use Rattle.hs_journal.specs.declared.books.AgentBook.{AgentBook}
-use Rattle.hs_words.specs.Pages.{Sheet, IsPage, page_bytes}
-use Rattle.hs_words.specs.Reading.{Spells}
-use Rattle.hs_report.specs.declared.pages.Reported.{Reported}
-use Rattle.hs_report.specs.Pages.{Traces, Note, SpellAll, AreRead, JoinsAs, note_of, noted, with_trace, sent_by, all_sent}
+use Rattle.hs_report.proofs.Prelude.{AllByRecursion, list_any, map-append, take_more, take-append-drop, take_all, length-map, flat_map-append, TraceId, Sheets, AgentBook, Sheet, IsPage, page_bytes, Spells, Reported, Traces, Note, SpellAll, AreRead, note_of, noted, with_trace, sent_by, all_sent}
+use Rattle.hs_report.specs.Pages.{JoinsAs}
 use Rattle.hs_report.proofs.Seen.{seen_more}
 
 -- the page beside an element

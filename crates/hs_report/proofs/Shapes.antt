@@ -1,9 +1,7 @@
 -- What a valid workload has, and a journal that has a text.
-use Rattle.hs_journal.specs.Grammar.{HasItsLists, IsJournal}
-use Rattle.hs_journal.specs.Views.{PlainJournal}
+use Rattle.hs_report.proofs.Prelude.{HasItsLists, PlainJournal, PlainWorkload, IsValid}
+use Rattle.hs_journal.specs.Grammar.{IsJournal}
 use Rattle.hs_law_outcome.specs.Records.{EndsItsTraces}
-use Rattle.hs_records.specs.Plain.{PlainWorkload}
-use Rattle.hs_workload.specs.Validity.{IsValid}
 use Rattle.hs_workload.specs.declared.word.Setting.TheVariants as settings
 use Rattle.hs_workload.proofs.Sizes.{bracketed}
 

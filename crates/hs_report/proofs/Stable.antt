@@ -1,8 +1,6 @@
 -- A stable sort keeps what any test passes whose elements tie.
 use Rattle.std.proofs.Common.{◌≡◌, Bool, true, false, cond, List, [], ◌∷◌, sym, ap, ◌∙◌, refl, ◌⊎◌, inl, inr}
-use Rattle.std.specs.List.{filter}
-use Rattle.std.specs.List.Sorted.{ties, IsStableBy}
-use Rattle.hs_lists.proofs.Filters.{filter_weaker}
+use Rattle.hs_report.proofs.Prelude.{filter, ties, IsStableBy, filter_weaker}
 
 first_more : {X : Type 0} (test : X → Bool) (z : X) (zs : List X) (a : Bool) → test z ≡ a → (filter test zs ≡ []) ⊎ ((x : X) × (test x ≡ true)) → (filter test (z ∷ zs) ≡ []) ⊎ ((x : X) × (test x ≡ true))
 first_more test z zs true is rest = inr (z, is)

@@ -1,29 +1,9 @@
 -- The text of an outcome, by its parts.
 use Rattle.std.proofs.Common.{◌≡◌, ℕ, List, [], ◌∷◌, ◌++◌, length, map, sym, ap, ◌∙◌, refl, append_assoc}
-use Rattle.std.specs.List.{filter, flat_map}
-use Rattle.std.proofs.lemmas.List.{length-map}
-use Rattle.hs_base.specs.declared.ids.TraceId.{TraceId}
-use Rattle.hs_collect.specs.Collected.{Placed, AreWholes, pieces_of}
-use Rattle.hs_journal.specs.Grammar.{journal_text}
-use Rattle.hs_journal.specs.Views.{PlainJournal, journal_of}
-use Rattle.hs_law_journal.specs.Lawful.{IsLawful}
-use Rattle.hs_ledger.specs.declared.ledger.Entry.{Entry}
-use Rattle.hs_law_outcome.specs.CollectedReports.{CollectedRecordsAreWhole, reported_wholes}
+use Rattle.hs_report.proofs.Prelude.{filter, flat_map, length-map, TraceId, Placed, AreWholes, pieces_of, journal_text, PlainJournal, journal_of, IsLawful, Entry, CollectedRecordsAreWhole, reported_wholes, Text, outcome_of, report_lines, PlainWorkload, text_of, IsValid, Sorted, Outcome, has_entry, kept_of, IsOutcome, AreSorted, count_line, records_by, report_by}
 use Rattle.hs_law_outcome.specs.declared.form.Form.{Form}
-use Rattle.hs_law_outcome.specs.declared.form.Form.TheVariants.{Text}
-use Rattle.hs_law_outcome.specs.Outcomes.{outcome_of}
-use Rattle.hs_law_outcome.specs.OutcomeText.{report_lines, reports_text, ledger_text, outcome_text}
+use Rattle.hs_law_outcome.specs.OutcomeText.{reports_text, ledger_text, outcome_text}
 use Rattle.hs_law_outcome.specs.Reports.{Report, report_of, reports_in}
-use Rattle.hs_records.specs.Plain.{PlainWorkload}
-use Rattle.hs_text.specs.Text.{text_of}
-use Rattle.hs_workload.specs.Validity.{IsValid}
-use Rattle.hs_report.specs.declared.fates.Sorted.{Sorted}
-use Rattle.hs_report.specs.declared.outcome.Outcome.{Outcome}
-use Rattle.hs_report.specs.Fates.{has_entry}
-use Rattle.hs_report.specs.Kept.{kept_of}
-use Rattle.hs_report.specs.Outcomes.{IsOutcome}
-use Rattle.hs_report.specs.Sorted.{AreSorted, count_line, records_by}
-use Rattle.hs_report.specs.Sources.{report_by}
 use Rattle.hs_report.proofs.Shapes.{ends_its_traces}
 
 -- what the collector joined of a trace, as far as it was reported, is what the trace's report shows

@@ -1,19 +1,9 @@
 -- What is known at the end of a ring.
 use Rattle.std.proofs.Common.{◌≡◌, ℕ, suc, ◌+◌, ◌-◌, ◌*◌, List, [], ◌∷◌, ◌++◌, length, refl, sym, ap, ◌∙◌, subst, arith, length-append}
-use Rattle.std.specs.Prelude.{count_by}
-use Rattle.atomic_table.specs.Seated.{TableId}
-use Rattle.atomic_table.specs.Table.{Joins}
-use Rattle.hs_words.specs.Pools.{PoolName}
-use Rattle.hs_words.specs.PoolHistory.{is_missed, is_empty}
-use Rattle.hs_words.specs.Ends.{Deed, events_of, is_any_got, is_any_given, IsTogether}
-use Rattle.hs_words.proofs.Waiting.{drawn_kinds, given_kinds}
-use Rattle.hs_words.specs.Plans.{Plan}
-use Rattle.hs_ring.specs.Parts.{Drawing, AreInOrder, answers_of_all}
-use Rattle.hs_ring.specs.Views.{nothing, GiverSeat, bare, View, nobody, giving, drawing, drawer_seat_of, giver_seat_of, having_closed}
-use Rattle.hs_ring.specs.Steps.{drawn_of, published_of, Over, IsOver}
-use Rattle.hs_ring.specs.Rule.{RingRule}
-use Rattle.hs_ring.specs.Seats.{PoolSeat, IsFree, name_of, drawing_of}
-use Rattle.hs_ring.specs.Making.{closed_giver_seat}
+use Rattle.hs_ring.proofs.Prelude.{count_by, TableId, Joins, PoolName, is_missed, is_empty, Deed, events_of, is_any_got, is_any_given, drawn_kinds, given_kinds, Plan, Drawing, answers_of_all, nothing, GiverSeat, bare, View, nobody, giving, drawing, drawer_seat_of, giver_seat_of, having_closed, drawn_of, published_of, Over, RingRule, PoolSeat, IsFree, name_of, drawing_of, closed_giver_seat}
+use Rattle.hs_words.specs.Ends.{IsTogether}
+use Rattle.hs_ring.specs.Parts.{AreInOrder}
+use Rattle.hs_ring.specs.Steps.{IsOver}
 use Rattle.hs_ring.proofs.Owed.{Mine, closes_at}
 
 -- ---- names

@@ -1,19 +1,7 @@
 -- A drawer collects the buffer of its number, and makes a lease of it.
 use Rattle.std.proofs.Common.{◌≡◌, ◌≢◌, ◌⊎◌, ℕ, suc, ◌+◌, ◌*◌, ◌%◌, ◌<◌, ◌≤◌, List, [], ◌∷◌, ◌++◌, length, set, get_or, None, refl, sym, ap, ◌∙◌, subst, inl, arith, length-set, get_or-set_other}
-use Rattle.std.proofs.lemmas.Grind.{get_or-set_at}
-use mathlib.Core.Option.{some}
+use Rattle.hs_ring.proofs.Prelude.{get_or-set_at, some, get_elem?, step, gives, stepped, Allows, Splits, set_here, set_else, put, put_cases, put_here, put_else, got_by, draw_is_at, Plan, Spot, in_queue, with_drawer, leased, DrawerSeat, Hand, nothing, drew, kept, View, drawing, leasing, Has, Cell, free, drawn, Facts, CellOk, HandOk, SpotOk, DeskOk, Knows, Kept, RingRule, did_collect}
 use mathlib.Core.Option as maybe
-use lib.ListN.{get_elem?}
-use Rattle.atomic_table.specs.Table.{step, gives, stepped, Allows, Splits}
-use Rattle.atomic_table.proofs.Lists.{set_here, set_else}
-use Rattle.hs_base.proofs.Updates.{put, put_cases, put_here, put_else}
-use Rattle.hs_words.specs.Ends.{got_by}
-use Rattle.hs_words.proofs.Deeds.{draw_is_at}
-use Rattle.hs_words.specs.Plans.{Plan}
-use Rattle.hs_words.specs.Spots.{Spot, in_queue, with_drawer, leased}
-use Rattle.hs_ring.specs.Views.{DrawerSeat, Hand, nothing, drew, kept, View, drawing, leasing, Has}
-use Rattle.hs_ring.specs.Rule.{Cell, free, drawn, Facts, CellOk, HandOk, SpotOk, DeskOk, Knows, Kept, RingRule}
-use Rattle.hs_ring.specs.Steps.{did_collect}
 use Rattle.hs_ring.proofs.Updates.{left_set, left_and}
 use Rattle.hs_ring.proofs.Spots.{still_with, with_more, with_last, spot_stays}
 use Rattle.hs_ring.proofs.Stays.{Moves, hand_stays, palm_stays, queued_stays, cell_stays, facts_after, post_stays, knows_stays}

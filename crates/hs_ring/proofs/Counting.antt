@@ -1,22 +1,10 @@
 -- What the rule says of the counts, and of the words and slots that a step changes.
 use Rattle.std.proofs.Common.{◌≡◌, ◌≢◌, ℕ, zero, suc, ◌+◌, ◌-◌, ◌*◌, ◌/◌, ◌%◌, ◌<◌, ◌≤◌, List, [], ◌∷◌, ◌++◌, length, drop, set, get_or, Some, refl, sym, ap, ◌∙◌, subst, ⊎_elim, mod-eq_of_lt, mod-lt, arith}
-use mathlib.Core.Option.{some, some-injective, some-ne-none}
-use lib.ListN.{get_elem?}
-use Rattle.std.specs.Prelude.{Option, slice_get, count_by}
-use Rattle.atomic_table.specs.Table.{State, Me, Act, Valid, carried_after, stepped}
-use Rattle.atomic_table.proofs.Lists.{at_set}
-use Rattle.hs_lists.proofs.Places.{elem_push_cases}
-use Rattle.hs_ring.specs.declared.board.TheConstants.{PUBLISHED}
-use Rattle.hs_base.specs.declared.limits.TheConstants.{MAX_BUFFERS, MAX_OPERATIONS}
-use Rattle.hs_words.specs.Chunks.{Contents}
-use Rattle.hs_words.specs.PoolHistory.{is_missed, is_empty}
-use Rattle.hs_words.specs.Ends.{events_of, drawn_in, given_in, is_any_got, is_any_given, queue_of}
+use Rattle.hs_ring.proofs.Prelude.{some, some-injective, some-ne-none, get_elem?, Option, slice_get, count_by, State, Me, Act, stepped, at_set, elem_push_cases, PUBLISHED, MAX_BUFFERS, MAX_OPERATIONS, Contents, is_missed, is_empty, events_of, drawn_in, given_in, is_any_got, is_any_given, queue_of, drawn_kinds, given_kinds, Plan, View, Facts, published, Knows, Kept, RingRule, drawn_of, published_of}
+use Rattle.atomic_table.specs.Table.{Valid, carried_after}
 use Rattle.hs_words.proofs.Deeds.{stamp_is}
-use Rattle.hs_words.proofs.Waiting.{few, waiting_length, drawn_kinds, given_kinds}
-use Rattle.hs_words.specs.Plans.{Plan}
-use Rattle.hs_ring.specs.Views.{View}
-use Rattle.hs_ring.specs.Rule.{Facts, published, Knows, Kept, RingRule}
-use Rattle.hs_ring.specs.Steps.{drawn_of, published_of, IsStamp}
+use Rattle.hs_words.proofs.Waiting.{few, waiting_length}
+use Rattle.hs_ring.specs.Steps.{IsStamp}
 
 -- ---- lists
 

@@ -1,28 +1,12 @@
 -- A draw keeps the rule: a number is drawn, its chunk is collected, and a lease is made of it.
 use Rattle.std.proofs.Common.{◌≡◌, ◌≢◌, ◌⊎◌, ℕ, suc, ◌+◌, ◌*◌, ◌%◌, ◌<◌, ◌≤◌, List, [], ◌∷◌, length, set, get_or, Some, refl, sym, ap, ap₂, ◌∙◌, subst, inl, inr, le_refl, arith, add-zero, length-set, get_or-set_other, get_or-set_same}
-use mathlib.Core.Option.{some}
+use Rattle.hs_ring.proofs.Prelude.{some, dite, ℕ_discrete, dec_le, get_elem?, Option, nil_from_length, State, Me, step, Act, keeps, takes, stepped, Allows, set_here, set_else, count_cons, PUBLISHED, put, put_cases, put_here, put_else, Contents, clear_chunk, is_missed, is_empty, Deed, Answer, got_by, events_of, drawn_in, given_in, answer_to, queue_of, answers_and, Plan, AtSeat, Spot, in_queue, with_drawer, DrawerSeat, Hand, nothing, drew, View, drawing, InHand, Has, Cell, free, waits, drawn, Facts, published, IsLaid, CellOk, IsLastOf, HandOk, SpotOk, DeskOk, Knows, Kept, RingRule, drawn_of, did_draw}
 use mathlib.Core.Option as maybe
-use mathlib.Core.Logic.{dite}
-use native.Mathlib.Decide.{ℕ_discrete, dec_le}
-use lib.ListN.{get_elem?}
-use Rattle.std.specs.Prelude.{Option}
-use Rattle.std.proofs.lemmas.List.{nil_from_length}
-use Rattle.atomic_table.specs.Table.{State, Me, step, Act, keeps, takes, stepped, Allows}
-use Rattle.atomic_table.proofs.Lists.{set_here, set_else}
-use Rattle.hs_lists.proofs.Counts.{count_cons}
-use Rattle.hs_ring.specs.declared.board.TheConstants.{PUBLISHED}
-use Rattle.hs_base.proofs.Updates.{put, put_cases, put_here, put_else}
-use Rattle.hs_words.specs.Chunks.{Contents, clear_chunk}
-use Rattle.hs_words.specs.PoolHistory.{Got, Empty, is_missed, is_empty}
-use Rattle.hs_words.specs.Ends.{Deed, Answer, got_by, empty_by, events_of, drawn_in, given_in, answer_to, queue_of}
-use Rattle.hs_words.proofs.Deeds.{none_yet, answers_and}
+use Rattle.hs_words.specs.PoolHistory.{Got, Empty}
+use Rattle.hs_words.specs.Ends.{empty_by}
+use Rattle.hs_words.proofs.Deeds.{none_yet}
 use Rattle.hs_words.proofs.Waiting.{waiting_below}
-use Rattle.hs_words.specs.Plans.{Plan}
-use Rattle.hs_words.specs.Seats.{AtSeat}
-use Rattle.hs_words.specs.Spots.{Spot, in_queue, with_drawer}
-use Rattle.hs_ring.specs.Views.{DrawerSeat, Hand, nothing, drew, View, drawing, drawer_seat_after, InHand, Has}
-use Rattle.hs_ring.specs.Rule.{Cell, free, waits, drawn, Facts, published, IsLaid, CellOk, IsLastOf, HandOk, SpotOk, DeskOk, Knows, Kept, RingRule}
-use Rattle.hs_ring.specs.Steps.{drawn_of, did_draw}
+use Rattle.hs_ring.specs.Views.{drawer_seat_after}
 use Rattle.hs_ring.proofs.Updates.{ap₃, left_set}
 use Rattle.hs_ring.proofs.Spots.{now_with, still_with, spot_stays}
 use Rattle.hs_ring.proofs.Stays.{Moves, answers_stay, hand_stays, palm_stays, cell_stays, facts_after, post_stays, knows_stays}

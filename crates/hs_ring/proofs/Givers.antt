@@ -1,15 +1,12 @@
 -- What is known of a giver's seat after a give.
 use Rattle.std.proofs.Common.{◌≡◌, ℕ, suc, ◌+◌, ◌*◌, ◌<◌, ◌≤◌, [], length, refl, sym, ap, ◌∙◌, subst, arith}
-use Rattle.atomic_table.specs.Seated.{TableId}
+use Rattle.hs_ring.proofs.Prelude.{TableId, Contents, Answer, answers_in, all_of, GiverSeat, bare, View, nobody, drawing, leasing, giving, drawer_note, giver_note, giver_seat_of, with_lease, PoolSeat, IsSameSeat, IsFree}
 use Rattle.hs_words.specs.declared.token.TheConstants.{MAX_PUBLISHED}
-use Rattle.hs_words.specs.Chunks.{Contents}
-use Rattle.hs_words.specs.Ends.{Answer, answers_in}
 use Rattle.hs_words.specs.declared.token.Given.{Given as Answered}
 use Rattle.hs_words.specs.declared.token.Given.TheVariants as given
-use Rattle.hs_words.proofs.Deeds.{all_of}
 use Rattle.hs_ring.specs.Parts.{Leased, AllBelow}
-use Rattle.hs_ring.specs.Views.{GiverSeat, bare, View, nobody, drawing, leasing, giving, drawer_note, giver_note, giver_seat_of, having_laid, with_lease}
-use Rattle.hs_ring.specs.Seats.{PoolSeat, IsSeatAt, IsSameSeat, IsFree, IsGiverSeat, Publishes, published_after, given_giver_seat, missed_giver_seat}
+use Rattle.hs_ring.specs.Views.{having_laid}
+use Rattle.hs_ring.specs.Seats.{IsSeatAt, IsGiverSeat, Publishes, published_after, given_giver_seat, missed_giver_seat}
 use Rattle.hs_ring.proofs.Owed.{Mine}
 
 pub post_there : (s : PoolSeat) (post : GiverSeat) → s.me ≡ (giving post bare, []) → giver_seat_of s.me.0 ≡ post

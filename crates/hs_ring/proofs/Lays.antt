@@ -1,25 +1,10 @@
 -- The giver lays its number at the entry, finds the entry in use, or takes the number back.
 use Rattle.std.proofs.Common.{◌≡◌, ◌≢◌, ℕ, suc, ◌+◌, ◌-◌, ◌*◌, ◌%◌, ◌<◌, ◌≤◌, List, [], ◌∷◌, length, set, get_or, None, refl, sym, ap, ap₂, ◌∙◌, subst, inl, arith, add-one, length-set, get_or-set_other}
-use Rattle.std.proofs.lemmas.Grind.{get_or-set_at}
-use Rattle.std.proofs.lemmas.List.{set-get_or}
-use native.Mathlib.Nat.{add-mod_right}
-use mathlib.Core.Option.{some}
+use Rattle.hs_ring.proofs.Prelude.{get_or-set_at, set-get_or, add-mod_right, some, get_elem?, either, Option, ◌==◌, AllByRecursion, Me, step, keeps, takes, stepped, Allows, set_here, set_else, put, put_cases, put_here, put_else, Contents, Answer, got_by, drawn_in, answers_in, told_in, all_of, draw_is_at, Plan, in_queue, with_giver, HasLease, drew, GiverSeat, Palm, holds, lays, View, giving, giver_seat_after, Has, Cell, free, waits, drawn, laid, Facts, published, IsLaid, CellOk, HandOk, PalmOk, IsSettled, PostOk, Knows, Kept, RingRule, did_lay}
 use mathlib.Core.Option as maybe
-use lib.ListN.{get_elem?}
-use prog.Atomic.{either}
-use Rattle.std.specs.Prelude.{Option, ◌==◌}
-use Rattle.std.specs.List.{AllByRecursion}
-use Rattle.atomic_table.specs.Table.{Me, step, keeps, takes, stepped, Allows}
-use Rattle.atomic_table.proofs.Lists.{set_here, set_else, exchanged, one_turn}
-use Rattle.hs_base.proofs.Updates.{put, put_cases, put_here, put_else}
-use Rattle.hs_words.specs.Chunks.{Contents}
-use Rattle.hs_words.specs.Ends.{Answer, got_by, drawn_in, unread, answers_in, told_in, SpendsThe, IsUnread}
-use Rattle.hs_words.proofs.Deeds.{all_of, unspent, draw_is_at}
-use Rattle.hs_words.specs.Plans.{Plan}
-use Rattle.hs_words.specs.Spots.{in_queue, with_giver, HasLease}
-use Rattle.hs_ring.specs.Views.{drew, GiverSeat, Palm, holds, lays, View, giving, giver_seat_after, Has}
-use Rattle.hs_ring.specs.Rule.{Cell, free, waits, drawn, laid, Facts, published, IsLaid, CellOk, HandOk, PalmOk, IsSettled, PostOk, Knows, Kept, RingRule}
-use Rattle.hs_ring.specs.Steps.{did_lay}
+use Rattle.atomic_table.proofs.Lists.{exchanged, one_turn}
+use Rattle.hs_words.specs.Ends.{unread, SpendsThe, IsUnread}
+use Rattle.hs_words.proofs.Deeds.{unspent}
 use Rattle.hs_ring.proofs.Updates.{left_set}
 use Rattle.hs_ring.proofs.Spots.{still_with, spot_stays}
 use Rattle.hs_ring.proofs.Stays.{Moves, is_last, hand_stays, queued_stays, cell_stays, facts_after, knows_stays}

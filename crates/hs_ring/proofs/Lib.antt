@@ -1,3 +1,4 @@
+mod Prelude
 pub mod Updates
 pub mod Stays
 pub mod Counting

@@ -1,25 +1,14 @@
 -- How a ring begins and ends: its table at the start, the making and the closing of drawers, and the last look.
 use Rattle.std.proofs.Common.{◌≡◌, ◌≢◌, ℕ, zero, suc, ◌+◌, ◌-◌, ◌*◌, ◌%◌, ◌<◌, ◌≤◌, List, [], ◌∷◌, ◌++◌, length, map, set, get_or, Some, None, refl, sym, ap, ap₂, ◌∙◌, subst, ⊎_elim, mod-eq_of_lt, zero-le, arith, length-set}
-use Rattle.std.proofs.lemmas.List.{set-get_or}
-use mathlib.Core.Option.{some, some-injective, some-ne-none}
+use Rattle.hs_ring.proofs.Prelude.{set-get_or, some, some-injective, some-ne-none, dec_le, get_elem?, length-map, Option, range_with_len, step, keeps, opening, Allows, Splits, Joins, at_set, set_else, PUBLISHED, put, put_here, put_else, Contents, clear_chunk, Deed, Answer, all_of, Plan, Within, in_queue, DrawerSeat, nothing, GiverSeat, Palm, bare, View, nobody, drawing, leasing, giving, drawer_note, giver_note, new_drawer, having_closed, Has, Cell, free, waits, Facts, CellOk, DeskOk, PostOk, Knows, Kept, RingRule, first_view, did_look, Over}
 use mathlib.Core.Option as maybe
-use native.Mathlib.Decide.{dec_le}
-use lib.ListN.{get_elem?, length-map}
-use Rattle.std.specs.Prelude.{Option}
-use Rattle.std.specs.List.{range_with_len}
-use Rattle.atomic_table.specs.Table.{step, keeps, opening, Allows, Splits, Joins}
-use Rattle.atomic_table.proofs.Lists.{at_set, set_else, at_map}
-use Rattle.hs_ring.specs.declared.board.TheConstants.{PUBLISHED}
-use Rattle.hs_base.proofs.Updates.{put, put_here, put_else}
-use Rattle.hs_words.specs.Chunks.{Contents, clear_chunk}
-use Rattle.hs_words.specs.Ends.{Deed, Answer, AreAnswers}
-use Rattle.hs_words.proofs.Deeds.{all_of, no_answers}
-use Rattle.hs_words.specs.Plans.{total, Plan, Within}
-use Rattle.hs_words.specs.Spots.{in_queue}
+use Rattle.atomic_table.proofs.Lists.{at_map}
+use Rattle.hs_words.specs.Ends.{AreAnswers}
+use Rattle.hs_words.proofs.Deeds.{no_answers}
+use Rattle.hs_words.specs.Plans.{total}
 use Rattle.hs_words.proofs.Plans.{total_parts}
-use Rattle.hs_ring.specs.Views.{DrawerSeat, nothing, GiverSeat, Palm, bare, View, nobody, drawing, leasing, giving, drawer_note, giver_note, with_drawer, new_drawer, having_closed, Has}
-use Rattle.hs_ring.specs.Rule.{Cell, free, waits, Facts, CellOk, DeskOk, PostOk, Knows, Kept, RingRule, first_giver_seat, first_view}
-use Rattle.hs_ring.specs.Steps.{did_look, Over}
+use Rattle.hs_ring.specs.Views.{with_drawer}
+use Rattle.hs_ring.specs.Rule.{first_giver_seat}
 use Rattle.hs_ring.proofs.Updates.{left_set, left_and}
 use Rattle.hs_ring.proofs.Counting.{found_drawn, found_published, reseated, seated_too}
 use Rattle.hs_ring.proofs.Spots.{still_with, with_more, spot_stays}

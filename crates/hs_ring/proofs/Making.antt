@@ -1,22 +1,9 @@
 -- The words and the slots of a new table are as the rule wants them.
 use Rattle.std.proofs.Common.{◌≡◌, ℕ, zero, suc, ◌+◌, ◌*◌, ◌<◌, ◌≤◌, List, [], ◌∷◌, ◌++◌, length, map, get_or, replicate, Some, None, refl, sym, ap, ap₂, ◌∙◌, subst, arith, length-append, add-one}
-use mathlib.Core.Option.{some}
-use lib.ListN.{get_elem?, length-map, length-replicate}
-use Rattle.std.specs.Prelude.{Option, sum, slice_get}
-use Rattle.std.specs.List.{range_with_len}
-use Rattle.std.proofs.lemmas.List.FromFn.{length-range_with_len}
-use Rattle.atomic_table.specs.Table.{opening, Splits}
-use Rattle.atomic_table.specs.Seated.{TableId}
-use Rattle.hs_base.specs.declared.limits.TheConstants.{MAX_BUFFERS, MAX_OPERATIONS}
-use Rattle.hs_words.specs.Chunks.{Contents, clear_chunk, clear_chunks}
-use Rattle.hs_words.specs.Pools.{PoolName}
-use Rattle.hs_words.specs.Plans.{Plan, Within}
+use Rattle.hs_ring.proofs.Prelude.{some, get_elem?, length-map, length-replicate, Option, sum, slice_get, range_with_len, length-range_with_len, opening, Splits, TableId, MAX_BUFFERS, MAX_OPERATIONS, Contents, clear_chunk, clear_chunks, PoolName, Plan, Within, Drawing, new_drawers, GiverSeat, bare, giving, drawer_seat_of, giver_seat_of, new_drawer, RingRule, first_view, PoolSeat, name_of, drawing_of, IsMaking}
 use Rattle.hs_words.proofs.Plans.{total_is_sum}
-use Rattle.hs_ring.specs.Parts.{Drawing, new_drawers}
-use Rattle.hs_ring.specs.Views.{GiverSeat, bare, giving, drawer_seat_of, giver_seat_of, with_drawer, new_drawer}
-use Rattle.hs_ring.specs.Rule.{RingRule, first_view}
-use Rattle.hs_ring.specs.Seats.{PoolSeat, name_of, drawing_of}
-use Rattle.hs_ring.specs.Making.{first_words, first_slots, IsMaking}
+use Rattle.hs_ring.specs.Views.{with_drawer}
+use Rattle.hs_ring.specs.Making.{first_words, first_slots}
 use Rattle.hs_ring.proofs.Owed.{Mine, makes_at}
 use Rattle.hs_ring.proofs.Givers.{post_there, free_there}
 use Rattle.hs_ring.proofs.Life.{IsLaidOut, starts}

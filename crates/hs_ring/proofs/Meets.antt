@@ -1,19 +1,11 @@
 -- Two ends hear of what the other knows, by notes.
 use Rattle.std.proofs.Common.{◌≡◌, ℕ, suc, ◌≤◌, Bool, true, false, ◌==◌, List, [], ◌∷◌, ◌++◌, length, set, max, refl, sym, ap, ◌∙◌, subst, inl, inr, arith}
-use mathlib.Core.Option.{some}
-use lib.ListN.{get_elem?}
+use Rattle.hs_ring.proofs.Prelude.{some, get_elem?, AllByRecursion, Splits, Joins, set_else, Deed, Answer, got_by, answers_by, told_in, IsDeedAt, answer_to, draw_is_at, Plan, AtSeat, DrawerSeat, Hand, nothing, drew, GiverSeat, Palm, View, nobody, drawing, giving, drawer_note, giver_note, giver_seat_after, all_left, Has, Facts, HandOk, IsSettled, DeskOk, PostOk, Knows, Kept, RingRule}
 use borrow.Author.Tests.{eqb-true}
-use Rattle.std.specs.List.{AllByRecursion}
-use Rattle.atomic_table.specs.Table.{Splits, Joins}
-use Rattle.atomic_table.proofs.Lists.{set_else}
 use Rattle.hs_lists.proofs.Numbers.{max_le}
 use Rattle.hs_lists.proofs.Alls.{all_append}
-use Rattle.hs_words.specs.Ends.{Deed, Answer, met, got_by, answers_by, told_in, stamps_in, IsDeedAt, put_if, answer_to}
-use Rattle.hs_words.proofs.Deeds.{at_below, draw_is_at, at_once}
-use Rattle.hs_words.specs.Plans.{Plan}
-use Rattle.hs_words.specs.Seats.{AtSeat}
-use Rattle.hs_ring.specs.Views.{DrawerSeat, Hand, nothing, drew, GiverSeat, Palm, View, nobody, drawing, giving, drawer_note, giver_note, giver_seat_after, all_left, Has}
-use Rattle.hs_ring.specs.Rule.{Facts, HandOk, IsSettled, DeskOk, PostOk, Knows, Kept, RingRule}
+use Rattle.hs_words.specs.Ends.{met, stamps_in, put_if}
+use Rattle.hs_words.proofs.Deeds.{at_below, at_once}
 use Rattle.hs_ring.proofs.Updates.{left_set, left_and}
 use Rattle.hs_ring.proofs.Counting.{reseated, seated_too}
 use Rattle.hs_ring.proofs.Spots.{still_with, with_more, spot_stays}

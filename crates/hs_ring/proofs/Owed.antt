@@ -1,15 +1,9 @@
 -- Each step keeps the rule, for any view that can make it.
 use Rattle.std.proofs.Common.{◌≡◌, ℕ, suc, ◌+◌, ◌%◌, List, [], ◌∷◌, length, Some, None, sym, ap, ◌∙◌, subst}
 use mathlib.Core.Option as maybe
-use prog.Atomic.{either}
-use Rattle.std.specs.Prelude.{Option, ◌==◌}
-use Rattle.atomic_table.specs.Table.{Me, step, rest, Allows, Splits, Joins}
-use Rattle.hs_ring.specs.declared.board.TheConstants.{PUBLISHED}
-use Rattle.hs_words.specs.Chunks.{Contents}
-use Rattle.hs_words.specs.Plans.{Plan}
-use Rattle.hs_ring.specs.Views.{DrawerSeat, Hand, nothing, drew, kept, GiverSeat, Palm, bare, holds, lays, retakes, View, nobody, drawing, leasing, giving, drawer_note, giver_note, without_lease, lease_of, with_lease, note_of, having_heard, with_drawer, new_drawer, having_closed}
-use Rattle.hs_ring.specs.Rule.{RingRule}
-use Rattle.hs_ring.specs.Steps.{did_draw, did_collect, did_lay, did_publish, did_retake, did_look}
+use Rattle.hs_ring.proofs.Prelude.{either, Option, ◌==◌, Me, step, Allows, Splits, Joins, PUBLISHED, Contents, Plan, DrawerSeat, Hand, nothing, drew, kept, GiverSeat, Palm, bare, holds, lays, retakes, View, nobody, drawing, leasing, giving, drawer_note, giver_note, with_lease, note_of, new_drawer, having_closed, RingRule, did_draw, did_collect, did_lay, did_publish, did_retake, did_look}
+use Rattle.atomic_table.specs.Table.{rest}
+use Rattle.hs_ring.specs.Views.{without_lease, lease_of, having_heard, with_drawer}
 use Rattle.hs_ring.specs.Seats.{CanDraw, CanCollect, CanLease, IsLease, CanTake, CanLay, CanPublish, CanRetake}
 use Rattle.hs_ring.proofs.Draws.{Held, draws}
 use Rattle.hs_ring.proofs.Collects.{collects, leases}

@@ -1,30 +1,11 @@
 -- The giver publishes the number that it laid, or misses where the number was drawn before.
 use Rattle.std.proofs.Common.{◌≡◌, ◌≢◌, ℕ, suc, ◌+◌, ◌*◌, ◌%◌, ◌<◌, ◌≤◌, List, [], ◌∷◌, length, set, get_or, Some, refl, sym, ap, ap₂, ◌∙◌, subst, inl, ⊎_elim, le_refl, arith, length-set, get_or-set_other, get_or-set_same}
-use native.Mathlib.Nat.{add-mod_right}
-use native.Mathlib.Decide.{ℕ_discrete, dec_le}
-use mathlib.Core.Logic.{dite}
-use mathlib.Core.Option.{some}
+use Rattle.hs_ring.proofs.Prelude.{add-mod_right, ℕ_discrete, dec_le, dite, some, get_elem?, Option, AllByRecursion, nil_from_length, step, keeps, gives, stepped, Allows, set_here, set_else, elem_push_cases, count_cons, PUBLISHED, put, put_cases, put_here, put_else, Contents, clear_chunk, is_missed, is_empty, Deed, Answer, events_of, drawn_in, given_in, answer_to, answers_in, told_in, queue_of, answers_and, answers_below, are_answers_more, unread_more, given_kinds, Plan, Spot, in_queue, with_giver, GiverSeat, bare, lays, retakes, View, giving, giver_seat_after, Has, Cell, free, waits, laid, Facts, published, IsLaid, CellOk, PalmOk, SpotOk, PostOk, Knows, Kept, RingRule, published_of, did_publish}
 use mathlib.Core.Option as maybe
-use lib.ListN.{get_elem?}
-use Rattle.std.specs.Prelude.{Option}
-use Rattle.std.specs.List.{AllByRecursion}
-use Rattle.std.proofs.lemmas.List.{nil_from_length}
-use Rattle.atomic_table.specs.Table.{step, keeps, gives, stepped, Allows}
-use Rattle.atomic_table.proofs.Lists.{set_here, set_else}
-use Rattle.hs_lists.proofs.Places.{elem_push_cases}
-use Rattle.hs_lists.proofs.Counts.{count_cons}
-use Rattle.hs_ring.specs.declared.board.TheConstants.{PUBLISHED}
-use Rattle.hs_base.proofs.Updates.{put, put_cases, put_here, put_else}
-use Rattle.hs_words.specs.Chunks.{Contents, clear_chunk}
-use Rattle.hs_words.specs.PoolHistory.{Given, Missed, is_missed, is_empty}
-use Rattle.hs_words.specs.Ends.{Deed, Answer, answered, given_of, missed, events_of, drawn_in, given_in, answer_to, answers_in, told_in, queue_of}
-use Rattle.hs_words.proofs.Deeds.{answers_and, answers_below, are_answers_more, unread_more, got_below}
-use Rattle.hs_words.proofs.Waiting.{may_give, given_kinds}
-use Rattle.hs_words.specs.Plans.{Plan}
-use Rattle.hs_words.specs.Spots.{Spot, in_queue, with_giver}
-use Rattle.hs_ring.specs.Views.{GiverSeat, bare, lays, retakes, View, giving, giver_seat_after, Has}
-use Rattle.hs_ring.specs.Rule.{Cell, free, waits, laid, Facts, published, IsLaid, CellOk, PalmOk, SpotOk, PostOk, Knows, Kept, RingRule}
-use Rattle.hs_ring.specs.Steps.{published_of, did_publish}
+use Rattle.hs_words.specs.PoolHistory.{Given, Missed}
+use Rattle.hs_words.specs.Ends.{answered, given_of, missed}
+use Rattle.hs_words.proofs.Deeds.{got_below}
+use Rattle.hs_words.proofs.Waiting.{may_give}
 use Rattle.hs_ring.proofs.Updates.{left_set}
 use Rattle.hs_ring.proofs.Spots.{still_with, spot_stays}
 use Rattle.hs_ring.proofs.Stays.{Moves, lease_stays, hand_stays, queued_stays, all_settled, cell_stays, facts_after, knows_stays}

@@ -1,20 +1,7 @@
 -- The giver takes a number back whose publishing missed.
 use Rattle.std.proofs.Common.{◌≡◌, ℕ, suc, ◌+◌, ◌*◌, ◌%◌, ◌<◌, List, [], ◌∷◌, length, set, get_or, None, refl, sym, ap, ◌∙◌, subst, inl, arith, length-set, get_or-set_other}
-use Rattle.std.proofs.lemmas.Grind.{get_or-set_at}
-use mathlib.Core.Option.{some}
+use Rattle.hs_ring.proofs.Prelude.{get_or-set_at, some, get_elem?, Option, step, gives, stepped, Allows, set_here, set_else, put, put_cases, put_else, Contents, answers_in, Plan, in_queue, GiverSeat, holds, retakes, View, giving, Has, Cell, free, laid, Facts, published, IsLaid, CellOk, PalmOk, PostOk, Knows, Kept, RingRule, did_retake}
 use mathlib.Core.Option as maybe
-use lib.ListN.{get_elem?}
-use Rattle.std.specs.Prelude.{Option}
-use Rattle.atomic_table.specs.Table.{step, gives, stepped, Allows}
-use Rattle.atomic_table.proofs.Lists.{set_here, set_else}
-use Rattle.hs_base.proofs.Updates.{put, put_cases, put_else}
-use Rattle.hs_words.specs.Chunks.{Contents}
-use Rattle.hs_words.specs.Ends.{answers_in}
-use Rattle.hs_words.specs.Plans.{Plan}
-use Rattle.hs_words.specs.Spots.{in_queue}
-use Rattle.hs_ring.specs.Views.{GiverSeat, holds, retakes, View, giving, Has}
-use Rattle.hs_ring.specs.Rule.{Cell, free, laid, Facts, published, IsLaid, CellOk, PalmOk, PostOk, Knows, Kept, RingRule}
-use Rattle.hs_ring.specs.Steps.{did_retake}
 use Rattle.hs_ring.proofs.Updates.{left_set}
 use Rattle.hs_ring.proofs.Spots.{still_with, spot_stays}
 use Rattle.hs_ring.proofs.Stays.{Moves, hand_stays, queued_stays, cell_stays, facts_after, knows_stays}

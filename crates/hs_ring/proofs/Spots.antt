@@ -1,14 +1,7 @@
 -- What held of a seat, and the place of a buffer, stay where a step changes one seat's view or adds a seat.
 use Rattle.std.proofs.Common.{◌≡◌, ◌≢◌, ℕ, ◌*◌, ◌%◌, List, [], ◌∷◌, ◌++◌, length, set, sym, ap, ◌∙◌, subst}
-use mathlib.Core.Option.{some, some-injective}
-use mathlib.Core.Logic.{dite}
-use native.Mathlib.Decide.{ℕ_discrete}
-use lib.ListN.{get_elem?}
-use Rattle.atomic_table.proofs.Lists.{set_here, set_else, at_longer, at_last}
-use Rattle.hs_words.specs.Seats.{AtSeat}
-use Rattle.hs_words.specs.Spots.{Spot, in_queue, with_drawer, leased, with_giver}
-use Rattle.hs_ring.specs.Views.{View, Has}
-use Rattle.hs_ring.specs.Rule.{Cell, waits, SpotOk}
+use Rattle.hs_ring.proofs.Prelude.{some, some-injective, dite, ℕ_discrete, get_elem?, set_here, set_else, AtSeat, Spot, in_queue, with_drawer, leased, with_giver, View, Has, Cell, waits, SpotOk}
+use Rattle.atomic_table.proofs.Lists.{at_longer, at_last}
 use Rattle.hs_ring.proofs.Counting.{at_length}
 
 -- ---- seats

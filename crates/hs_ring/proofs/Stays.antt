@@ -1,17 +1,9 @@
 -- What a step leaves as it was. A step is made by one end, and touches at most one entry, one buffer and one drawer's hand.
 use Rattle.std.proofs.Common.{◌≡◌, ◌≢◌, ◌⊎◌, ℕ, suc, ◌+◌, ◌*◌, ◌%◌, ◌<◌, ◌≤◌, List, [], ◌∷◌, ◌++◌, length, sym, ap, ◌∙◌, subst, inl, inr, ⊎_elim, arith, length-append}
-use mathlib.Core.Option.{some}
+use Rattle.hs_ring.proofs.Prelude.{some, Option, count_by, AllByRecursion, Contents, is_missed, Deed, Answer, got_by, events_of, drawn_in, answers_by, told_in, IsDeedAt, all_of, answers_below, are_answers_more, unread_more, Plan, Spot, in_queue, with_drawer, leased, with_giver, HasLease, DrawerSeat, Hand, nothing, drew, kept, GiverSeat, Palm, bare, holds, lays, retakes, View, nobody, drawing, leasing, giving, drawer_note, giver_note, Cell, free, waits, drawn, laid, Facts, published, IsLaid, CellOk, IsLastOf, HandOk, PalmOk, IsSettled, DeskOk, PostOk, Knows}
 use mathlib.Core.Option as maybe
-use Rattle.std.specs.Prelude.{Option, count_by}
-use Rattle.std.specs.List.{AllByRecursion}
-use Rattle.hs_words.specs.Chunks.{Contents}
-use Rattle.hs_words.specs.PoolHistory.{is_missed}
-use Rattle.hs_words.specs.Ends.{Deed, Answer, got_by, events_of, drawn_in, answers_by, told_in, IsDeedAt, Names}
-use Rattle.hs_words.proofs.Deeds.{all_of, draw_more, got_more, none_more, answers_more, answers_below, are_answers_more, unread_more}
-use Rattle.hs_words.specs.Plans.{Plan}
-use Rattle.hs_words.specs.Spots.{Spot, in_queue, with_drawer, leased, with_giver, HasLease}
-use Rattle.hs_ring.specs.Views.{DrawerSeat, Hand, nothing, drew, kept, GiverSeat, Palm, bare, holds, lays, retakes, View, nobody, drawing, leasing, giving, drawer_note, giver_note}
-use Rattle.hs_ring.specs.Rule.{Cell, free, waits, drawn, laid, Facts, published, IsLaid, CellOk, IsLastOf, HandOk, PalmOk, IsSettled, DeskOk, PostOk, Knows}
+use Rattle.hs_words.specs.Ends.{Names}
+use Rattle.hs_words.proofs.Deeds.{draw_more, got_more, none_more, answers_more}
 
 -- The deeds that were added are all of one end, and name only the buffer that was at `spot`; nothing but that buffer, the entry
 -- that was `cell` and that end's hand has changed.

@@ -1,16 +1,6 @@
 -- The giver takes a lease back, and makes one of the buffer that it still has.
 use Rattle.std.proofs.Common.{◌≡◌, ◌≢◌, ℕ, suc, ◌*◌, ◌<◌, List, [], ◌∷◌, ◌++◌, length, set, get_or, refl, sym, ap, ◌∙◌, subst, inl, ⊎_elim, arith, length-set}
-use mathlib.Core.Option.{some}
-use lib.ListN.{get_elem?}
-use Rattle.atomic_table.specs.Table.{Splits, Joins}
-use Rattle.atomic_table.proofs.Lists.{at_set, set_else}
-use Rattle.hs_base.proofs.Updates.{put, put_cases, put_here, put_else}
-use Rattle.hs_words.specs.Ends.{Deed}
-use Rattle.hs_words.specs.Plans.{Plan}
-use Rattle.hs_words.specs.Seats.{AtSeat}
-use Rattle.hs_words.specs.Spots.{Spot, in_queue, leased, with_giver, HasLease}
-use Rattle.hs_ring.specs.Views.{Hand, GiverSeat, Palm, bare, holds, View, nobody, leasing, giving, Has}
-use Rattle.hs_ring.specs.Rule.{Cell, free, Facts, published, IsLaid, CellOk, PalmOk, SpotOk, PostOk, Knows, Kept, RingRule}
+use Rattle.hs_ring.proofs.Prelude.{some, get_elem?, Splits, Joins, at_set, set_else, put, put_cases, put_here, put_else, Deed, Plan, AtSeat, Spot, in_queue, leased, with_giver, HasLease, Hand, GiverSeat, Palm, bare, holds, View, nobody, leasing, giving, Has, Cell, free, Facts, published, IsLaid, CellOk, PalmOk, SpotOk, PostOk, Knows, Kept, RingRule}
 use Rattle.hs_ring.proofs.Updates.{left_set, left_and}
 use Rattle.hs_ring.proofs.Spots.{now_with, still_with, else_with, with_more, with_last, spot_stays}
 use Rattle.hs_ring.proofs.Stays.{Moves, hand_stays, cell_stays, facts_after, knows_stays}

@@ -1,8 +1,7 @@
 -- Lists of views with one changed.
 use Rattle.std.proofs.Common.{◌≡◌, ℕ, zero, suc, ◌+◌, List, [], ◌∷◌, ◌++◌, set, sym, ap, arith}
-use mathlib.Core.Option.{some, some-injective, some-ne-none}
-use lib.ListN.{get_elem?}
-use Rattle.hs_ring.specs.Views.{View, left_in, all_left}
+use Rattle.hs_ring.proofs.Prelude.{some, some-injective, some-ne-none, get_elem?, View, all_left}
+use Rattle.hs_ring.specs.Views.{left_in}
 
 -- one view is another
 pub left_set : (views : List View) (id : ℕ) (v w : View) → get_elem? views id ≡ some v → all_left (set views id w) + left_in v ≡ all_left views + left_in w

@@ -1,26 +1,9 @@
 -- What it says of a node that its agent made a pass and its clients went on.
 use Rattle.std.proofs.Common.{◌≡◌, ℕ, List, Some, refl, sym, subst, ◌∙◌, arith}
-use Rattle.std.specs.Prelude.{slice_get}
-use Rattle.std.proofs.lemmas.Option.{slice_get_within}
-use Rattle.hs_lists.proofs.Places.{get_there}
-use Rattle.hs_base.specs.Listing.{Listing}
-use Rattle.hs_base.specs.declared.settings.Settings.{Settings}
-use Rattle.hs_base.specs.Ids.{client_of}
-use Rattle.hs_link.specs.Contents.{Incoming, Outgoing}
-use Rattle.hs_live.specs.Keys.{Key}
-use Rattle.hs_live.specs.Live.{IsMate}
-use Rattle.hs_records.specs.Plain.{Operation, PlainSettings, PlainWorkload, settings_of}
-use Rattle.hs_law_sends.specs.Sending.{operations_at, place_of}
-use Rattle.hs_workload.specs.declared.operation.Op.{Op}
-use Rattle.hs_workload.specs.Views.{operations_of}
-use Rattle.hs_run_client.specs.ClientActors.{PlainClientActor}
-use Rattle.hs_run_client.specs.Standing.{ClientActorIsAt, Goes, IsFlushed}
+use Rattle.hs_run.proofs.Prelude.{slice_get, slice_get_within, get_there, Listing, Settings, client_of, Incoming, Outgoing, Key, IsMate, Operation, PlainSettings, PlainWorkload, settings_of, operations_at, place_of, Op, operations_of, PlainClientActor, ClientActorIsAt, NodeWork, IsFew, with_events, PlainNodeActors, NodeActorsStand, NodeActorsAct, AllMayGo, AllHaveGone, AreClients, HasActed}
+use Rattle.hs_run_client.specs.Standing.{Goes, IsFlushed}
 use Rattle.hs_run_agent.specs.AgentActors.{EachReceives}
-use Rattle.hs_run_agent.specs.Work.{NodeWork, IsFew, with_events}
-use Rattle.hs_run_story.specs.RunStates.{PlainNodeActors, NodeActorsStand}
-use Rattle.hs_run_story.specs.Acting.{NodeActorsAct}
-use Rattle.hs_run.specs.Going.{AllMayGo, AllHaveGone}
-use Rattle.hs_run.specs.Sites.{AreClients, HasPassed, HasActed}
+use Rattle.hs_run.specs.Sites.{HasPassed}
 
 pub may_go : (W : PlainWorkload) (node : ℕ) (work : NodeWork) (settings : Settings) (lists : List (Listing Op)) (site : PlainNodeActors) → NodeActorsStand W node work site → AreClients W node settings lists
     → AllMayGo (settings_of settings) lists site.callers

@@ -1,12 +1,9 @@
 -- How many rounds a workload takes.
 use Rattle.std.proofs.Common.{◌≡◌, ℕ, zero, suc, ◌+◌, ◌*◌, ◌-◌, ◌/◌, ◌<◌, ◌≤◌, max, Bool, true, false, nat_lt, ltb-true, ltb-false, List, [], ◌∷◌, length, map, fold, Some, None, refl, sym, ap, ◌∙◌, arith, slice_get, div-lt_iff_lt-mul}
-use Rattle.std.proofs.Math.Nat.{suc-mul}
+use Rattle.hs_run.proofs.Prelude.{suc-mul, Operation, PlainWorkload, IsValid, TheseAreAllRounds}
 use Rattle.hs_law_journal.specs.Ends.{rounds_for, rounds_of}
 use Rattle.hs_law_journal.proofs.Logs.{rounds_few}
-use Rattle.hs_records.specs.Plain.{Operation, PlainWorkload}
-use Rattle.hs_workload.specs.Validity.{IsValid}
 use Rattle.hs_workload.specs.declared.word.Setting.TheVariants as settings
-use Rattle.hs_run.specs.CountLaws.{TheseAreAllRounds}
 
 -- the most of a list, from a number on
 most_low : {X : Type 0} (f : X → ℕ) (xs : List X) (from r : ℕ) → from ≤ r → ((i : ℕ) (x : X) → slice_get xs i ≡ Some x → f x ≤ r) → fold max from (map f xs) ≤ r

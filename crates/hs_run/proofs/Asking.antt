@@ -1,16 +1,7 @@
 -- Asks go to the agents.
 use Rattle.std.proofs.Common.{◌≡◌, inl, inr, ℕ, ◌+◌, ◌≤◌, List, set, length, length-set, Some, refl, sym, ap, subst, ◌∙◌, arith, slice_get}
-use Rattle.std.proofs.lemmas.Option.{same_Some, slice_get_within}
-use Rattle.hs_lists.proofs.Numbers.{same_or_less}
-use Rattle.hs_lists.proofs.Places.{get_set_cases, get_there}
-use Rattle.hs_coord.specs.Messages.{Messages}
-use Rattle.hs_coord.specs.declared.asks.Asks.{Asks}
-use Rattle.hs_records.specs.Plain.{PlainWorkload}
-use Rattle.hs_run_agent.specs.Coordinators.{PlainCoordinatorActor, IsCoordinatorActor, asked_all}
-use Rattle.hs_run_agent.specs.ClosedAgents.{PlainClosedAgent}
-use Rattle.hs_run_agent.specs.Work.{NodeWork}
-use Rattle.hs_run_story.specs.RunStates.{moved_by, asked_by}
-use Rattle.hs_run.specs.Shutting.{AllSents, IsClosedAgentAt, ClosedAgentsStand, IsAskedOnly, AskedOnly, ClosingAskedFirst, Asked}
+use Rattle.hs_run.proofs.Prelude.{same_Some, slice_get_within, same_or_less, get_set_cases, get_there, Messages, Asks, PlainWorkload, PlainCoordinatorActor, IsCoordinatorActor, asked_all, PlainClosedAgent, NodeWork, moved_by, asked_by, AllSents, IsClosedAgentAt, ClosedAgentsStand, ClosingAskedFirst, Asked}
+use Rattle.hs_run.specs.Shutting.{IsAskedOnly, AskedOnly}
 
 only_none : (x : PlainClosedAgent) → IsAskedOnly x x
 only_none x = record { giver = refl; said = refl }

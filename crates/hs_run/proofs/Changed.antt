@@ -1,9 +1,6 @@
 -- Lists whose items change one after another.
 use Rattle.std.proofs.Common.{◌≡◌, ℕ, ◌+◌, ◌≤◌, List, set, length, length-set, Some, refl, sym, ap, subst, ◌∙◌, inl, inr, arith, slice_get}
-use Rattle.std.proofs.lemmas.Option.{same_Some, slice_get_within}
-use Rattle.hs_lists.proofs.Numbers.{same_or_less}
-use Rattle.hs_lists.proofs.Places.{get_set_cases, get_other}
-use Rattle.hs_run.specs.Changing.{EachChanged, FirstChanged}
+use Rattle.hs_run.proofs.Prelude.{same_Some, slice_get_within, same_or_less, get_set_cases, get_other, EachChanged, FirstChanged}
 
 module _ {A : Type 0} (Changes : ℕ → A → A → Type 0) where
   pub first_none : (xs : List A) → FirstChanged Changes 0 xs xs

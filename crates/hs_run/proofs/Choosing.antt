@@ -1,6 +1,6 @@
 -- One value for each item of a list, where one is known to be for each.
 use Rattle.std.proofs.Common.{◌≡◌, ℕ, zero, suc, ◌≤◌, List, [], ◌∷◌, length, Some, None, refl, subst, arith, slice_get}
-use Rattle.std.proofs.lemmas.Option.{same_Some}
+use Rattle.hs_run.proofs.Prelude.{same_Some}
 
 abbrev first_then : {B : Type 0} → B → (ℕ → B) → ℕ → B
 first_then b f zero = b

@@ -1,23 +1,14 @@
 -- The books of clients that have done all, in the order of node and number.
 use Rattle.std.proofs.Common.{◌≡◌, ℕ, suc, ◌+◌, ◌*◌, ◌/◌, ◌<◌, ◌≤◌, List, [], ◌∷◌, ◌++◌, length, map, Some, refl, sym, ap, ◌∙◌, subst, arith}
+use Rattle.hs_run.proofs.Prelude.{map-append, slice_get, range_with_len, ClientId, client_of, PlainClientBook, PlainJournal, client_book, PlainWorkload, operations_at, PlainClientActor, IsNoted, books_of, first_books}
 use Rattle.std.proofs.Math.Nat.{mul-add-mod_self_right, mod-eq_of_lt}
-use Rattle.std.proofs.lemmas.List.{map-append}
 use Rattle.std.proofs.lemmas.Nat.{div-mul-add}
-use Rattle.std.specs.Prelude.{slice_get}
-use Rattle.std.specs.List.{range_with_len}
 use Rattle.hs_lists.proofs.Ranges.{range_append}
-use Rattle.hs_base.specs.declared.ids.ClientId.{ClientId}
-use Rattle.hs_base.specs.Ids.{client_of}
 use Rattle.hs_client.specs.Calls.{note_of}
-use Rattle.hs_journal.specs.Books.{PlainClientBook}
-use Rattle.hs_journal.specs.Views.{PlainJournal}
-use Rattle.hs_law_outcome.specs.Outcomes.{client_at, client_book}
+use Rattle.hs_law_outcome.specs.Outcomes.{client_at}
 use Rattle.hs_records.specs.Pages.{pages_of}
-use Rattle.hs_records.specs.Plain.{PlainWorkload}
-use Rattle.hs_law_sends.specs.Sending.{operations_at, ops_of}
-use Rattle.hs_run_client.specs.ClientActors.{PlainClientActor}
+use Rattle.hs_law_sends.specs.Sending.{ops_of}
 use Rattle.hs_run_client.specs.Nodes.{AreNotes}
-use Rattle.hs_run.specs.Noted.{IsNoted, books_of, first_books}
 
 -- the client at the place of a node's client
 client_is : (each node number : ℕ) → number < each → client_of node number ≡ client_at each (node * each + number)

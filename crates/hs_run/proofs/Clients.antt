@@ -1,13 +1,7 @@
 -- The operations of a node's clients, as they lie in the workload.
 use Rattle.std.proofs.Common.{◌≡◌, ℕ, ◌+◌, ◌*◌, ◌<◌, List, [], length, map, take, drop, refl, ap, ◌∙◌, arith, slice_get, unwrap_or, length-take, length-drop}
-use Rattle.std.proofs.lemmas.List.{length-map}
-use Rattle.hs_base.specs.Listing.{Listing}
-use Rattle.hs_workload.specs.Validity.{IsValid}
-use Rattle.hs_workload.specs.Views.{operations_of, workload_of}
-use Rattle.hs_workload.specs.declared.operation.Op.{Op}
-use Rattle.hs_workload.specs.declared.operation.Workload.{Workload}
-use Rattle.hs_workload.proofs.Sizes.{last_low, operations_sliced}
-use Rattle.hs_run.specs.Sites.{AreClients}
+use Rattle.hs_run.proofs.Prelude.{length-map, Listing, IsValid, operations_of, workload_of, Op, Workload, last_low, AreClients}
+use Rattle.hs_workload.proofs.Sizes.{operations_sliced}
 
 pub clients_are : (w : Workload) → IsValid (workload_of w) → (n : ℕ) → n < w.settings.nodes → (given : List (Listing Op)) → given ≡ w.clients.items → (count : ℕ) → count ≡ w.settings.clients
     → AreClients (workload_of w) n w.settings (take count (drop (n * w.settings.clients) given))

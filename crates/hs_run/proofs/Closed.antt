@@ -1,28 +1,10 @@
 -- A pass of all behind the rounds leads on.
 use Rattle.std.proofs.Common.{◌≡◌, ℕ, suc, ◌<◌, ◌≤◌, List, [], ◌++◌, length, Option, Some, refl, sym, ap, subst, ◌∙◌, arith, filter, slice_get, append-nil}
-use Rattle.std.specs.List.{AllByRecursion}
-use Rattle.std.specs.Option.{option_map_or}
-use Rattle.std.proofs.lemmas.List.{length-append}
-use Rattle.std.proofs.lemmas.Option.{slice_get_within}
-use Rattle.hs_lists.proofs.Places.{get_there}
-use Rattle.hs_coord.specs.Messages.{Messages}
-use Rattle.hs_coord.specs.declared.asks.Asks.{Asks}
-use Rattle.hs_law_agent.specs.Stepping.{AgentEvent}
-use Rattle.hs_records.specs.Plain.{PlainWorkload}
-use Rattle.hs_workload.proofs.Sizes.{few_nodes}
-use Rattle.hs_law_journal.specs.Doings.{asks_in, crumbs_in, triggers_in, steps_of}
-use Rattle.hs_law_journal.specs.Shape.{log_stamps}
-use Rattle.hs_ring.specs.Parts.{Leased}
-use Rattle.hs_words.specs.Buffers.{Buffer}
-use Rattle.hs_run_client.specs.ClientActors.{PlainClientActor}
-use Rattle.hs_run_agent.specs.Coordinators.{PlainCoordinatorActor, Hears, heard_of, asks_for}
-use Rattle.hs_run_agent.specs.ClosedAgents.{PlainClosedAgent, closed_intakes, closed_working_agent}
-use Rattle.hs_run_agent.specs.Work.{NodeWork, is_of}
-use Rattle.hs_run_story.specs.RunStates.{PlainNodeActors, RunState, moved_by, asked_by}
-use Rattle.hs_run_story.specs.Spans.{NodeBetweenPasses, IsNodeBetweenPasses, IsStep}
+use Rattle.hs_run.proofs.Prelude.{AllByRecursion, option_map_or, length-append, slice_get_within, get_there, Messages, Asks, AgentEvent, PlainWorkload, few_nodes, asks_in, crumbs_in, triggers_in, steps_of, log_stamps, Leased, Buffer, PlainClientActor, PlainCoordinatorActor, Hears, heard_of, asks_for, PlainClosedAgent, NodeWork, is_of, PlainNodeActors, RunState, moved_by, asked_by, NodeBetweenPasses, AllSents, PassedAlone, ClosingStands, Passing, Asked, ClosingAt}
+use Rattle.hs_run_agent.specs.ClosedAgents.{closed_intakes, closed_working_agent}
+use Rattle.hs_run_story.specs.Spans.{IsNodeBetweenPasses, IsStep}
 use Rattle.hs_run_story.specs.Closing.{TakesAllOfClient, IsPassAlone}
 use Rattle.hs_run_story.specs.Laws.{ClosingGoesOn, AgentsAreBetweenPasses}
-use Rattle.hs_run.specs.Shutting.{AllSents, PassedAlone, ClosingStands, Passing, Asked, ClosingAt}
 
 -- what was heard, and nothing was asked yet
 pub asked_begins : (W : PlainWorkload) (sents : AllSents) (heard : Messages) (begun : ℕ → NodeWork) (old nodes : List PlainClosedAgent) (c c' : PlainCoordinatorActor) → ClosingStands W sents heard begun old c → (p : Passing W sents heard begun (length old) old nodes c')

@@ -1,27 +1,10 @@
 -- What the counts behind a round come to.
 use Rattle.std.proofs.Common.{◌≡◌, ℕ, zero, suc, ◌+◌, ◌/◌, ◌%◌, ◌<◌, ◌≤◌, not, List, length, map, take, Option, Some, unwrap_or, [], refl, sym, ap, subst, ◌∙◌, arith, slice_get, sum_by, count_by, div-lt_iff_lt-mul, div-add-mod'}
-use Rattle.std.proofs.Math.Nat.{mod-lt}
-use Rattle.std.specs.List.{range_with_len}
-use Rattle.hs_lists.proofs.Places.{get_there}
+use Rattle.hs_run.proofs.Prelude.{mod-lt, range_with_len, get_there, Progress, is_null, PlainJournal, Draw, Step, is_point, is_chunk, is_given, done_after, points_after, nulls_after, steps_after, progress_after, Operation, PlainWorkload, NotesRounds, RunState, RunStands, Came, has_buffer, operations_at, place_of, IsValid, ClientCount, LogCount, Counts, AreCounts, log_count, progress_of}
 use Rattle.hs_lists.proofs.Counts.{count_alike}
-use Rattle.hs_board.specs.declared.progress.Progress.{Progress}
-use Rattle.hs_client.specs.Core.{is_null}
-use Rattle.hs_journal.specs.Views.{PlainJournal}
-use Rattle.hs_journal.specs.declared.journal.Draw.{Draw}
 use Rattle.hs_journal.specs.declared.journal.Draw.TheVariants as draws
-use Rattle.hs_journal.specs.declared.journal.Step.{Step}
-use Rattle.hs_run.specs.Progress.{is_point, is_chunk, is_given, done_after, points_after, draws_after, nulls_after, steps_after, progress_after}
-use Rattle.hs_records.specs.Plain.{Operation, PlainWorkload}
-use Rattle.hs_run_story.specs.Noting.{NotesRounds}
-use Rattle.hs_run_story.specs.RunStates.{RunState, RunStands}
-use Rattle.hs_run_story.specs.Coming.{Came}
-use Rattle.hs_law_sends.specs.Drawn.{has_buffer}
-use Rattle.hs_law_sends.specs.Sending.{operations_at, place_of}
-use Rattle.hs_workload.specs.Validity.{IsValid}
+use Rattle.hs_run.specs.Progress.{draws_after}
 use Rattle.hs_workload.specs.declared.word.Setting.TheVariants as settings
-use Rattle.hs_run.specs.declared.client.ClientCount.{ClientCount}
-use Rattle.hs_run.specs.declared.log.LogCount.{LogCount}
-use Rattle.hs_run.specs.Counts.{Counts, AreCounts, log_count, progress_of}
 use Rattle.hs_run.specs.CountLaws.{CountsAreProgress}
 use Rattle.hs_run.proofs.Sums.{by_places, sum_mapped, sum_same}
 

@@ -1,35 +1,15 @@
 -- When nothing is left and the pools are closed, the run is over.
 use Rattle.std.proofs.Common.{◌≡◌, ℕ, zero, suc, ◌+◌, ◌<◌, true, false, List, [], ◌∷◌, ◌++◌, length, map, Some, None, refl, sym, ap, subst, ◌∙◌, arith, slice_get, append-nil}
-use Rattle.std.specs.List.{AllByRecursion}
-use Rattle.std.proofs.lemmas.List.{length-map}
-use Rattle.std.proofs.lemmas.Option.{slice_get_within}
+use Rattle.hs_run.proofs.Prelude.{AllByRecursion, length-map, slice_get_within, get_there, Told, Crumb, Trigger, Messages, Remaining, Key, after, PlainWorkload, Leased, Drawing, Giving, AreAllEnds, operations_at, place_of, Buffer, asks_in, crumbs_in, triggers_in, PlainClientActor, PlainCoordinatorActor, heard_of, closed, PlainClosedAgent, came_of, PlainNodeActors, RunState, RunStands, Came, PoolOf, AllBegin, PoolsAreKept, AllSents, ClosingAt}
 use Rattle.hs_lists.proofs.Alls.{all_at}
-use Rattle.hs_lists.proofs.Places.{get_there}
-use Rattle.hs_base.specs.declared.told.Told.{Told}
-use Rattle.hs_base.specs.declared.told.Crumb.{Crumb}
-use Rattle.hs_base.specs.declared.told.Trigger.{Trigger}
-use Rattle.hs_coord.specs.Messages.{Message, Messages}
-use Rattle.hs_link.specs.Contents.{Remaining}
-use Rattle.hs_live.specs.Keys.{Key}
-use Rattle.hs_law_agent.specs.Stepping.{after}
-use Rattle.hs_records.specs.Plain.{PlainWorkload}
-use Rattle.hs_ring.specs.Parts.{Leased, Drawing, Giving, AreInOrder, AreAllEnds, Closes, answers_of_all}
-use Rattle.hs_law_sends.specs.Sending.{operations_at, place_of}
-use Rattle.hs_words.specs.Buffers.{Buffer}
+use Rattle.hs_coord.specs.Messages.{Message}
+use Rattle.hs_ring.specs.Parts.{AreInOrder, Closes, answers_of_all}
 use Rattle.hs_words.specs.Ends.{IsTogether}
 use Rattle.hs_words.specs.declared.token.Tally.{Tally}
-use Rattle.hs_law_journal.specs.Doings.{asks_in, crumbs_in, triggers_in}
-use Rattle.hs_run_client.specs.ClientActors.{PlainClientActor}
-use Rattle.hs_run_agent.specs.Coordinators.{PlainCoordinatorActor, IsHearable, heard_of, all_empty}
-use Rattle.hs_run_agent.specs.Intakes.{closed}
-use Rattle.hs_run_agent.specs.ClosedAgents.{PlainClosedAgent}
-use Rattle.hs_run_agent.specs.Work.{came_of}
-use Rattle.hs_run_story.specs.RunStates.{PlainNodeActors, RunState, RunStands}
-use Rattle.hs_run_story.specs.Coming.{Came}
+use Rattle.hs_run_agent.specs.Coordinators.{IsHearable, all_empty}
 use Rattle.hs_run_story.specs.Closing as closing
 use Rattle.hs_run_story.specs.Closing.{drawn_at, IsClosedPool, IsOver}
-use Rattle.hs_run_story.specs.Laws.{PoolOf, AllBegin, PoolsAreKept}
-use Rattle.hs_run.specs.Shutting.{AllSents, ClosingAt, AllBare}
+use Rattle.hs_run.specs.Shutting.{AllBare}
 
 abbrev pub drawer_of : PlainClientActor → Drawing
 drawer_of caller = caller.client.drawer

@@ -1,18 +1,6 @@
 -- No agent takes more triggers than its clients sent, so no more than the workload has, behind a meeting too.
 use Rattle.std.proofs.Common.{ℕ, ◌+◌, ◌<◌, ◌≤◌, List, ◌++◌, length, ap, arith, length-append}
-use Rattle.hs_lists.proofs.Places.{get_there}
-use Rattle.hs_law_journal.specs.Doings.{triggers_in}
-use Rattle.hs_base.specs.declared.ids.ClientId.{ClientId}
-use Rattle.hs_base.specs.Ids.{client_of}
-use Rattle.hs_run_client.specs.ClientActors.{PlainClientActor}
-use Rattle.hs_run_client.specs.Standing.{ClientActorIsAt, HasSentSoFar}
-use Rattle.hs_records.specs.Plain.{Operation, PlainSettings, PlainWorkload}
-use Rattle.hs_law_sends.specs.Sending.{operations_at, place_of}
-use Rattle.hs_workload.specs.Validity.{IsValid, client_pieces}
-use Rattle.hs_run_agent.specs.Work.{NodeWork, IsFew}
-use Rattle.hs_run_agent.proofs.Few.{few_of_sent}
-use Rattle.hs_run_story.specs.RunStates.{PlainNodeActors, NodeActorsStand}
-use Rattle.hs_run_story.specs.Meeting.{NodeActorsMeet}
+use Rattle.hs_run.proofs.Prelude.{get_there, triggers_in, ClientId, client_of, PlainClientActor, ClientActorIsAt, HasSentSoFar, Operation, PlainSettings, PlainWorkload, operations_at, place_of, IsValid, client_pieces, NodeWork, IsFew, few_of_sent, PlainNodeActors, NodeActorsStand, NodeActorsMeet}
 
 module _ (W : PlainWorkload) (valid : IsValid W) (n : ℕ) (low : n < W.settings.nodes) (work : NodeWork) (old new : PlainNodeActors) (stands : NodeActorsStand W n work old) (meets : NodeActorsMeet W n work old new)
     (sent_so : (settings : PlainSettings) (client : ClientId) (ops : List Operation) (caller : PlainClientActor) → ClientActorIsAt settings client ops caller → HasSentSoFar settings client ops caller) where

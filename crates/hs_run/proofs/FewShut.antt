@@ -1,17 +1,7 @@
 -- No agent takes more triggers than its clients sent, so no more than the workload has, when the links are closed too.
 use Rattle.std.proofs.Common.{ℕ, ◌<◌, ◌≤◌, length, ap, arith, length-append}
-use Rattle.std.proofs.lemmas.List.{length-map}
-use Rattle.hs_lists.proofs.Places.{get_there}
-use Rattle.hs_law_journal.specs.Doings.{triggers_in}
-use Rattle.hs_base.specs.declared.told.Trigger.{Trigger}
-use Rattle.hs_link.specs.Contents.{Remaining}
-use Rattle.hs_live.specs.Keys.{Key}
-use Rattle.hs_records.specs.Plain.{PlainWorkload}
-use Rattle.hs_law_sends.specs.Sending.{operations_at, place_of}
-use Rattle.hs_workload.specs.Validity.{IsValid, client_pieces}
-use Rattle.hs_run_agent.specs.Intakes.{closed}
-use Rattle.hs_run_agent.proofs.Few.{few_of_sent}
-use Rattle.hs_run.specs.Shutting.{AllSents, ClosingAreFew}
+use Rattle.hs_run.proofs.Prelude.{length-map, get_there, triggers_in, Trigger, Remaining, Key, PlainWorkload, operations_at, place_of, IsValid, client_pieces, closed, few_of_sent, AllSents}
+use Rattle.hs_run.specs.Shutting.{ClosingAreFew}
 
 pub few_shut : (W : PlainWorkload) → IsValid W → (sents : AllSents) → ((node client : ℕ) → node < W.settings.nodes → client < W.settings.clients → length ((sents node).triggers client) ≤ client_pieces W.settings.size (operations_at W (place_of W.settings.clients node client)))
     → ClosingAreFew W sents

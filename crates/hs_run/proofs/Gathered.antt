@@ -1,30 +1,10 @@
 -- The end of a run, part by part.
 use Rattle.std.proofs.Common.{◌≡◌, ℕ, List, map, ap, sym, subst, ◌∙◌, slice_get}
-use Rattle.std.specs.Prelude.{Result, IfOk}
-use Rattle.hs_base.specs.Listing.{Listing}
+use Rattle.hs_run.proofs.Prelude.{Result, IfOk, Listing, NodeId, Messages, PlainAgentBook, PlainClientBook, client_book_of, agent_book_of, PlainWorkload, Books, Drawing, PlainCoordinatorActor, PlainClosedAgent, RunState, RunStands, Came, IsValid, workload_of, Workload, ClosingBegins, PoolsAreKept, RunsAreLawful, JournalsNoteRounds, ClosingAt, ClosedAt, sents_at, HaveClosedLinks, MayFinish, HaveFinished, AreBooksBehind, AreGathered, RoundsOver, done_node_actors, DoneNode}
 use Rattle.hs_base.specs.declared.ids.Memory.{Memory}
-use Rattle.hs_base.specs.declared.ids.NodeId.{NodeId}
-use Rattle.hs_coord.specs.Messages.{Messages}
 use Rattle.hs_journal.specs.declared.books.AgentBook.{AgentBook}
 use Rattle.hs_journal.specs.declared.books.ClientBook.{ClientBook}
-use Rattle.hs_journal.specs.Books.{PlainAgentBook, PlainClientBook, client_book_of, agent_book_of}
-use Rattle.hs_records.specs.Plain.{PlainWorkload}
-use Rattle.hs_report.specs.declared.outcome.Books.{Books}
-use Rattle.hs_ring.specs.Parts.{Drawing}
-use Rattle.hs_run_agent.specs.Coordinators.{PlainCoordinatorActor}
-use Rattle.hs_run_agent.specs.ClosedAgents.{PlainClosedAgent}
-use Rattle.hs_run_story.specs.RunStates.{RunState, RunStands}
-use Rattle.hs_run_story.specs.Coming.{Came}
-use Rattle.hs_workload.specs.Validity.{IsValid}
-use Rattle.hs_workload.specs.Views.{workload_of}
-use Rattle.hs_workload.specs.declared.operation.Workload.{Workload}
-use Rattle.hs_run_story.specs.Laws.{ClosingBegins, PoolsAreKept, RunsAreLawful}
-use Rattle.hs_run_story.specs.Noting.{JournalsNoteRounds}
-use Rattle.hs_run.specs.Shutting.{ClosingAt, ClosedAt, sents_at}
-use Rattle.hs_run.specs.Ended.{AreEnded, HaveClosedLinks, MayFinish, HaveFinished}
-use Rattle.hs_run.specs.Finished.{AreBooksBehind, AreGathered}
-use Rattle.hs_run.specs.Over.{RoundsOver, done_node_actors}
-use Rattle.hs_run.specs.declared.done_node.DoneNode.{DoneNode}
+use Rattle.hs_run.specs.Ended.{AreEnded}
 use Rattle.hs_run.proofs.Gathering.{shut_from, can_finish, ComesBehind, comes_to}
 use Rattle.hs_run.proofs.Starting.{HaveSent, stands_last, closing_starts}
 

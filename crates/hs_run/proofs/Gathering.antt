@@ -1,30 +1,12 @@
 -- The books of a run whose nodes were closed one by one.
 use Rattle.std.proofs.Common.{◌≡◌, ℕ, zero, suc, ◌+◌, ◌*◌, ◌<◌, List, [], ◌∷◌, ◌++◌, length, map, Some, None, refl, sym, ap, subst, ◌∙◌, arith, slice_get, append-nil, append_assoc}
-use Rattle.std.specs.List.{range_with_len}
-use Rattle.std.proofs.lemmas.Option.{slice_get_within}
-use Rattle.hs_lists.proofs.Places.{get_there}
-use Rattle.hs_base.specs.declared.ids.NodeId.{NodeId}
-use Rattle.hs_journal.specs.Books.{PlainAgentBook, PlainClientBook}
-use Rattle.hs_journal.specs.Views.{PlainJournal}
+use Rattle.hs_run.proofs.Prelude.{range_with_len, slice_get_within, get_there, NodeId, PlainAgentBook, PlainClientBook, PlainJournal, after, client_book, PlainWorkload, Drawing, AreAllEnds, operations_at, place_of, IsValid, PlainClientActor, PlainCoordinatorActor, PlainClosedAgent, PlainNodeActors, RunState, RunStands, Came, AllBegin, PoolsAreKept, RunsAreLawful, NotesRounds, JournalsNoteRounds, ClosedAt, AreClosedAgentsFrom, sents_at, HaveClosedLinks, CanFinish, MayFinish, HasFinished, HaveFinished, IsNoted, books_of, first_books}
 use Rattle.hs_law_journal.specs.Following.{followed}
 use Rattle.hs_law_journal.specs.Lawful.{IsLawful}
 use Rattle.hs_law_agent.specs.Books.{book_of}
-use Rattle.hs_law_agent.specs.Stepping.{after}
-use Rattle.hs_law_outcome.specs.Outcomes.{client_book, client_books, agent_books}
-use Rattle.hs_records.specs.Plain.{PlainWorkload}
-use Rattle.hs_ring.specs.Parts.{Drawing, AreAllEnds}
-use Rattle.hs_law_sends.specs.Sending.{operations_at, place_of}
-use Rattle.hs_workload.specs.Validity.{IsValid}
-use Rattle.hs_run_client.specs.ClientActors.{PlainClientActor}
-use Rattle.hs_run_agent.specs.Coordinators.{PlainCoordinatorActor}
-use Rattle.hs_run_agent.specs.ClosedAgents.{PlainClosedAgent}
-use Rattle.hs_run_story.specs.RunStates.{PlainNodeActors, RunState, RunStands}
-use Rattle.hs_run_story.specs.Coming.{Came}
-use Rattle.hs_run_story.specs.Laws.{AllBegin, PoolsAreKept, RunsAreLawful, IsRecounted}
-use Rattle.hs_run_story.specs.Noting.{NotesRounds, JournalsNoteRounds}
-use Rattle.hs_run.specs.Shutting.{ClosedAt, AreClosedAgentsFrom, IsClosedAgentFrom, sents_at}
-use Rattle.hs_run.specs.Ended.{HaveClosedLinks, CanFinish, MayFinish, HasFinished, HaveFinished}
-use Rattle.hs_run.specs.Noted.{IsNoted, books_of, first_books}
+use Rattle.hs_law_outcome.specs.Outcomes.{client_books, agent_books}
+use Rattle.hs_run_story.specs.Laws.{IsRecounted}
+use Rattle.hs_run.specs.Shutting.{IsClosedAgentFrom}
 use Rattle.hs_run.proofs.ClientBooks.{node_books, books_more}
 use Rattle.hs_run.proofs.Ending.{drawer_of, all_ends, all_over}
 

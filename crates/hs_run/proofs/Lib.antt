@@ -1,3 +1,4 @@
+mod Prelude
 pub mod Choosing
 pub mod Clients
 pub mod Acted

@@ -1,29 +1,16 @@
 -- The clients of a node meet its agent one after another: what one meeting more says of all.
 use Rattle.std.proofs.Common.{◌≡◌, ℕ, suc, ◌<◌, ◌≤◌, max, List, [], ◌∷◌, ◌++◌, length, map, take, reverse, Some, ◌⊎◌, inl, inr, refl, sym, ap, subst, ◌∙◌, arith, length-set}
+use Rattle.hs_run.proofs.Prelude.{map-append, same_Some, slice_get_within, slice_get, same_or_less, get_set_cases, get_set, get_other, client_of, Incoming, Outgoing, AreMates, Key, IsMate, PlainWorkload, Giving, operations_at, place_of, PlainClientActor, ClientActorIsAt, PlainAgentActor, NodeWork, PlainNodeActors, NodeActorsStand, NodeActorsMeet, MeetsOne, HaveMet}
 use Rattle.std.proofs.Math.Nat.{le-max_left, le-max_right}
-use Rattle.std.proofs.lemmas.List.{reverse-append, map-append}
-use Rattle.std.proofs.lemmas.Option.{same_Some, slice_get_within}
-use Rattle.std.specs.Prelude.{slice_get}
-use Rattle.hs_lists.proofs.Numbers.{same_or_less}
-use Rattle.hs_lists.proofs.Places.{get_set_cases, get_set, get_other, take_more, take_get, get_take}
+use Rattle.std.proofs.lemmas.List.{reverse-append}
+use Rattle.hs_lists.proofs.Places.{take_more, take_get, get_take}
 use Rattle.hs_lists.proofs.Parts.{take_whole}
-use Rattle.hs_base.specs.Ids.{client_of}
-use Rattle.hs_link.specs.Contents.{Incoming, Outgoing, Contains}
-use Rattle.hs_live.specs.Calls.{AreMates}
-use Rattle.hs_live.specs.Keys.{Key}
-use Rattle.hs_live.specs.Live.{hears, is_told, IsMate, MeetAt}
-use Rattle.hs_records.specs.Plain.{PlainWorkload}
-use Rattle.hs_ring.specs.Parts.{Giving, AllBelow}
-use Rattle.hs_law_sends.specs.Sending.{operations_at, place_of}
+use Rattle.hs_link.specs.Contents.{Contains}
+use Rattle.hs_live.specs.Live.{hears, is_told, MeetAt}
+use Rattle.hs_ring.specs.Parts.{AllBelow}
 use Rattle.hs_words.specs.Ends.{Answer, GiverTurn, answers_in}
-use Rattle.hs_run_client.specs.ClientActors.{PlainClientActor}
-use Rattle.hs_run_client.specs.Standing.{ClientActorIsAt}
-use Rattle.hs_run_agent.specs.AgentActors.{PlainAgentActor}
-use Rattle.hs_run_agent.specs.Work.{NodeWork}
-use Rattle.hs_run_story.specs.RunStates.{PlainNodeActors, NodeActorsStand}
-use Rattle.hs_run_story.specs.Meeting.{EndsMet, ClientActorMet, GiverMet, NodeActorsMeet, told_of}
+use Rattle.hs_run_story.specs.Meeting.{EndsMet, ClientActorMet, GiverMet, told_of}
 use Rattle.hs_run_story.proofs.Meetings.{answers_behind}
-use Rattle.hs_run.specs.Sites.{MeetsOne, HaveMet}
 
 -- ---- one link
 

@@ -1,27 +1,8 @@
 -- From what each node did to what all did between two moments.
 use Rattle.std.proofs.Common.{◌≡◌, inl, inr, ℕ, zero, suc, ◌<◌, List, [], ◌∷◌, ◌++◌, length, Some, None, refl, sym, ap, subst, ◌∙◌, arith, slice_get}
-use Rattle.std.proofs.lemmas.Bool.{cases_lt}
-use Rattle.std.proofs.lemmas.List.{length-map}
-use Rattle.std.proofs.lemmas.Option.{same_Some, slice_get_within}
-use Rattle.std.specs.Prelude.{Result, Ok, Err, OnOk}
-use Rattle.hs_lists.proofs.Places.{get_there}
-use Rattle.hs_base.specs.declared.told.Ask.{Ask}
-use Rattle.hs_base.specs.declared.told.Told.{Told}
-use Rattle.hs_coord.specs.Messages.{Messages}
-use Rattle.hs_records.specs.Plain.{PlainWorkload}
-use Rattle.hs_workload.specs.Views.{workload_of}
-use Rattle.hs_workload.specs.declared.operation.Workload.{Workload}
-use Rattle.hs_run_agent.specs.Coordinators.{PlainCoordinatorActor, IsCoordinatorActor, Hears}
-use Rattle.hs_run_agent.specs.Work.{NodeWork}
-use Rattle.hs_run_story.specs.RunStates.{PlainNodeActors, RunState, NodeActorsStand, RunStands, moved_by, asked_by}
-use Rattle.hs_run_story.specs.Acting.{NodeActorsAct}
-use Rattle.hs_run_story.specs.Meeting.{NodeActorsMeet}
+use Rattle.hs_run.proofs.Prelude.{cases_lt, length-map, same_Some, slice_get_within, Result, Ok, Err, OnOk, get_there, Ask, Told, Messages, PlainWorkload, workload_of, Workload, PlainCoordinatorActor, IsCoordinatorActor, Hears, NodeWork, PlainNodeActors, RunState, NodeActorsStand, RunStands, moved_by, asked_by, NodeActorsAct, NodeActorsMeet, ActingNode, EachChanged, IsHere, AreFew, ActedTo, MetTo, HasMet, AllHaveActed, NoneFailed, sites_of}
 use Rattle.hs_run.proofs.ToldBehind.{coordinates_same}
-use Rattle.hs_run.specs.declared.node.ActingNode.{ActingNode}
-use Rattle.hs_run.specs.Changing.{EachChanged}
-use Rattle.hs_run.specs.Moments.{IsHere, AreFew, ActedTo, MetTo}
-use Rattle.hs_run.specs.Movings.{HasMet}
-use Rattle.hs_run.specs.Nodes.{AllHaveActed, HasHeard, NoneFailed, sites_of}
+use Rattle.hs_run.specs.Nodes.{HasHeard}
 use Rattle.hs_run.proofs.Choosing.{Chosen, choose}
 
 abbrev site_in : ActingNode → PlainNodeActors

@@ -1,23 +1,9 @@
 -- What is moved behind a round, node by node and ask by ask.
 use Rattle.std.proofs.Common.{◌≡◌, inl, inr, ℕ, ◌+◌, ◌<◌, ◌≤◌, List, [], set, length, Some, refl, sym, ap, subst, ◌∙◌, arith, slice_get}
+use Rattle.hs_run.proofs.Prelude.{length-map, slice_get_within, same_or_less, get_set_cases, get_there, put, put_here, put_else, Asks, PlainWorkload, PlainCoordinatorActor, IsCoordinatorActor, asked_all, PlainAgentActor, NodeWork, PlainNodeActors, RunState, NodeActorsStand, RunStands, moved_by, asked_by, ActingNode, EachChanged, IsHere, MovedTo, Tells, HasTold, SitesStand, AskedFirst, Telling, Moving, sites_of}
 use Rattle.std.proofs.lemmas.Bool.{cases_eq}
-use Rattle.std.proofs.lemmas.List.{length-map}
-use Rattle.std.proofs.lemmas.Option.{slice_get_within}
-use Rattle.hs_lists.proofs.Numbers.{same_or_less}
-use Rattle.hs_lists.proofs.Places.{get_set_cases, get_there}
-use Rattle.hs_base.proofs.Updates.{put, put_here, put_else}
-use Rattle.hs_coord.specs.declared.asks.Asks.{Asks}
-use Rattle.hs_records.specs.Plain.{PlainWorkload}
-use Rattle.hs_run_agent.specs.Coordinators.{PlainCoordinatorActor, IsCoordinatorActor, asked_all}
-use Rattle.hs_run_agent.specs.AgentActors.{PlainAgentActor}
-use Rattle.hs_run_agent.specs.Work.{NodeWork}
-use Rattle.hs_run_story.specs.RunStates.{PlainNodeActors, RunState, NodeActorsStand, RunStands, moved_by, asked_by}
 use Rattle.hs_run_story.specs.Moving.{IsSameDoing, NodeActorsMove}
-use Rattle.hs_run.specs.declared.node.ActingNode.{ActingNode}
-use Rattle.hs_run.specs.Changing.{EachChanged}
-use Rattle.hs_run.specs.Moments.{IsHere, MovedTo}
-use Rattle.hs_run.specs.Movings.{Tells, HasTold, NodeActorsAreAsked, NodeAsked, NodeMoves, SitesStand, AskedFirst, Telling, Moving}
-use Rattle.hs_run.specs.Nodes.{sites_of}
+use Rattle.hs_run.specs.Movings.{NodeActorsAreAsked, NodeAsked, NodeMoves}
 use Rattle.hs_run.proofs.Changed.{first_none, first_more, first_all}
 use Rattle.hs_run.proofs.Moments.{node_count, node_stands, coordinates, node_there}
 use Rattle.hs_run.proofs.Telling.{told_coordinates, site_with}

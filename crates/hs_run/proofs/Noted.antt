@@ -1,9 +1,8 @@
 -- The first passes of a log.
 use Rattle.std.proofs.Common.{List, take, ap, ◌∙◌}
-use Rattle.std.specs.List.{flat_map}
+use Rattle.hs_run.proofs.Prelude.{flat_map, Step}
 use Rattle.hs_law_journal.proofs.Passes.{passes_are}
 use Rattle.hs_law_run.proofs.Joined.{steps_joined}
-use Rattle.hs_journal.specs.declared.journal.Step.{Step}
 use Rattle.hs_run.specs.FirstPasses.{FirstPassesAreNoted}
 
 pub first_noted : FirstPassesAreNoted

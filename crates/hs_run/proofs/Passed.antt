@@ -1,23 +1,9 @@
 -- A pass of one node, and of one node after another.
 use Rattle.std.proofs.Common.{◌≡◌, inl, inr, ℕ, ◌+◌, ◌<◌, List, [], ◌++◌, set, filter, length, length-set, Some, refl, sym, ap, subst, ◌∙◌, arith, slice_get}
-use Rattle.std.proofs.lemmas.List.{length-append}
-use Rattle.std.proofs.lemmas.Option.{same_Some}
-use Rattle.std.specs.Prelude.{Result, Ok, Err, OnOk}
-use Rattle.hs_lists.proofs.Numbers.{same_or_less}
-use Rattle.hs_lists.proofs.Places.{get_set_cases, get_other}
-use Rattle.hs_coord.specs.Messages.{Messages}
-use Rattle.hs_law_agent.specs.Stepping.{AgentEvent}
-use Rattle.hs_records.specs.Plain.{PlainWorkload}
-use Rattle.hs_ring.specs.Parts.{Leased}
-use Rattle.hs_words.specs.Buffers.{Buffer}
-use Rattle.hs_law_journal.specs.Doings.{asks_in, crumbs_in, triggers_in, steps_of}
-use Rattle.hs_base.proofs.Updates.{put, put_here, put_else}
-use Rattle.hs_law_journal.specs.Shape.{log_stamps}
+use Rattle.hs_run.proofs.Prelude.{length-append, same_Some, Result, Ok, Err, OnOk, same_or_less, get_set_cases, get_other, Messages, AgentEvent, PlainWorkload, Leased, Buffer, asks_in, crumbs_in, triggers_in, steps_of, put, put_here, put_else, log_stamps, PlainCoordinatorActor, PlainClosedAgent, AllSent, NodeWork, with_events, is_of, AllSents, IsClosedAgentAt, PassedAlone, ClosingTells, ClosingHasTold, ClosingStands, Passing}
 use Rattle.hs_run_agent.specs.Turns.{GiverGoesOn}
-use Rattle.hs_run_agent.specs.Coordinators.{PlainCoordinatorActor}
-use Rattle.hs_run_agent.specs.ClosedAgents.{PlainClosedAgent, AllSent, ClosedAgentPasses}
-use Rattle.hs_run_agent.specs.Work.{NodeWork, with_events, is_of}
-use Rattle.hs_run.specs.Shutting.{AllSents, IsClosedAgentAt, TakesItems, PassedAlone, ClosingTells, ClosingMayTell, ClosingHasTold, ClosingCanPass, ClosingHasPassed, ClosingStands, Passing}
+use Rattle.hs_run_agent.specs.ClosedAgents.{ClosedAgentPasses}
+use Rattle.hs_run.specs.Shutting.{TakesItems, ClosingMayTell, ClosingCanPass, ClosingHasPassed}
 
 -- what a pass of this node led to
 abbrev pub Passed : PlainWorkload → AllSent → NodeWork → PlainClosedAgent → PlainClosedAgent → Type 0

@@ -1,33 +1,20 @@
 -- What a round more says of all rounds.
 use Rattle.std.proofs.Common.{◌≡◌, ℕ, suc, ◌+◌, ◌*◌, ◌<◌, ◌≤◌, List, [], length, Some, true, false, sym, ap, subst, ◌∙◌, arith, slice_get}
-use Rattle.std.proofs.Math.Nat.{suc-mul, mul-le-mul_left}
-use Rattle.std.proofs.lemmas.Option.{slice_get_within}
-use Rattle.hs_lists.proofs.Places.{get_there}
-use Rattle.hs_base.specs.declared.ids.ClientId.{ClientId}
-use Rattle.hs_base.specs.declared.limits.TheConstants.{MAX_OPERATIONS}
-use Rattle.hs_records.specs.Plain.{Operation, PlainSettings, PlainWorkload}
-use Rattle.hs_law_sends.specs.Sending.{operations_at, place_of}
-use Rattle.hs_workload.specs.Validity.{IsValid}
+use Rattle.hs_run.proofs.Prelude.{suc-mul, slice_get_within, get_there, ClientId, MAX_OPERATIONS, Operation, PlainSettings, PlainWorkload, operations_at, place_of, IsValid, PlainClientActor, ClientActorIsAt, HasSentSoFar, PlainCoordinatorActor, NodeWork, IsFew, PlainNodeActors, RunState, RunStands, Came, NoRoundsCome, AllBegin, ActingNode, IsHere, AreFew, ActedTo, MetTo, MovedTo, CanBegin, DoneIn, RoundsMade, TellsLeft, few_clients}
+use Rattle.std.proofs.Math.Nat.{mul-le-mul_left}
 use Rattle.hs_workload.specs.declared.word.Setting.TheVariants as settings
 use Rattle.hs_workload.proofs.Sizes.{operations_few}
-use Rattle.hs_run_client.specs.ClientActors.{PlainClientActor}
-use Rattle.hs_run_client.specs.Standing.{ClientActorIsAt, HasSentSoFar}
 use Rattle.hs_run.specs.Over.{AllDone}
-use Rattle.hs_run_agent.specs.Coordinators.{PlainCoordinatorActor}
-use Rattle.hs_run_agent.specs.Work.{NodeWork, IsFew, triggered}
-use Rattle.hs_run_story.specs.RunStates.{PlainNodeActors, RunState, RunStands}
+use Rattle.hs_run_agent.specs.Work.{triggered}
 use Rattle.hs_run_story.specs.Acting.{Acts}
 use Rattle.hs_run_story.specs.Meeting.{AllMeet}
 use Rattle.hs_run_story.specs.Moving.{Moves}
-use Rattle.hs_run_story.specs.Coming.{Came, NoRoundsCome, RoundsGoOn}
-use Rattle.hs_run_story.specs.Laws.{AllBegin}
-use Rattle.hs_run.specs.declared.node.ActingNode.{ActingNode}
-use Rattle.hs_run.specs.Moments.{IsHere, AreFew, ActedTo, MetTo, MovedTo, CanBegin, DoneIn, RoundsMade, RoundsOver}
+use Rattle.hs_run_story.specs.Coming.{RoundsGoOn}
+use Rattle.hs_run.specs.Moments.{RoundsOver}
 use Rattle.hs_run.specs.Movings.{AllStand}
-use Rattle.hs_run.specs.Nodes.{AreWhole, TellsLeft}
+use Rattle.hs_run.specs.Nodes.{AreWhole}
 use Rattle.hs_run.proofs.Few.{few_met}
 use Rattle.hs_run.proofs.Moments.{node_stands, node_low, node_there, site_there}
-use Rattle.hs_run_agent.proofs.Few.{few_clients}
 use Rattle.hs_report.proofs.Fitting.{pieces_at_place}
 
 -- what clients have sent

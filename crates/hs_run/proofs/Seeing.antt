@@ -1,23 +1,10 @@
 -- What the watchers of a run see.
 use Rattle.std.proofs.Common.{◌≡◌, ℕ, zero, suc, ◌*◌, ◌≤◌, Bool, true, false, not, cond, nat_lt, ltb-true, List, [], ◌∷◌, ◌++◌, length, take, filter, Some, None, refl, sym, ap, subst, ◌∙◌, ⊎_elim, arith, sum_by, count_by}
-use Rattle.std.specs.List.{AllByRecursion, range_with_len}
-use Rattle.std.proofs.lemmas.List.Sums.{sum_by-cons}
+use Rattle.hs_run.proofs.Prelude.{AllByRecursion, range_with_len, sum_by-cons, Progress, first, IsLast, PlainJournal, Draw, is_point, is_chunk, is_given, done_after, points_after, nulls_after, steps_after, progress_after, Operation, PlainWorkload, NotesRounds, RunState, Came, has_buffer, operations_at, TimedPage, timed_pages, IsValid, IsTotalBehind, IsTotal, ShownIsSeen}
 use Rattle.hs_lists.proofs.Alls.{all_weaker}
-use Rattle.hs_board.specs.declared.progress.Progress.{Progress}
-use Rattle.hs_board.specs.Shown.{first, IsAmong, IsLast}
-use Rattle.hs_journal.specs.Views.{PlainJournal}
-use Rattle.hs_journal.specs.declared.journal.Draw.{Draw}
-use Rattle.hs_run.specs.Progress.{is_point, is_chunk, is_given, done_after, points_after, nulls_after, steps_after, progress_after}
-use Rattle.hs_records.specs.Plain.{Operation, PlainWorkload}
-use Rattle.hs_run_story.specs.Noting.{NotesRounds}
-use Rattle.hs_run_story.specs.RunStates.{RunState}
-use Rattle.hs_run_story.specs.Coming.{Came}
+use Rattle.hs_board.specs.Shown.{IsAmong}
 use Rattle.hs_law_sends.specs.Draws.{count_started}
-use Rattle.hs_law_sends.specs.Drawn.{has_buffer}
-use Rattle.hs_law_sends.specs.Sending.{operations_at, draws_at}
-use Rattle.hs_law_sends.specs.Timing.{TimedPage, timed_pages}
-use Rattle.hs_workload.specs.Validity.{IsValid}
-use Rattle.hs_run.specs.Seen.{IsTotalBehind, IsTotal, ShownIsSeen}
+use Rattle.hs_law_sends.specs.Sending.{draws_at}
 use Rattle.hs_run.proofs.Counted.{counts_come, progress_so}
 
 none_started : (pages : List TimedPage) → length (filter (λ (page : TimedPage). nat_lt page.started 0) pages) ≡ 0

@@ -1,25 +1,9 @@
 -- The clients of nodes are taken apart, and their links closed.
 use Rattle.std.proofs.Common.{◌≡◌, ℕ, zero, suc, ◌<◌, List, [], ◌∷◌, ◌++◌, length, map, get_or, Some, refl, sym, ap, ◌∙◌, subst, arith, append_assoc, slice_get}
-use Rattle.std.proofs.lemmas.List.{append-nil, length-map}
-use Rattle.std.specs.List.{AllByRecursion}
+use Rattle.hs_run.proofs.Prelude.{append-nil, length-map, AllByRecursion, get_unmap, Crumb, Trigger, client_of, PlainClientBook, Outgoing, Incoming, Key, IsMate, Drawing, Leased, Buffer, PlainClientActor, linked, PlainClosedAgent, AreMatesOf, PlainNodeActors, operations_at, place_of, HaveClosedLinks}
 use Rattle.hs_lists.proofs.Alls.{all_by_place}
-use Rattle.hs_lists.proofs.Places.{get_unmap}
-use Rattle.hs_base.specs.declared.told.Crumb.{Crumb}
-use Rattle.hs_base.specs.declared.told.Trigger.{Trigger}
-use Rattle.hs_base.specs.Ids.{client_of}
-use Rattle.hs_journal.specs.Books.{PlainClientBook}
-use Rattle.hs_link.specs.Contents.{Outgoing, Incoming}
-use Rattle.hs_live.specs.Keys.{Key}
-use Rattle.hs_live.specs.Live.{IsMate}
-use Rattle.hs_ring.specs.Parts.{Drawing, Leased}
-use Rattle.hs_words.specs.Buffers.{Buffer}
-use Rattle.hs_run_client.specs.ClientActors.{PlainClientActor}
 use Rattle.hs_run_client.specs.Standing.{IsDone}
-use Rattle.hs_run_agent.specs.Intakes.{linked}
-use Rattle.hs_run_agent.specs.ClosedAgents.{PlainClosedAgent, AreMatesOf}
-use Rattle.hs_run_story.specs.RunStates.{PlainNodeActors}
-use Rattle.hs_law_sends.specs.Sending.{operations_at, place_of}
-use Rattle.hs_run.specs.Ended.{IsEnded, HasClosedLinks, HaveClosedLinks}
+use Rattle.hs_run.specs.Ended.{IsEnded, HasClosedLinks}
 
 -- ---- lists
 

@@ -1,27 +1,9 @@
 -- Where the rounds end, closing begins.
 use Rattle.std.proofs.Common.{◌≡◌, ℕ, zero, suc, ◌<◌, ◌≤◌, List, [], ◌∷◌, ◌++◌, length, map, Option, Some, sym, ap, subst, ◌∙◌, arith, slice_get, option_map}
-use Rattle.std.specs.Option.{option_map_or}
-use Rattle.std.proofs.lemmas.Option.{slice_get-map, slice_get_within}
-use Rattle.hs_lists.proofs.Places.{get_there}
-use Rattle.hs_base.specs.declared.ids.ClientId.{ClientId}
-use Rattle.hs_base.specs.Ids.{client_of}
-use Rattle.hs_link.specs.Contents.{Outgoing, sent}
-use Rattle.hs_live.specs.Keys.{Key}
-use Rattle.hs_law_agent.specs.Stepping.{after}
-use Rattle.hs_records.specs.Plain.{Operation, PlainSettings, PlainWorkload}
-use Rattle.hs_ring.specs.Parts.{Giving}
-use Rattle.hs_law_sends.specs.Sending.{operations_at, place_of}
-use Rattle.hs_workload.specs.Validity.{client_pieces}
-use Rattle.hs_run_client.specs.ClientActors.{PlainClientActor}
-use Rattle.hs_run_client.specs.Standing.{ClientActorIsAt, HasSentSoFar}
-use Rattle.hs_run_agent.specs.ClosedAgents.{PlainClosedAgent, AllSent, IsClosedAgent, sent_at}
-use Rattle.hs_run_agent.specs.Work.{NodeWork}
-use Rattle.hs_run_story.specs.RunStates.{PlainNodeActors, RunState, RunStands}
-use Rattle.hs_run_story.specs.Coming.{Came}
-use Rattle.hs_run_story.specs.Spans.{NodeBetweenPasses}
+use Rattle.hs_run.proofs.Prelude.{option_map_or, slice_get-map, slice_get_within, get_there, ClientId, client_of, Outgoing, sent, Key, after, Operation, PlainSettings, PlainWorkload, Giving, operations_at, place_of, client_pieces, PlainClientActor, ClientActorIsAt, HasSentSoFar, PlainClosedAgent, AllSent, IsClosedAgent, NodeWork, PlainNodeActors, RunState, RunStands, Came, NodeBetweenPasses, ClosingBegins, ClosingAt, AreClosedAgentsFrom, sents_at}
+use Rattle.hs_run_agent.specs.ClosedAgents.{sent_at}
 use Rattle.hs_run_story.specs.Closing.{left_at}
-use Rattle.hs_run_story.specs.Laws.{ClosingBegins}
-use Rattle.hs_run.specs.Shutting.{AreSentsOf, ClosingAt, AreClosedAgentsFrom, sents_at}
+use Rattle.hs_run.specs.Shutting.{AreSentsOf}
 use Rattle.hs_run.proofs.FewShut.{few_shut}
 use Rattle.hs_run.specs.Ended.{sents_of}
 

@@ -1,9 +1,8 @@
 -- Lists by their places, and sums over them.
 use Rattle.std.proofs.Common.{◌≡◌, ℕ, zero, suc, ◌+◌, ◌<◌, Bool, true, false, List, [], ◌∷◌, length, map, take, get_or, Some, refl, sym, ap, ◌∙◌, arith, slice_get, sum_by, count_by}
-use Rattle.std.specs.List.{range_with_len}
-use Rattle.std.proofs.lemmas.List.{get_or-map, length-map}
-use Rattle.std.proofs.lemmas.List.Sums.{sum_by-cons, count_by_more_yes, count_by_more_no}
-use Rattle.std.proofs.lemmas.Option.{same_Some}
+use Rattle.hs_run.proofs.Prelude.{range_with_len, length-map, sum_by-cons, same_Some}
+use Rattle.std.proofs.lemmas.List.{get_or-map}
+use Rattle.std.proofs.lemmas.List.Sums.{count_by_more_yes, count_by_more_no}
 
 pub by_places : {X : Type 0} (f : ℕ → X) (start count : ℕ) (xs : List X) → length xs ≡ count → ((i : ℕ) → i < count → slice_get xs i ≡ Some (f (start + i))) → xs ≡ map f (range_with_len start count)
 by_places f start zero [] long each = refl

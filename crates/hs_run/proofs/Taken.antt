@@ -1,17 +1,7 @@
 -- What all nodes leave, one after another.
 use Rattle.std.proofs.Common.{◌≡◌, ℕ, zero, suc, ◌<◌, List, [], ◌∷◌, ◌++◌, length, map, zip, get_or, Some, None, sym, ap, subst, ◌∙◌, arith, slice_get}
-use Rattle.std.proofs.lemmas.List.{length-map}
-use Rattle.std.proofs.lemmas.Option.{same_Some}
-use Rattle.hs_lists.proofs.Places.{get_unmap, get_map}
-use Rattle.hs_base.specs.Listing.{Listing}
-use Rattle.hs_journal.specs.Books.{PlainAgentBook}
-use Rattle.hs_link.specs.Contents.{Incoming, Outgoing}
-use Rattle.hs_live.specs.Keys.{Key}
-use Rattle.hs_live.specs.Live.{IsMate}
-use Rattle.hs_ring.specs.Parts.{Drawing}
-use Rattle.hs_run_client.specs.ClientActors.{PlainClientActor}
-use Rattle.hs_run_agent.specs.ClosedAgents.{PlainClosedAgent, AreMatesOf}
-use Rattle.hs_run.specs.Ended.{CanFinish, MayFinish, HasFinished, HaveFinished, items_of}
+use Rattle.hs_run.proofs.Prelude.{length-map, same_Some, get_unmap, Listing, PlainAgentBook, Incoming, Outgoing, Key, IsMate, Drawing, PlainClientActor, PlainClosedAgent, AreMatesOf, CanFinish, MayFinish, HasFinished, HaveFinished, items_of}
+use Rattle.hs_lists.proofs.Places.{get_map}
 
 -- the senders of all clients, with their receivers
 pub mates_of : {T : Type 0} (f : PlainClientActor → Outgoing T Key) (callers : List PlainClientActor) (senders : List (Outgoing T Key)) (receivers : List (Incoming T Key)) → senders ≡ map f callers → length callers ≡ length receivers

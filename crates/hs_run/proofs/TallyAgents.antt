@@ -1,28 +1,20 @@
 -- What an agent noted: a step for each of its events, and no more gives than chunks.
 use Rattle.std.proofs.Common.{◌≡◌, ℕ, ◌+◌, ◌<◌, ◌≤◌, Bool, true, false, cond, eq-eqb, List, [], ◌∷◌, ◌++◌, length, refl, ap, ◌∙◌, inl, inr, arith, slice_get, count_by, length-append}
-use Rattle.std.proofs.lemmas.Bool.{cases_lt}
-use Rattle.std.proofs.lemmas.List.{length-map}
-use Rattle.std.proofs.lemmas.List.Sums.{sum_by-cons}
-use Rattle.std.specs.List.{AllByRecursion, flat_map}
+use Rattle.hs_run.proofs.Prelude.{cases_lt, length-map, sum_by-cons, AllByRecursion, flat_map, steps_of, Step, EventsAddThis, ListsHaveTheirChunks, brought_by, noted_as, AgentEvent, after, is_chunk, is_given, PlainSettings}
 use Rattle.std.specs.Prelude.{IsSome}
 use Rattle.hs_lists.proofs.Counts.{one_if, one_few}
-use Rattle.hs_law_journal.specs.Doings.{steps_of}
 use Rattle.hs_law_journal.specs.LoopPasses.{HandsReady}
-use Rattle.hs_journal.specs.declared.journal.Step.{Step}
 use Rattle.hs_law_agent.proofs.Counts.{passes_past}
-use Rattle.hs_law_agent.specs.Laws.{EventsAddThis, ListsHaveTheirChunks, ListsEach, brought_by, count_of, given_places, noted_as}
+use Rattle.hs_law_agent.specs.Laws.{ListsEach, count_of, given_places}
 use Rattle.hs_law_agent.specs.Standings.{Taken, is_let_go, stands}
 use Rattle.hs_law_agent.specs.State.{AgentState, GivenPlace, start}
-use Rattle.hs_law_agent.specs.Stepping.{Input, Chunk, Crumbed, Triggered, Asked, Turn, Given, Missed, Unread, AgentEvent, Took, Gave, after, after_event, after_from, give_back, step_of}
-use Rattle.hs_run.specs.Progress.{is_chunk, is_given}
-use Rattle.hs_records.specs.Plain.{PlainSettings}
+use Rattle.hs_law_agent.specs.Stepping.{Input, Chunk, Crumbed, Triggered, Asked, Turn, Given, Missed, Unread, Took, Gave, after_event, after_from, give_back, step_of}
 use Rattle.hs_run_story.proofs.Chunks.{sheets_taken}
 use Rattle.hs_run.proofs.TallyLists.{few_for_each}
 
 -- ---- steps
 
 one_chunk : (event : AgentEvent) → one_if (is_chunk (noted_as event)) ≡ length (brought_by event)
-unfolding one_if
 one_chunk (Took (Chunk client sheet)) = refl
 one_chunk (Took (Crumbed client crumb)) = refl
 one_chunk (Took (Triggered client trigger)) = refl
@@ -34,7 +26,6 @@ one_chunk (Gave Unread) = refl
 
 -- as many chunks are noted as came
 pub chunks_noted : (events : List AgentEvent) → count_by is_chunk (steps_of events) ≡ length (flat_map brought_by events)
-unfolding one_if
 chunks_noted [] = refl
 chunks_noted (event ∷ events) =
     let both = sum_by-cons (λ (step : Step). cond (is_chunk step) 1 0) (noted_as event) (steps_of events) in
@@ -50,7 +41,6 @@ gives_one stamp [] state some = let no : false ≡ true = some in absurd cc
 gives_one stamp (place ∷ hand) state some = length-append state.given (record { place = place; stamp = stamp } ∷ [])
 
 no_give : (input : Input) → one_if (is_given (step_of input)) ≡ 0
-unfolding one_if
 no_give (Chunk client sheet) = refl
 no_give (Crumbed client crumb) = refl
 no_give (Triggered client trigger) = refl
@@ -60,7 +50,6 @@ no_give Turn = refl
 -- each give that is noted gave a buffer of the hand
 gives_noted : EventsAddThis → (settings : PlainSettings) (node : ℕ) (state : AgentState) (events : List AgentEvent) → HandsReady settings node state events
     → length state.given + count_by is_given (steps_of events) ≤ length (after_from settings node state events).given
-unfolding one_if
 gives_noted adds settings node state [] ready = omega arith
 gives_noted adds settings node state (Took input ∷ events) ready =
     let both = sum_by-cons (λ (step : Step). cond (is_given step) 1 0) (noted_as (Took input)) (steps_of events) in

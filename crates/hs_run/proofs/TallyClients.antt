@@ -1,28 +1,13 @@
 -- What a client has done, drawn and sent is no more than its operations have pieces.
 use Rattle.std.proofs.Common.{◌≡◌, ℕ, ◌+◌, ◌≤◌, List, [], ◌∷◌, ◌++◌, length, map, take, drop, filter, ap, ◌∙◌, arith, Some, refl, count_by, length-append, length-take, nat_lt}
-use Rattle.std.proofs.lemmas.List.{length-map}
+use Rattle.hs_run.proofs.Prelude.{length-map, ClientId, MAX_OPERATIONS, PlainClientActor, ClientActorIsAt, HasSentSoFar, is_null, ClientCount, client_count, Draw, sent, is_point, Operation, PlainSettings, Leased, has_buffer, TimedPage, timed_pages, Buffer, Sheet, client_pieces, no_operations}
 use Rattle.std.proofs.lemmas.List.Sums.{count_by-le-length}
 use Rattle.hs_lists.proofs.Filters.{filter_few}
-use Rattle.hs_base.specs.declared.ids.ClientId.{ClientId}
-use Rattle.hs_base.specs.declared.limits.TheConstants.{MAX_OPERATIONS}
-use Rattle.hs_run_client.specs.ClientActors.{PlainClientActor}
-use Rattle.hs_run_client.specs.Standing.{ClientActorIsAt, HasSentSoFar, sheets_in}
+use Rattle.hs_run_client.specs.Standing.{sheets_in}
 use Rattle.hs_client.specs.Calls.{after}
-use Rattle.hs_client.specs.Core.{Core, Step, Began, Wrote, Needed, Supplied, Ended_, Refused, draw_of, is_null, new_core}
-use Rattle.hs_run.specs.declared.client.ClientCount.{ClientCount}
-use Rattle.hs_run.specs.Counts.{client_count}
-use Rattle.hs_journal.specs.declared.journal.Draw.{Draw}
-use Rattle.hs_link.specs.Contents.{sent}
-use Rattle.hs_run.specs.Progress.{is_point}
-use Rattle.hs_records.specs.Plain.{Operation, PlainSettings}
-use Rattle.hs_ring.specs.Parts.{Leased}
-use Rattle.hs_law_sends.specs.Drawn.{DrawnPage, drawn_from, drawn_pages, has_buffer}
+use Rattle.hs_client.specs.Core.{Core, Step, Began, Wrote, Needed, Supplied, Ended_, Refused, draw_of, new_core}
+use Rattle.hs_law_sends.specs.Drawn.{DrawnPage, drawn_from, drawn_pages}
 use Rattle.hs_law_sends.specs.Sending.{Sent, sends_of, sent_within, sheet_of}
-use Rattle.hs_law_sends.specs.Timing.{TimedPage, timed_pages}
-use Rattle.hs_words.specs.Buffers.{Buffer}
-use Rattle.hs_words.specs.Pages.{Sheet}
-use Rattle.hs_workload.specs.Validity.{client_pieces}
-use Rattle.hs_run.specs.TallyingNodes.{no_operations}
 
 -- what clients have sent
 abbrev pub SendSo : Type 0

@@ -1,21 +1,8 @@
 -- How counts go on, client by client and node by node.
 use Rattle.std.proofs.Common.{◌≡◌, ℕ, suc, ◌+◌, ◌*◌, ◌≤◌, List, [], length, set, length-set, map, Some, Option, inl, inr, refl, sym, ap, subst, ◌∙◌, arith, slice_get, unwrap_or}
-use Rattle.std.proofs.Math.Nat.{suc-mul, mul-le-mul_right}
-use Rattle.std.proofs.lemmas.Option.{same_Some, slice_get-map, slice_get_within}
+use Rattle.hs_run.proofs.Prelude.{suc-mul, mul-le-mul_right, same_Some, slice_get-map, slice_get_within, same_or_less, get_set, get_other, Listing, PlainClientActor, ClientCount, client_count, Operation, PlainWorkload, operations_at, place_of, Op, Workload, operation_of, operations_of, workload_of, ActingNode, MayCountNodes, CountedFirst, CountedNodes}
 use Rattle.std.specs.Option.{option_map}
-use Rattle.hs_lists.proofs.Numbers.{same_or_less}
-use Rattle.hs_lists.proofs.Places.{get_set, get_other}
-use Rattle.hs_base.specs.Listing.{Listing}
-use Rattle.hs_run_client.specs.ClientActors.{PlainClientActor}
-use Rattle.hs_run.specs.declared.client.ClientCount.{ClientCount}
-use Rattle.hs_run.specs.Counts.{client_count}
-use Rattle.hs_records.specs.Plain.{Operation, PlainWorkload}
-use Rattle.hs_law_sends.specs.Sending.{operations_at, place_of}
-use Rattle.hs_workload.specs.declared.operation.Op.{Op}
-use Rattle.hs_workload.specs.declared.operation.Workload.{Workload}
-use Rattle.hs_workload.specs.Views.{operation_of, operations_of, workload_of}
-use Rattle.hs_run.specs.declared.node.ActingNode.{ActingNode}
-use Rattle.hs_run.specs.TallyingNodes.{MayCountNode, MayCountNodes, CountedFirst, CountedNodes}
+use Rattle.hs_run.specs.TallyingNodes.{MayCountNode}
 
 -- the operations at a place, as they lie in the workload
 pub operations_here : (w : Workload) (place : ℕ) (ops : Listing Op) → slice_get w.clients.items place ≡ Some ops → operations_at (workload_of w) place ≡ map operation_of ops.items

@@ -1,10 +1,7 @@
 -- Lists whose items have numbers, sums of few small items, and lists of one item.
 use Rattle.std.proofs.Common.{◌≡◌, ℕ, zero, suc, ◌+◌, ◌*◌, ◌<◌, ◌≤◌, Bool, true, false, cond, List, [], ◌∷◌, length, filter, get_or, replicate, Some, inl, inr, refl, ap, subst, arith, slice_get, sum_by}
-use Rattle.std.proofs.Math.Nat.{suc-mul, mul-le-mul_right}
+use Rattle.hs_run.proofs.Prelude.{suc-mul, mul-le-mul_right, slice_get-get_or, AllByRecursion, same_or_less}
 use Rattle.std.proofs.lemmas.List.Sums.{sum_by-le}
-use Rattle.std.proofs.lemmas.Option.{slice_get-get_or}
-use Rattle.std.specs.List.{AllByRecursion}
-use Rattle.hs_lists.proofs.Numbers.{same_or_less}
 
 -- ---- items with numbers
 

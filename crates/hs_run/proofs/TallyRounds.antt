@@ -1,48 +1,17 @@
 -- How the counts go on behind a round: what was counted behind the round before is a part of what there is to count now, and no sum is large.
 use Rattle.std.proofs.Common.{◌≡◌, ℕ, suc, ◌*◌, ◌/◌, ◌%◌, ◌<◌, ◌≤◌, true, List, ◌++◌, length, map, take, replicate, Some, sym, ap, ◌∙◌, arith, slice_get, count_by, eq-eqb, length-append, div-lt_iff_lt-mul, div-add-mod'}
-use Rattle.std.proofs.Math.Nat.{mod-lt, suc-mul, mul-le-mul_right}
+use Rattle.hs_run.proofs.Prelude.{mod-lt, suc-mul, mul-le-mul_right, length-map, map-append, same_Some, flat_map, all_each, get_there, steps_of, ClientId, MAX_OPERATIONS, client_of, PlainClientActor, ClientCount, LogCount, AreCounts, client_count, log_count, few_clients, PlainCoordinatorActor, PlainAgentActor, IsAgentActor, NodeWork, came_of, is_of, Step, EventsAddThis, ListsHaveTheirChunks, brought_by, noted_as, is_point, is_chunk, is_given, PlainWorkload, Leased, NodeActorsMeet, PlainNodeActors, RunState, NodeActorsStand, RunStands, IsBegun, operations_at, place_of, Buffer, Sheet, IsValid, product_few, few_nodes, last_low, ActingNode, EachChanged, RoundsMade, sites_of, FitTotals, no_operations, no_steps, MayCountClient, MayCountNodes, CountedNodes, MayCountLog, LogCounted}
 use Rattle.std.proofs.Math.Seq.{take-append_seam}
-use Rattle.std.proofs.lemmas.List.{length-map, length-replicate, map-append}
-use Rattle.std.proofs.lemmas.Option.{same_Some, slice_get_within as within}
-use Rattle.std.specs.List.{flat_map}
-use Rattle.hs_lists.proofs.Alls.{all_each}
-use Rattle.hs_lists.proofs.Places.{get_there}
-use Rattle.hs_law_journal.specs.Doings.{steps_of}
+use Rattle.std.proofs.lemmas.List.{length-replicate}
+use Rattle.std.proofs.lemmas.Option.{slice_get_within as within}
 use Rattle.hs_law_run.proofs.Nodes.{own_log}
-use Rattle.hs_base.specs.declared.ids.ClientId.{ClientId}
-use Rattle.hs_base.specs.declared.limits.TheConstants.{MAX_OPERATIONS, MAX_NODES, MAX_CLIENTS}
-use Rattle.hs_base.specs.Ids.{client_of}
-use Rattle.hs_run_client.specs.ClientActors.{PlainClientActor}
-use Rattle.hs_run.specs.declared.client.ClientCount.{ClientCount}
-use Rattle.hs_run.specs.declared.log.LogCount.{LogCount}
-use Rattle.hs_run.specs.Counts.{AreCounts, client_count, log_count}
-use Rattle.hs_run_agent.proofs.Few.{few_clients}
+use Rattle.hs_base.specs.declared.limits.TheConstants.{MAX_NODES, MAX_CLIENTS}
 use Rattle.hs_run_agent.specs.Agents.{IsPageThere}
-use Rattle.hs_run_agent.specs.Coordinators.{PlainCoordinatorActor}
-use Rattle.hs_run_agent.specs.AgentActors.{PlainAgentActor, IsAgentActor}
-use Rattle.hs_run_agent.specs.Work.{NodeWork, came_of, is_of}
 use Rattle.hs_run_agent.proofs.Taking.{sheet_is}
-use Rattle.hs_journal.specs.declared.journal.Step.{Step}
-use Rattle.hs_law_agent.specs.Laws.{EventsAddThis, ListsHaveTheirChunks, brought_by, noted_as}
-use Rattle.hs_run.specs.Progress.{is_point, is_chunk, is_given}
-use Rattle.hs_records.specs.Plain.{PlainWorkload}
 use Rattle.hs_run_story.proofs.Meetings.{caller_at, done_at, here_at}
 use Rattle.hs_run_story.proofs.Moments.{doing_same, round_steps, site_acts, site_meets, site_of, site_there, stands_at}
-use Rattle.hs_ring.specs.Parts.{Leased}
-use Rattle.hs_run_story.specs.Meeting.{NodeActorsMeet}
-use Rattle.hs_run_story.specs.RunStates.{PlainNodeActors, RunState, NodeActorsStand, RunStands, IsBegun}
-use Rattle.hs_law_sends.specs.Sending.{operations_at, place_of}
-use Rattle.hs_words.specs.Buffers.{Buffer}
-use Rattle.hs_words.specs.Pages.{Sheet}
-use Rattle.hs_workload.specs.Validity.{IsValid}
 use Rattle.hs_workload.specs.declared.word.Setting.TheVariants as settings
-use Rattle.hs_workload.proofs.Sizes.{product_few, few_nodes, last_low}
-use Rattle.hs_run.specs.declared.node.ActingNode.{ActingNode}
-use Rattle.hs_run.specs.Changing.{EachChanged}
-use Rattle.hs_run.specs.Moments.{RoundsMade}
-use Rattle.hs_run.specs.Nodes.{sites_of}
-use Rattle.hs_run.specs.Tallying.{FitTotals}
-use Rattle.hs_run.specs.TallyingNodes.{no_operations, no_steps, MayCountClient, MayCountNodes, CountedNodes, MayCountLog, MayCountLogs, LogCounted}
+use Rattle.hs_run.specs.TallyingNodes.{MayCountLogs}
 use Rattle.hs_run.proofs.Moments.{node_count, node_low, node_stands, node_there, site_there as there_among}
 use Rattle.hs_run.proofs.Rounded.{few_operations}
 use Rattle.hs_run.proofs.TallyAgents.{chunks_noted, few_gives}

@@ -1,19 +1,7 @@
 -- Messages go from an agent to the coordinator, and asks to the agents.
 use Rattle.std.proofs.Common.{◌≡◌, ℕ, List, [], ◌∷◌, ◌++◌, refl, sym, ap, subst, ◌∙◌, slice_get, length}
-use Rattle.std.specs.Prelude.{Result, Ok, Err, OnOk}
-use Rattle.hs_lists.proofs.Updates.{same_everywhere}
-use Rattle.hs_base.specs.declared.told.Told.{Told}
-use Rattle.hs_base.proofs.Updates.{put, put_here, put_else}
-use Rattle.hs_coord.specs.Messages.{Messages}
-use Rattle.hs_live.specs.Calls.{AreMates}
-use Rattle.hs_records.specs.Plain.{PlainWorkload}
-use Rattle.hs_run_client.specs.ClientActors.{PlainClientActor}
-use Rattle.hs_run_agent.specs.Coordinators.{PlainCoordinatorActor, IsCoordinatorActor}
-use Rattle.hs_run_agent.specs.AgentActors.{PlainAgentActor, IsAgentActor}
-use Rattle.hs_run_agent.specs.Work.{NodeWork, with_moved}
-use Rattle.hs_run_story.specs.RunStates.{PlainNodeActors, NodeActorsStand, moved_by, asked_by}
+use Rattle.hs_run.proofs.Prelude.{Result, Ok, Err, OnOk, same_everywhere, Told, put, put_here, put_else, Messages, AreMates, PlainWorkload, PlainClientActor, PlainCoordinatorActor, IsCoordinatorActor, PlainAgentActor, IsAgentActor, NodeWork, with_moved, PlainNodeActors, NodeActorsStand, moved_by, asked_by, Tells, HasTold}
 use Rattle.hs_run.proofs.ToldBehind.{coordinates_same}
-use Rattle.hs_run.specs.Movings.{Tells, HasTold}
 
 pub on_ok_two : {T E : Type 0} (r : Result T E) (P Q R : Type 0) → OnOk r P → OnOk r Q → (P → Q → R) → OnOk r R
 on_ok_two (Ok x) P Q R p q f = f p q

@@ -1,19 +1,8 @@
 -- Messages go from an agent to the coordinator.
 use Rattle.std.proofs.Common.{◌≡◌, ℕ, List, [], ◌∷◌, ◌++◌, refl, sym, ap, subst, ◌∙◌, arith}
-use Rattle.std.specs.List.{AllByRecursion}
-use Rattle.std.proofs.lemmas.List.{length-append}
-use Rattle.hs_lists.proofs.Updates.{same_everywhere}
-use Rattle.hs_base.specs.declared.told.Ask.{Ask}
-use Rattle.hs_base.specs.declared.told.Told.{Told}
-use Rattle.hs_base.proofs.Updates.{put, put_here, put_else}
-use Rattle.hs_coord.specs.Messages.{Messages}
-use Rattle.hs_records.specs.Plain.{PlainWorkload}
+use Rattle.hs_run.proofs.Prelude.{AllByRecursion, length-append, same_everywhere, Ask, Told, put, put_here, put_else, Messages, PlainWorkload, PlainCoordinatorActor, IsCoordinatorActor, asks_for, PlainClosedAgent, IsClosedAgent, NodeWork, with_moved, moved_by, asked_by, AllSents, ClosingTells, ClosingHasTold}
 use Rattle.hs_run_agent.specs.Agents.{IsTellable}
-use Rattle.hs_run_agent.specs.Coordinators.{PlainCoordinatorActor, IsCoordinatorActor, IsMoved, asks_for}
-use Rattle.hs_run_agent.specs.ClosedAgents.{PlainClosedAgent, IsClosedAgent}
-use Rattle.hs_run_agent.specs.Work.{NodeWork, with_moved}
-use Rattle.hs_run_story.specs.RunStates.{moved_by, asked_by}
-use Rattle.hs_run.specs.Shutting.{AllSents, ClosingTells, ClosingHasTold}
+use Rattle.hs_run_agent.specs.Coordinators.{IsMoved}
 
 -- the coordinator stands by what was moved and asked, node by node
 pub coordinates_same : (W : PlainWorkload) (heard : Messages) (moved moved' : ℕ → List Told) (asked asked' : ℕ → List Ask) (c : PlainCoordinatorActor) → ((n : ℕ) → moved' n ≡ moved n) → ((n : ℕ) → asked' n ≡ asked n)

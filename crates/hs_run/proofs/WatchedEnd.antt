@@ -1,24 +1,11 @@
 -- What the watchers of a run saw, when it is over.
 use Rattle.std.proofs.Common.{◌≡◌, List, [], ◌∷◌, length, map, sym, ◌∙◌}
-use Rattle.std.proofs.lemmas.List.{length-map}
-use Rattle.std.specs.List.{AllByRecursion}
-use Rattle.hs_lists.proofs.Alls.{all_each}
-use Rattle.hs_base.specs.Listing.{Listing}
-use Rattle.hs_board.specs.declared.progress.Progress.{Progress}
-use Rattle.hs_run.specs.declared.done_node.DoneNode.{DoneNode}
-use Rattle.hs_run.specs.Ended.{items_of}
-use Rattle.hs_run.specs.Over.{RoundsOver as PlacesOver, done_node_actors}
-use Rattle.hs_run.specs.Seen.{IsSeen, AreSeen, ShownIsSeen}
-use Rattle.hs_run_agent.specs.Coordinators.{PlainCoordinatorActor}
-use Rattle.hs_journal.specs.Views.{PlainJournal}
-use Rattle.hs_records.specs.Plain.{PlainWorkload}
-use Rattle.hs_run_story.specs.Noting.{NotesRounds}
-use Rattle.hs_board.specs.Watching.{Showing, IsSeenOf}
-use Rattle.hs_workload.specs.Validity.{IsValid}
-use Rattle.hs_run.specs.declared.node.ActingNode.{ActingNode}
+use Rattle.hs_run.proofs.Prelude.{length-map, AllByRecursion, all_each, Listing, Progress, DoneNode, items_of, done_node_actors, ShownIsSeen, PlainCoordinatorActor, PlainJournal, PlainWorkload, NotesRounds, Showing, IsValid, ActingNode, sites_of, AllWatched}
+use Rattle.hs_run.specs.Over.{RoundsOver as PlacesOver}
+use Rattle.hs_run.specs.Seen.{IsSeen, AreSeen}
+use Rattle.hs_board.specs.Watching.{IsSeenOf}
 use Rattle.hs_run.specs.Moments.{RoundsOver}
-use Rattle.hs_run.specs.Nodes.{sites_of}
-use Rattle.hs_run.specs.Watched.{AllWatched, HaveShown}
+use Rattle.hs_run.specs.Watched.{HaveShown}
 
 -- the places of nodes behind whose rounds all is done
 abbrev pub over_of : (W : PlainWorkload) (nodes : List ActingNode) (c : PlainCoordinatorActor) (places : List DoneNode) → IsValid W → map done_node_actors places ≡ sites_of nodes → RoundsOver W nodes c → PlacesOver W places c

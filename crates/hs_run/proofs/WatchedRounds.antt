@@ -1,30 +1,12 @@
 -- Why what is shown to the watchers of a run goes on to be right, round by round, and what it comes to at the end.
 use Rattle.std.proofs.Common.{◌≡◌, inl, inr, ℕ, zero, suc, ◌+◌, ◌*◌, ◌-◌, ◌/◌, ◌%◌, ◌<◌, ◌≤◌, List, [], ◌∷◌, length, Option, Some, None, true, false, unwrap_or, ⊎_elim, refl, sym, ap, subst, ◌∙◌, arith, slice_get, div-lt_iff_lt-mul, div-add-mod'}
-use Rattle.std.proofs.Math.Nat.{mod-lt}
-use Rattle.std.specs.List.{AllByRecursion}
-use Rattle.std.specs.Prelude.{Result, Ok, Err, OnOk}
-use Rattle.std.proofs.lemmas.Option.{slice_get_within}
-use Rattle.hs_lists.proofs.Alls.{all_each, all_append}
-use Rattle.hs_lists.proofs.Places.{get_there}
-use Rattle.hs_board.specs.declared.progress.Progress.{Progress}
-use Rattle.hs_board.specs.Shown.{first, IsLast}
-use Rattle.hs_run.specs.Counts.{Counts, AreCounts, progress_of}
-use Rattle.hs_run.specs.CountLaws.{TheseAreAllRounds}
-use Rattle.hs_run.specs.Seen.{IsTotal, IsTotalBehind}
+use Rattle.hs_run.proofs.Prelude.{mod-lt, AllByRecursion, Result, Ok, Err, OnOk, slice_get_within, all_each, get_there, Progress, first, IsLast, Counts, AreCounts, progress_of, TheseAreAllRounds, IsTotal, IsTotalBehind, PlainCoordinatorActor, Operation, PlainWorkload, AllBegin, PlainNodeActors, RunState, IsBegun, Came, NoRoundsCome, operations_at, place_of, Showing, ActingNode, ActedTo, MetTo, MovedTo, CanBegin, DoneIn, RoundsMade, TellsLeft, FitTotals, MayCount, shown_on, RoundsWatched, AllWatched}
+use Rattle.hs_lists.proofs.Alls.{all_append}
 use Rattle.hs_run.proofs.Seeing.{end_of}
-use Rattle.hs_run_agent.specs.Coordinators.{PlainCoordinatorActor}
-use Rattle.hs_records.specs.Plain.{Operation, PlainWorkload}
-use Rattle.hs_run_story.specs.Laws.{AllBegin}
-use Rattle.hs_run_story.specs.RunStates.{PlainNodeActors, RunState, IsBegun}
-use Rattle.hs_run_story.specs.Coming.{Came, NoRoundsCome, RoundsKeepWhatCame}
-use Rattle.hs_law_sends.specs.Sending.{operations_at, place_of}
-use Rattle.hs_board.specs.Watching.{Totals, Showing, WatchStands}
+use Rattle.hs_run_story.specs.Coming.{RoundsKeepWhatCame}
+use Rattle.hs_board.specs.Watching.{Totals, WatchStands}
 use Rattle.hs_workload.specs.declared.word.Setting.TheVariants as settings
-use Rattle.hs_run.specs.declared.node.ActingNode.{ActingNode}
-use Rattle.hs_run.specs.Moments.{ActedTo, MetTo, MovedTo, CanBegin, DoneIn, RoundsMade}
-use Rattle.hs_run.specs.Nodes.{TellsLeft}
-use Rattle.hs_run.specs.Tallying.{FitTotals, MayCount}
-use Rattle.hs_run.specs.Watched.{shown_on, MayShow, IsNeeded, RoundsWatched, WatchEnded, AllWatched}
+use Rattle.hs_run.specs.Watched.{MayShow, IsNeeded, WatchEnded}
 use Rattle.hs_run.proofs.Moments.{site_there}
 use Rattle.hs_run.proofs.Rounded.{SendSo, begin_made, few_next, done_next, all_done}
 

@@ -1,12 +1,7 @@
 -- An agent has admitted no more triggers than it took, and what it told may be heard.
 use Rattle.std.proofs.Common.{◌≡◌, ℕ, ◌+◌, ◌≤◌, cond, List, [], ◌∷◌, arith}
-use Rattle.std.proofs.lemmas.List.Sums.{sum_by-append}
+use Rattle.hs_run_agent.proofs.Prelude.{sum_by-append, EventsAddFew, AgentState, start, Chunk, Crumbed, Triggered, Asked, Turn, AgentEvent, Took, Gave, admits, after_event, after_from, after, PlainSettings, is_triggered, triggered}
 use Rattle.hs_lists.proofs.Counts.{one_few}
-use Rattle.hs_law_agent.specs.Laws.{EventsAddFew}
-use Rattle.hs_law_agent.specs.State.{AgentState, start}
-use Rattle.hs_law_agent.specs.Stepping.{Chunk, Crumbed, Triggered, Asked, Turn, AgentEvent, Took, Gave, admits, after_event, after_from, after}
-use Rattle.hs_records.specs.Plain.{PlainSettings}
-use Rattle.hs_run_agent.specs.Work.{is_triggered, triggered}
 
 adds_one : EventsAddFew → (settings : PlainSettings) (node : ℕ) (state : AgentState) (event : AgentEvent) → (after_event settings node state event).admitted ≤ state.admitted + triggered (event ∷ [])
 adds_one few settings node state (Took (Chunk client sheet)) = let e = (few settings node state).admitted (Chunk client sheet) in omega (arith, e)

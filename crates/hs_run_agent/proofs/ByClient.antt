@@ -1,37 +1,19 @@
 -- What the events of a pass bring, client by client.
 use Rattle.std.proofs.Common.{◌≡◌, ℕ, zero, suc, ◌+◌, ◌<◌, ◌≤◌, Bool, true, false, cond, List, [], ◌∷◌, ◌++◌, length, map, filter, replicate, Option, Some, None, refl, sym, ap, ap₂, ◌∙◌, arith, append_assoc, append-nil, eq-eqb}
-use Rattle.std.proofs.lemmas.Bool.{ne_eqb}
-use Rattle.std.proofs.lemmas.Grind.{flat_map-append}
-use Rattle.std.proofs.lemmas.List.{map-append}
+use Rattle.hs_run_agent.proofs.Prelude.{ne_eqb, flat_map-append, map-append, same_Some, slice_get, AllByRecursion, flat_map, option_map_or, all_front, all_each, MAX_TAKEN, Ask, Crumb, Trigger, crumb_in, trigger_in, ask_in, crumbs_in, triggers_in, asks_in, sheet_in, Answered, AgentEvent, Took, Turn, step_of_answer, PlainWorkload, Leased, Buffer, IsWithin, events_made, Helping, events_of, events_from, chunks_of, chunk_event, crumb_event, trigger_event, ask_event, gave_event, is_of}
 use Rattle.std.proofs.lemmas.List.Elements.{filter-append}
-use Rattle.std.proofs.lemmas.Option.{same_Some}
-use Rattle.std.specs.Prelude.{slice_get}
-use Rattle.std.specs.List.{AllByRecursion, flat_map, range_with_len}
-use Rattle.std.specs.Option.{option_map_or}
+use Rattle.std.specs.List.{range_with_len}
 use Rattle.hs_lists.proofs.Parts.{map_self}
 use Rattle.hs_lists.proofs.Numbers.{nat_eq_itself}
-use Rattle.hs_lists.proofs.Alls.{all_back, all_front, all_each}
+use Rattle.hs_lists.proofs.Alls.{all_back}
 use Rattle.hs_lists.proofs.Filters.{filter_all, filter_none}
-use Rattle.hs_base.specs.declared.limits.TheConstants.{MAX_TAKEN}
-use Rattle.hs_base.specs.declared.told.Ask.{Ask}
-use Rattle.hs_base.specs.declared.told.Crumb.{Crumb}
-use Rattle.hs_base.specs.declared.told.Trigger.{Trigger}
-use Rattle.hs_law_journal.specs.Doings.{chunk_in, crumb_in, trigger_in, ask_in, crumbs_in, triggers_in, chunks_in, asks_in}
+use Rattle.hs_law_journal.specs.Doings.{chunk_in, chunks_in}
 use Rattle.hs_law_journal.specs.LoopPasses.{IsPass, step_from}
-use Rattle.hs_agent.specs.Points.{sheet_in}
 use Rattle.hs_journal.specs.declared.journal.Step.{Step}
 use Rattle.hs_journal.specs.declared.journal.Step.TheVariants as steps
 use Rattle.hs_law_journal.specs.Following.{Queue, Chunks, Crumbs, Triggers, Asks}
 use Rattle.hs_law_journal.specs.Passes.{client_queues, queues_of}
 use Rattle.hs_law_agent.specs.Laws.{noted_as}
-use Rattle.hs_law_agent.specs.Stepping.{Answered, AgentEvent, Took, Turn, step_of_answer}
-use Rattle.hs_records.specs.Plain.{PlainWorkload}
-use Rattle.hs_ring.specs.Parts.{Leased}
-use Rattle.hs_words.specs.Buffers.{Buffer}
-use Rattle.hs_run_agent.specs.Agents.{IsWithin}
-use Rattle.hs_run_agent.specs.Passing.{events_made}
-use Rattle.hs_run_agent.specs.Stages.{Helping, events_of, events_from, chunks_of}
-use Rattle.hs_run_agent.specs.Work.{chunk_event, crumb_event, trigger_event, ask_event, gave_event, is_of}
 
 -- ---- lists
 

@@ -1,20 +1,15 @@
 -- No agent takes more triggers than its clients sent, and these are no more than the workload has.
 use Rattle.std.proofs.Common.{◌≡◌, inl, inr, ℕ, zero, suc, ◌+◌, ◌*◌, ◌<◌, ◌≤◌, List, [], ◌∷◌, ◌++◌, length, take, cond, eq-eqb, Bool, false, Option, refl, ap, subst, ◌∙◌, arith, slice_get, unwrap_or, length-append}
+use Rattle.hs_run_agent.proofs.Prelude.{AllByRecursion, get_there, trigger_in, triggers_in, Trigger, Chunk, Crumbed, Triggered, Asked, Turn, AgentEvent, Took, Gave, PlainWorkload, IsWithin, NodeWork, IsFew, is_triggered, triggered}
 use Rattle.std.proofs.lemmas.List.Sums.{sum_by-cons}
-use Rattle.std.specs.List.{AllByRecursion}
 use Rattle.hs_lists.proofs.Counts.{one_if as one}
 use Rattle.hs_lists.proofs.Numbers.{same_or_less}
-use Rattle.hs_lists.proofs.Places.{get_there, take_more}
+use Rattle.hs_lists.proofs.Places.{take_more}
 use Rattle.hs_base.specs.declared.limits.TheConstants.{MAX_CLIENTS}
-use Rattle.hs_law_journal.specs.Doings.{trigger_in, triggers_in}
-use Rattle.hs_base.specs.declared.told.Trigger.{Trigger}
-use Rattle.hs_law_agent.specs.Stepping.{Chunk, Crumbed, Triggered, Asked, Turn, AgentEvent, Took, Gave}
-use Rattle.hs_records.specs.Plain.{Operation, PlainWorkload}
+use Rattle.hs_records.specs.Plain.{Operation}
 use Rattle.hs_workload.specs.Validity.{IsValid, client_pieces, workload_pieces}
 use Rattle.hs_workload.specs.declared.word.Setting.TheVariants as settings
 use Rattle.hs_workload.proofs.Sizes.{last_low}
-use Rattle.hs_run_agent.specs.Agents.{IsWithin}
-use Rattle.hs_run_agent.specs.Work.{NodeWork, IsFew, is_triggered, triggered}
 
 -- ---- the clients of a workload
 
@@ -53,7 +48,6 @@ taken_of : List AgentEvent → ℕ → ℕ
 taken_of events client = length (triggers_in client events)
 
 count_cons : (e : AgentEvent) (es : List AgentEvent) → triggered (e ∷ es) ≡ one (is_triggered e) + triggered es
-unfolding one
 count_cons e es = sum_by-cons (λ (x : AgentEvent). cond (is_triggered x) 1 0) e es
 
 taken_more : (e : AgentEvent) (es : List AgentEvent) (client : ℕ) → taken_of es client ≤ taken_of (e ∷ es) client
@@ -69,14 +63,12 @@ taken_here client t es =
 
 -- an event that is no trigger
 other : (n : ℕ) (e : AgentEvent) (es : List AgentEvent) → is_triggered e ≡ false → triggered es ≤ sum_to n (taken_of es) → triggered (e ∷ es) ≤ sum_to n (taken_of (e ∷ es))
-unfolding one
 other n e es off rest =
     let count : triggered (e ∷ es) ≡ 0 + triggered es = count_cons e es ∙ ap (λ (b : Bool). cond b 1 0 + triggered es) off in
     let less = sum_less n (taken_of (e ∷ es)) (taken_of es) (λ k _. taken_more e es k) in
     omega (arith, rest, count, less)
 
 few_taken : (W : PlainWorkload) (node n : ℕ) → n ≡ W.settings.clients → (events : List AgentEvent) → AllByRecursion (IsWithin W node) events → triggered events ≤ sum_to n (taken_of events)
-unfolding one
 few_taken W node n is [] h = omega arith
 few_taken W node n is (Took (Chunk client sheet) ∷ es) h = other n (Took (Chunk client sheet)) es refl (few_taken W node n is es h.1)
 few_taken W node n is (Took (Crumbed client crumb) ∷ es) h = other n (Took (Crumbed client crumb)) es refl (few_taken W node n is es h.1)

@@ -1,12 +1,7 @@
 -- Lines that give items out.
 use Rattle.std.proofs.Common.{◌≡◌, ℕ, zero, suc, ◌+◌, ◌<◌, ◌≤◌, List, [], ◌∷◌, ◌++◌, length, Option, Some, None, refl, sym, ap, subst, ◌∙◌, arith, append_assoc, append-nil, length-append, length-set}
-use Rattle.std.specs.Prelude.{slice_get, slice_set}
-use Rattle.std.proofs.lemmas.Option.{same_Some}
-use Rattle.hs_lists.proofs.Places.{get_there}
-use Rattle.hs_base.specs.declared.limits.TheConstants.{MAX_TAKEN}
-use Rattle.hs_records.specs.Plain.{PlainWorkload}
-use Rattle.hs_words.specs.Pools.{PoolName}
-use Rattle.hs_run_agent.specs.Intakes.{Intake, linked, closed, Hands, HandsAt, HandsOutAt, AreIntakesFor, IsIntakeAt, key_of, due}
+use Rattle.hs_run_agent.proofs.Prelude.{slice_get, slice_set, same_Some, get_there, MAX_TAKEN, PlainWorkload, PoolName, Intake, linked, closed, HandsAt, HandsOutAt, AreIntakesFor, IsIntakeAt, key_of}
+use Rattle.hs_run_agent.specs.Intakes.{Hands, due}
 
 -- ---- an item that was set
 

@@ -1,26 +1,15 @@
 -- The coordinator hears messages.
 use Rattle.std.proofs.Common.{◌≡◌, ℕ, zero, suc, ◌+◌, ◌<◌, ◌≤◌, min, Bool, true, false, cond, List, [], ◌∷◌, ◌++◌, length, map, filter, Option, Some, None, ◌⊎◌, inl, inr, refl, sym, ap, ap₂, subst, ◌∙◌, arith, append_assoc, append-nil, length-append, length-set, eq-eqb}
-use Rattle.std.proofs.lemmas.Bool.{ne_eqb}
-use Rattle.std.proofs.lemmas.Grind.{flat_map-append}
-use Rattle.std.proofs.lemmas.List.{map-append}
-use Rattle.std.proofs.lemmas.Option.{same_Some, slice_get_within}
-use Rattle.std.specs.Prelude.{slice_get, slice_set, find, unwrap_or}
-use Rattle.std.specs.List.{AllByRecursion}
-use Rattle.hs_lists.proofs.Alls.{all_append}
-use Rattle.hs_base.specs.Rules.{is_declared}
+use Rattle.hs_run_agent.proofs.Prelude.{ne_eqb, flat_map-append, map-append, same_Some, slice_get_within, slice_get, slice_set, AllByRecursion, all_append, is_declared, MAX_TAKEN, Ask, Told, Messages, PlainWorkload, IsAskable, IsTellable, PlainCoordinatorActor, Tellings, Askings, IsCoordinatorActor, HearsNode}
+use Rattle.std.specs.Prelude.{find, unwrap_or}
 use Rattle.hs_base.specs.declared.ids.NodeId.{NodeId}
-use Rattle.hs_base.specs.declared.limits.TheConstants.{MAX_TAKEN}
-use Rattle.hs_base.specs.declared.told.Ask.{Ask}
-use Rattle.hs_base.specs.declared.told.Told.{Told}
 use Rattle.hs_coord.specs.Following.{AreAsks, first_of}
 use Rattle.hs_coord.specs.Kept.{PlainCoordinator, HasTaken}
-use Rattle.hs_coord.specs.Messages.{Message, Messages, message, is_of}
+use Rattle.hs_coord.specs.Messages.{Message, message, is_of}
 use Rattle.hs_coord.specs.declared.asks.Asks.{Asks}
 use Rattle.hs_law_journal.specs.Following.{asks_to, ask_by, is_from}
 use Rattle.hs_law_journal.proofs.Logs.{behind_more}
-use Rattle.hs_records.specs.Plain.{PlainWorkload}
-use Rattle.hs_run_agent.specs.Agents.{IsAskable, IsTellable}
-use Rattle.hs_run_agent.specs.Coordinators.{PlainCoordinatorActor, Tellings, Askings, IsCoordinatorActor, IsHearable, Hears, HearsNode, IsMoved, AreFetched, IsPutBehind, heard_of, ask_for, asks_for}
+use Rattle.hs_run_agent.specs.Coordinators.{IsHearable, Hears, IsMoved, AreFetched, IsPutBehind, heard_of, ask_for, asks_for}
 
 -- ---- lists
 

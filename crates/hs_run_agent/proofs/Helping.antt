@@ -1,20 +1,7 @@
 -- The agent takes from the lines of one client after another.
 use Rattle.std.proofs.Common.{◌≡◌, ℕ, suc, ◌+◌, ◌*◌, ◌<◌, ◌≤◌, List, [], ◌∷◌, ◌++◌, length, map, Some, None, refl, sym, ap, ap₂, subst, ◌∙◌, arith, append_assoc, append-nil, length-append}
-use Rattle.std.proofs.lemmas.List.{map-append, length-map}
-use Rattle.std.proofs.lemmas.Option.{same_Some}
-use Rattle.std.specs.Prelude.{slice_set}
-use Rattle.std.specs.List.{AllByRecursion}
-use Rattle.hs_base.specs.declared.limits.TheConstants.{MAX_TAKEN}
-use Rattle.hs_base.specs.declared.told.Crumb.{Crumb}
-use Rattle.hs_base.specs.declared.told.Trigger.{Trigger}
-use Rattle.hs_law_agent.specs.Stepping.{AgentEvent}
-use Rattle.hs_records.specs.Plain.{PlainWorkload}
-use Rattle.hs_ring.specs.Parts.{Leased}
-use Rattle.hs_words.specs.Buffers.{Buffer}
-use Rattle.hs_run_agent.specs.Intakes.{Intake, Intakes, HandsOut, HandsOutAt, HandOutFirst}
-use Rattle.hs_run_agent.specs.Passing.{CanPass}
-use Rattle.hs_run_agent.specs.Stages.{PlainWorkingAgent, WorkingAgentStands, AgentCanTake, TakesChunks, TakesCrumbs, TakesTriggers, TakesHelping, TakesFirst, Helping, events_of, events_from, chunks_of}
-use Rattle.hs_run_agent.specs.Work.{NodeWork, with_events, chunk_event, crumb_event, trigger_event, triggered}
+use Rattle.hs_run_agent.proofs.Prelude.{map-append, length-map, same_Some, slice_set, AllByRecursion, MAX_TAKEN, Crumb, Trigger, AgentEvent, PlainWorkload, Leased, Buffer, Intake, Intakes, HandsOut, HandsOutAt, HandOutFirst, CanPass, PlainWorkingAgent, WorkingAgentStands, AgentCanTake, TakesChunks, TakesCrumbs, TakesTriggers, TakesFirst, Helping, events_of, events_from, chunks_of, NodeWork, with_events, chunk_event, crumb_event, trigger_event, triggered}
+use Rattle.hs_run_agent.specs.Stages.{TakesHelping}
 use Rattle.hs_run_agent.proofs.Stages.{with_none, with_more, triggered_more}
 
 -- ---- events without triggers

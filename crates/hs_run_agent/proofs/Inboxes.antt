@@ -1,9 +1,7 @@
 -- The inboxes of the coordinator, one for each node.
 use Rattle.std.proofs.Common.{◌≡◌, ℕ, zero, suc, ◌+◌, ◌<◌, ◌≤◌, Bool, true, false, ◌&&◌, List, [], ◌∷◌, ◌++◌, length, replicate, Option, Some, None, refl, sym, ap, ap₂, ◌∙◌, arith, ◌⊎◌, inl, inr}
-use Rattle.std.specs.Prelude.{slice_get, slice_set}
-use Rattle.std.proofs.lemmas.Option.{same_Some}
-use Rattle.hs_base.specs.declared.told.Told.{Told}
-use Rattle.hs_run_agent.specs.Coordinators.{IsTaken, IsTakenOut, is_empty, all_empty}
+use Rattle.hs_run_agent.proofs.Prelude.{slice_get, slice_set, same_Some, Told, IsTakenOut}
+use Rattle.hs_run_agent.specs.Coordinators.{IsTaken, is_empty, all_empty}
 use Rattle.hs_run_agent.proofs.Handing.{set_same}
 
 pub taken_out : (inboxes : List (List Told)) (node : ℕ) (before after : List Told) (told : Option Told) → slice_get inboxes node ≡ Some before → IsTaken before told after → IsTakenOut node inboxes told (slice_set inboxes node after)

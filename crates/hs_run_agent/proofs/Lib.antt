@@ -1,3 +1,4 @@
+mod Prelude
 mod Admitted
 pub mod Taking
 mod Handing

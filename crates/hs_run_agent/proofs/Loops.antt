@@ -1,29 +1,10 @@
 -- The agent takes the items of a line one after another.
 use Rattle.std.proofs.Common.{◌≡◌, ℕ, ◌+◌, ◌<◌, true, List, [], ◌∷◌, ◌++◌, length, map, Option, Some, None, refl, sym, ap, subst, ◌∙◌, arith, append_assoc, length-append}
-use Rattle.std.proofs.lemmas.List.{map-append}
-use Rattle.std.proofs.lemmas.Option.{same_Some}
-use Rattle.std.specs.List.{AllByRecursion}
-use Rattle.std.specs.Option.{option_map}
-use Rattle.hs_lists.proofs.Alls.{all_mid}
-use Rattle.hs_base.specs.declared.limits.TheConstants.{MAX_TAKEN}
-use Rattle.hs_base.specs.declared.told.Ask.{Ask}
-use Rattle.hs_base.specs.declared.told.Crumb.{Crumb}
-use Rattle.hs_base.specs.declared.told.Trigger.{Trigger}
-use Rattle.hs_base.specs.Rules.{is_declared}
-use Rattle.hs_law_journal.specs.Doings.{asks_in}
-use Rattle.hs_live.specs.Keys.{Key, IsChunkOf, IsCrumbOf, IsTriggerOf}
-use Rattle.hs_law_agent.specs.Stepping.{AgentEvent, Asked}
-use Rattle.hs_records.specs.Plain.{PlainWorkload}
-use Rattle.hs_ring.specs.Parts.{Leased}
-use Rattle.hs_words.specs.Buffers.{Buffer}
+use Rattle.hs_run_agent.proofs.Prelude.{map-append, same_Some, AllByRecursion, option_map, all_mid, MAX_TAKEN, Ask, Crumb, Trigger, is_declared, asks_in, Key, AgentEvent, Asked, PlainWorkload, Leased, Buffer, Sheet, PoolName, AgentWorks, IsAskable, Intake, Intakes, AreIntakes, AreIntakesFor, HandsAt, IsIntakeAt, key_of, PlainWorkingAgent, WorkingAgentStands, AgentCanTake, TakesChunks, TakesCrumbs, TakesTriggers, TakesAsks, NodeWork, with_events, chunk_event, crumb_event, trigger_event, ask_event, triggered}
+use Rattle.hs_live.specs.Keys.{IsChunkOf, IsCrumbOf, IsTriggerOf}
 use Rattle.hs_words.specs.Chunks.{header_of}
 use Rattle.hs_words.specs.declared.page.Header.{Header}
-use Rattle.hs_words.specs.Pages.{Sheet}
-use Rattle.hs_words.specs.Pools.{PoolName}
-use Rattle.hs_run_agent.specs.Agents.{AgentWorks, IsAskable, IsPageOf}
-use Rattle.hs_run_agent.specs.Intakes.{Intake, Intakes, AreIntakes, AreIntakesFor, HandsAt, IsIntakeAt, key_of}
-use Rattle.hs_run_agent.specs.Stages.{PlainWorkingAgent, WorkingAgentStands, AgentCanTake, TakesChunks, TakesCrumbs, TakesTriggers, TakesAsks}
-use Rattle.hs_run_agent.specs.Work.{NodeWork, with_events, chunk_event, crumb_event, trigger_event, ask_event, triggered}
+use Rattle.hs_run_agent.specs.Agents.{IsPageOf}
 use Rattle.hs_run_agent.proofs.Handing.{HandsSoFar, none_so_far, more_so_far, all_out, full_out, lines_at}
 use Rattle.hs_run_agent.proofs.Stages.{with_none, with_more, triggered_more, stands_more}
 

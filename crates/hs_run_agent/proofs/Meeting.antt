@@ -1,21 +1,10 @@
 -- A client meets the port of its node's agent: nothing is received, and the giver has one turn more.
 use Rattle.std.proofs.Common.{◌≡◌, ℕ, List, length, inl, inr, refl, sym, ap, subst, ◌∙◌, length-set, map}
-use Rattle.std.proofs.lemmas.List.{length-map}
-use Rattle.std.specs.Prelude.{slice_get}
-use Rattle.hs_law_journal.specs.Doings.{crumbs_in, triggers_in}
-use Rattle.hs_law_journal.specs.Turns.{AreTurns, Meets}
-use Rattle.hs_link.specs.Contents.{Incoming, Outgoing}
+use Rattle.hs_run_agent.proofs.Prelude.{length-map, slice_get, crumbs_in, triggers_in, AreTurns, Incoming, Outgoing, Key, Port, IsEnd, PlainWorkload, Giving, GiverTurn, PoolName, linked, AreIntakesFor, key_of, PlainAgentActor, IsAgentActor, lent_of, NodeWork, came_of}
+use Rattle.hs_law_journal.specs.Turns.{Meets}
 use Rattle.hs_live.specs.Calls.{MeetsAt}
-use Rattle.hs_live.specs.Keys.{Key}
-use Rattle.hs_live.specs.Live.{PlainClient, Port, IsEnd, MeetAt, is_told}
-use Rattle.hs_records.specs.Plain.{PlainWorkload}
-use Rattle.hs_ring.specs.Parts.{Giving}
-use Rattle.hs_words.specs.Ends.{GiverTurn, stamps_in}
-use Rattle.hs_words.specs.Pools.{PoolName}
-use Rattle.hs_run_agent.specs.Intakes.{linked, AreIntakesFor, key_of}
-use Rattle.hs_run_agent.specs.AgentActors.{PlainAgentActor, IsAgentActor}
-use Rattle.hs_run_agent.specs.Turns.{lent_of}
-use Rattle.hs_run_agent.specs.Work.{NodeWork, came_of}
+use Rattle.hs_live.specs.Live.{PlainClient, MeetAt, is_told}
+use Rattle.hs_words.specs.Ends.{stamps_in}
 use Rattle.hs_run_agent.proofs.Hearing.{found_set}
 use Rattle.hs_run_agent.proofs.Ports.{lined, line_at, end_at}
 

@@ -1,39 +1,18 @@
 -- The agent offers the first of its hand to the pool.
 use Rattle.std.proofs.Common.{◌≡◌, inl, inr, ℕ, zero, suc, ◌≤◌, true, false, List, [], ◌∷◌, ◌++◌, length, map, Option, Some, None, refl, sym, ap, ap₂, subst, ◌∙◌, arith, append-nil}
-use Rattle.std.proofs.lemmas.Option.{same_Some, slice_get-map}
-use Rattle.std.specs.Prelude.{slice_get, slice_set, IsSome}
-use Rattle.std.specs.List.{AllByRecursion, flat_map}
-use Rattle.std.specs.Option.{option_and_then, option_map_or, option_map}
-use Rattle.hs_lists.proofs.Alls.{all_append, all_at}
-use Rattle.hs_words.specs.declared.token.TheConstants.{MAX_PUBLISHED}
-use Rattle.hs_law_journal.specs.Doings.{asks_in}
-use Rattle.hs_law_journal.specs.LoopPasses.{IsStamped}
-use Rattle.hs_law_journal.specs.Turns.{AreTurns, IsOffered, Offers}
-use Rattle.hs_agent.specs.Keeping.{PlainAgent}
-use Rattle.hs_agent.specs.Points.{sheet_in}
-use Rattle.hs_agent.specs.Runs.{Run, Follows, Knows, after_offer, after_answer, first_place, offered_next, state_of}
-use Rattle.hs_base.specs.declared.told.Ask.{Ask}
-use Rattle.hs_base.specs.declared.told.Crumb.{Crumb}
-use Rattle.hs_base.specs.declared.told.Trigger.{Trigger}
-use Rattle.hs_law_agent.specs.Laws.{EventsGoOn, StepsSayWhatTheyTell, brought_by}
-use Rattle.hs_law_agent.specs.State.{AgentState, start}
+use Rattle.hs_run_agent.proofs.Prelude.{same_Some, slice_get, slice_set, IsSome, AllByRecursion, flat_map, option_and_then, option_map_or, option_map, all_append, all_at, MAX_PUBLISHED, asks_in, IsStamped, AreTurns, PlainAgent, sheet_in, Run, Follows, Knows, after_offer, offered_next, state_of, Ask, Crumb, Trigger, EventsGoOn, StepsSayWhatTheyTell, brought_by, AgentState, start, Answered, Gave, PlainWorkload, Leased, Giving, Buffer, buffer_of, GiverTurn, answers_in, Held, AgentIs, IsPooled, IsPageThere, IsWithin, Label, label_of, run_at, state_at, Intake, Intakes, AreIntakesFor, PlainWorkingAgent, WorkingAgentStands, OffersNext, stamps_of, GiverGoesOn, IsOffer, lent_of, NodeWork, with_events}
+use Rattle.std.proofs.lemmas.Option.{slice_get-map}
+use Rattle.hs_law_journal.specs.Turns.{IsOffered, Offers}
+use Rattle.hs_agent.specs.Runs.{after_answer, first_place}
 use Rattle.hs_law_agent.specs.Stepping as model
-use Rattle.hs_law_agent.specs.Stepping.{Answered, Gave}
-use Rattle.hs_records.specs.Plain.{PlainWorkload}
-use Rattle.hs_ring.specs.Parts.{Leased, Giving, after_turn}
+use Rattle.hs_ring.specs.Parts.{after_turn}
 use Rattle.hs_ring.specs.Parts as rings
-use Rattle.hs_words.specs.Buffers.{Buffer, buffer_of}
 use Rattle.hs_words.specs.Chunks.{Contents}
-use Rattle.hs_words.specs.Ends.{Answer, GiverTurn, answered, unread, answers_in}
+use Rattle.hs_words.specs.Ends.{Answer, answered, unread}
 use Rattle.hs_words.specs.PoolHistory as pools
-use Rattle.hs_words.specs.declared.token.Held.{Held}
 use Rattle.hs_words.specs.declared.token.Given.{Given}
 use Rattle.hs_words.specs.declared.token.Given.TheVariants as given
-use Rattle.hs_run_agent.specs.Agents.{AgentIs, IsPooled, IsPageThere, IsWithin, Label, label_of, run_at, state_at}
-use Rattle.hs_run_agent.specs.Intakes.{Intake, Intakes, AreIntakesFor}
-use Rattle.hs_run_agent.specs.Stages.{PlainWorkingAgent, WorkingAgentStands, OffersNext, stamps_of}
-use Rattle.hs_run_agent.specs.Turns.{GiverGoesOn, IsOffer, lent_of, was_read}
-use Rattle.hs_run_agent.specs.Work.{NodeWork, with_events}
+use Rattle.hs_run_agent.specs.Turns.{was_read}
 use Rattle.hs_run_agent.proofs.Stages.{with_none, asks_more, turns_came}
 use Rattle.hs_run_agent.proofs.Taking.{brought_more, hands_gave}
 

@@ -1,27 +1,10 @@
 -- The agent offers until its hand is empty or an offer is unread, and a whole pass.
 use Rattle.std.proofs.Common.{◌≡◌, ◌⊎◌, inl, inr, ℕ, ◌-◌, ◌<◌, ◌≤◌, Bool, true, false, List, [], ◌∷◌, ◌++◌, length, map, refl, sym, ap, subst, ◌∙◌, arith, append_assoc, append-nil, length-append}
-use Rattle.std.proofs.lemmas.List.{map-append}
-use Rattle.std.specs.List.{AllByRecursion}
-use Rattle.hs_lists.proofs.Alls.{all_each, all_append}
-use Rattle.hs_words.specs.declared.token.TheConstants.{MAX_PUBLISHED}
-use Rattle.hs_base.specs.declared.told.Ask.{Ask}
-use Rattle.hs_base.specs.declared.told.Crumb.{Crumb}
-use Rattle.hs_base.specs.declared.told.Trigger.{Trigger}
-use Rattle.hs_law_journal.specs.Doings.{asks_in}
-use Rattle.hs_law_journal.specs.LoopPasses.{IsStamped}
+use Rattle.hs_run_agent.proofs.Prelude.{map-append, AllByRecursion, all_each, all_append, MAX_PUBLISHED, Ask, Crumb, Trigger, asks_in, IsStamped, Answered, Turn, AgentEvent, Took, PlainWorkload, Leased, Giving, Buffer, answers_in, state_at, Intake, Intakes, HandOutFirst, MakesPass, PlainWorkingAgent, WorkingAgentStands, TakesFirst, TakesAsks, Helping, OffersNext, stamps_of, events_from, chunks_of, GiverGoesOn, IsOffer, NodeWork, with_events, chunk_event, crumb_event, trigger_event, ask_event, gave_event}
 use Rattle.hs_law_agent.specs.Stepping as model
-use Rattle.hs_law_agent.specs.Stepping.{Answered, Unread, Turn, AgentEvent, Took}
-use Rattle.hs_records.specs.Plain.{PlainWorkload}
-use Rattle.hs_ring.specs.Parts.{Leased, Giving}
-use Rattle.hs_words.specs.Buffers.{Buffer}
+use Rattle.hs_law_agent.specs.Stepping.{Unread}
 use Rattle.hs_words.specs.Ends as ends
-use Rattle.hs_words.specs.Ends.{answers_in}
-use Rattle.hs_run_agent.specs.Agents.{state_at}
-use Rattle.hs_run_agent.specs.Intakes.{Intake, Intakes, HandOutFirst}
-use Rattle.hs_run_agent.specs.Passing.{MakesPass}
-use Rattle.hs_run_agent.specs.Stages.{PlainWorkingAgent, WorkingAgentStands, TakesFirst, TakesAsks, Helping, AgentOffers, OffersNext, OffersAll, stamps_of, events_from, chunks_of}
-use Rattle.hs_run_agent.specs.Turns.{GiverGoesOn, IsOffer}
-use Rattle.hs_run_agent.specs.Work.{NodeWork, with_events, chunk_event, crumb_event, trigger_event, ask_event, gave_event}
+use Rattle.hs_run_agent.specs.Stages.{AgentOffers, OffersAll}
 use Rattle.hs_run_agent.proofs.Stages.{with_none, with_more, asks_more}
 use Rattle.hs_run_agent.proofs.ByClient.{asks_of_none}
 

@@ -1,34 +1,11 @@
 -- A pass of an agent over its port.
 use Rattle.std.proofs.Common.{◌≡◌, ◌⊎◌, ℕ, zero, suc, ◌+◌, ◌≤◌, List, [], ◌∷◌, ◌++◌, length, map, filter, Some, None, refl, sym, ap, subst, ◌∙◌, arith, append_assoc, length-append}
-use Rattle.std.proofs.lemmas.Grind.{flat_map-append}
-use Rattle.std.proofs.lemmas.List.{length-map}
-use Rattle.std.proofs.lemmas.Option.{same_Some, slice_get_within}
-use Rattle.std.specs.Prelude.{slice_get}
-use Rattle.std.specs.List.{AllByRecursion}
-use Rattle.hs_lists.proofs.Alls.{all_front}
-use Rattle.hs_lists.proofs.Places.{get_there, get_map}
-use Rattle.hs_base.specs.declared.limits.TheConstants.{MAX_TAKEN}
-use Rattle.hs_base.specs.declared.told.Ask.{Ask}
-use Rattle.hs_base.specs.declared.told.Crumb.{Crumb}
-use Rattle.hs_base.specs.declared.told.Trigger.{Trigger}
-use Rattle.hs_law_journal.specs.Doings.{asks_in, ask_in, crumb_in, trigger_in, crumbs_in, triggers_in, steps_of}
+use Rattle.hs_run_agent.proofs.Prelude.{flat_map-append, length-map, same_Some, slice_get_within, slice_get, AllByRecursion, all_front, get_there, get_map, MAX_TAKEN, Ask, Crumb, Trigger, asks_in, ask_in, crumb_in, trigger_in, crumbs_in, triggers_in, Incoming, Key, IsEnd, Answered, AgentEvent, Took, Turn, Gave, step_of_answer, PlainWorkload, Leased, Buffer, IsWithin, state_at, Intake, Intakes, linked, HandsOut, HandOutFirst, intakes_of, PlainAgentActor, IsAgentActor, HasReceived, Passes, working_agent_of, CanPass, MakesPass, events_made, PlainWorkingAgent, Helping, events_from, chunks_of, stamps_of, GiverGoesOn, NodeWork, IsFew, with_events, came_of, is_of, chunk_event, crumb_event, trigger_event, ask_event, gave_event}
+use Rattle.hs_law_journal.specs.Doings.{steps_of}
 use Rattle.hs_law_journal.specs.LoopPasses.{EndsPass}
 use Rattle.hs_law_journal.specs.Shape.{log_stamps}
-use Rattle.hs_link.specs.Contents.{Incoming}
-use Rattle.hs_live.specs.Keys.{Key}
-use Rattle.hs_live.specs.Live.{IsEnd}
 use Rattle.hs_law_agent.specs.Stepping as model
-use Rattle.hs_law_agent.specs.Stepping.{Answered, AgentEvent, Took, Turn, Gave, step_of_answer}
-use Rattle.hs_records.specs.Plain.{PlainWorkload}
-use Rattle.hs_ring.specs.Parts.{Leased}
-use Rattle.hs_words.specs.Buffers.{Buffer}
-use Rattle.hs_run_agent.specs.Agents.{IsWithin, state_at}
-use Rattle.hs_run_agent.specs.Intakes.{Intake, Intakes, linked, HandsOut, HandOutFirst, intakes_of}
-use Rattle.hs_run_agent.specs.AgentActors.{PlainAgentActor, IsAgentActor, HasReceived, Passes, EachReceives, TakesItsAsks, working_agent_of}
-use Rattle.hs_run_agent.specs.Passing.{CanPass, MakesPass, events_made}
-use Rattle.hs_run_agent.specs.Stages.{PlainWorkingAgent, Helping, events_from, chunks_of, stamps_of}
-use Rattle.hs_run_agent.specs.Turns.{GiverGoesOn}
-use Rattle.hs_run_agent.specs.Work.{NodeWork, IsFew, with_events, came_of, is_of, chunk_event, crumb_event, trigger_event, ask_event, gave_event}
+use Rattle.hs_run_agent.specs.AgentActors.{EachReceives, TakesItsAsks}
 use Rattle.hs_run_agent.proofs.ByClient.{crumbs_made, triggers_made, asks_made, own_chunks, came_at, came_more, is_pass}
 use Rattle.hs_run_agent.proofs.Helping.{first_few}
 use Rattle.hs_run_agent.proofs.Ports.{lined, line_at, end_at}

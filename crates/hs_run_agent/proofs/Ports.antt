@@ -1,11 +1,7 @@
 -- The receivers of a port as lines.
 use Rattle.std.proofs.Common.{◌≡◌, ℕ, zero, suc, ◌-◌, ◌≤◌, List, [], ◌∷◌, length, map, Option, Some, None, refl, sym, ap, ◌∙◌, arith, length-take}
-use Rattle.std.specs.Prelude.{slice_set}
-use Rattle.std.proofs.lemmas.Option.{same_Some}
-use Rattle.hs_link.specs.Contents.{Incoming}
-use Rattle.hs_live.specs.Keys.{Key}
-use Rattle.hs_live.specs.Live.{IsEnd, ReceivesAt}
-use Rattle.hs_run_agent.specs.Intakes.{Intake, linked, HandsAt, IsIntakeAt}
+use Rattle.hs_run_agent.proofs.Prelude.{slice_set, same_Some, Incoming, Key, IsEnd, Intake, linked, HandsAt, IsIntakeAt}
+use Rattle.hs_live.specs.Live.{ReceivesAt}
 
 module _ {T : Type 0} where
   abbrev pub lined : List (Incoming T Key) → List (Intake T)

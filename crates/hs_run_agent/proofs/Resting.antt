@@ -1,19 +1,8 @@
 -- Lists of what is left of links.
 use Rattle.std.proofs.Common.{◌≡◌, ℕ, zero, suc, ◌+◌, ◌<◌, ◌≤◌, Bool, true, false, ◌&&◌, List, [], ◌∷◌, ◌++◌, length, map, get_or, Option, Some, None, ◌⊎◌, inl, inr, refl, sym, ap, ap₂, ◌∙◌, arith}
-use Rattle.std.proofs.lemmas.Option.{same_Some}
-use Rattle.std.proofs.lemmas.List.{map-append}
-use Rattle.std.specs.Prelude.{slice_get, slice_set, IfSome, IfNone}
-use Rattle.std.specs.List.{AllByRecursion}
-use Rattle.hs_lists.proofs.Lent.{lent, lent_is, lent_from}
-use Rattle.hs_link.specs.Contents.{Incoming, Outgoing, Remaining, AreEnds, sent}
-use Rattle.hs_live.specs.Keys.{Key}
-use Rattle.hs_live.specs.Live.{outgoing, incoming}
-use Rattle.hs_ring.specs.Parts.{Leased}
-use Rattle.hs_words.specs.Buffers.{Buffer, buffer_of, buffer_in}
-use Rattle.hs_words.specs.declared.token.Held.{Held}
-use Rattle.hs_run_agent.specs.Intakes.{Intake, closed, HandsAt, IsIntakeAt}
-use Rattle.hs_run_agent.specs.Resting.{AreEndsOf, AreRests, GivesAt, is_given, are_given}
-use Rattle.hs_run_agent.specs.ClosedAgents.{remaining}
+use Rattle.hs_run_agent.proofs.Prelude.{same_Some, map-append, slice_get, slice_set, IfSome, IfNone, AllByRecursion, lent_is, lent_from, Incoming, Outgoing, Remaining, AreEnds, sent, Key, outgoing, incoming, Leased, Buffer, buffer_of, buffer_in, Held, Intake, closed, HandsAt, IsIntakeAt, AreEndsOf, AreRests, are_given, remaining}
+use Rattle.hs_lists.proofs.Lent.{lent}
+use Rattle.hs_run_agent.specs.Resting.{GivesAt, is_given}
 use Rattle.hs_run_agent.proofs.Handing.{set_same}
 
 module _ {T F : Type 0} where

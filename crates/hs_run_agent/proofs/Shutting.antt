@@ -1,39 +1,11 @@
 -- An agent whose links are closed: closing them, passes over what is left, and the end.
 use Rattle.std.proofs.Common.{◌≡◌, ℕ, zero, suc, ◌<◌, Bool, true, false, ◌&&◌, List, [], ◌∷◌, ◌++◌, length, map, Option, Some, None, refl, sym, ap, ap₂, subst, ◌∙◌, arith, append_assoc, length-append, eqb, eqb-true, eq-eqb}
-use Rattle.std.proofs.lemmas.List.{length-map, nil_from_length}
-use Rattle.std.proofs.lemmas.Option.{same_Some, slice_get_within}
-use Rattle.std.specs.Prelude.{slice_get, IfSome, filter_map}
-use Rattle.std.specs.List.{AllByRecursion, cons_option}
-use Rattle.std.specs.Option.{option_map_or, option_to_list}
-use Rattle.hs_lists.proofs.Places.{get_there, get_map}
-use Rattle.hs_lists.proofs.Alls.{all_at}
-use Rattle.hs_base.specs.declared.told.Crumb.{Crumb}
-use Rattle.hs_base.specs.declared.told.Told.{Told}
-use Rattle.hs_base.specs.declared.told.Trigger.{Trigger}
-use Rattle.hs_law_journal.specs.Doings.{crumbs_in, triggers_in}
-use Rattle.hs_law_journal.specs.Turns.{AreTurns}
+use Rattle.hs_run_agent.proofs.Prelude.{length-map, same_Some, slice_get_within, slice_get, IfSome, AllByRecursion, option_map_or, option_to_list, get_there, get_map, all_at, Crumb, Told, Trigger, crumbs_in, triggers_in, AreTurns, Run, point_of, Incoming, Outgoing, Remaining, AreEnds, sent, Key, IsEnd, EventsAddFew, StepsSayWhatTheyTell, CrumbsLeadBelow, AgentEvent, PlainWorkload, Leased, Giving, Buffer, buffer_of, PoolName, Held, IsPooled, IsTellable, run_at, state_at, Intake, closed, linked, AreIntakesFor, HandsOut, HandOutFirst, key_of, PlainAgentActor, IsAgentActor, working_agent_of, CanPass, MakesPass, AreEndsOf, AreRests, are_given, PlainClosedAgent, IsClosedAgent, IsClosedAgentBare, ClosedAgentPasses, AreMatesOf, PlainWorkingAgent, Helping, WorkingAgentStands, lent_of, NodeWork, IsFew, with_events, with_moved, came_of}
+use Rattle.std.proofs.lemmas.List.{nil_from_length}
+use Rattle.std.specs.Prelude.{filter_map}
+use Rattle.std.specs.List.{cons_option}
 use Rattle.hs_agent.specs.Points.{buffers_left, places_left}
-use Rattle.hs_agent.specs.Runs.{Run, point_of}
-use Rattle.hs_link.specs.Contents.{Incoming, Outgoing, Remaining, AreEnds, sent}
-use Rattle.hs_live.specs.Keys.{Key}
-use Rattle.hs_live.specs.Live.{IsEnd}
-use Rattle.hs_law_agent.specs.Laws.{EventsAddFew, StepsSayWhatTheyTell}
-use Rattle.hs_law_agent.specs.Leading.{CrumbsLeadBelow}
-use Rattle.hs_law_agent.specs.Stepping.{AgentEvent}
-use Rattle.hs_records.specs.Plain.{PlainWorkload}
-use Rattle.hs_ring.specs.Parts.{Leased, Giving}
-use Rattle.hs_words.specs.Buffers.{Buffer, buffer_of}
-use Rattle.hs_words.specs.Pools.{PoolName}
-use Rattle.hs_words.specs.declared.token.Held.{Held}
-use Rattle.hs_run_agent.specs.Agents.{IsPooled, IsTellable, run_at, state_at}
-use Rattle.hs_run_agent.specs.Intakes.{Intake, closed, linked, AreIntakesFor, HandsOut, HandOutFirst, key_of}
-use Rattle.hs_run_agent.specs.AgentActors.{PlainAgentActor, IsAgentActor, working_agent_of}
-use Rattle.hs_run_agent.specs.Passing.{CanPass, MakesPass}
-use Rattle.hs_run_agent.specs.Resting.{AreEndsOf, AreRests, are_given}
-use Rattle.hs_run_agent.specs.ClosedAgents.{PlainClosedAgent, AllSent, IsClosedAgent, IsClosedAgentBare, ClosedAgentPasses, TakesLeft, AreMatesOf, all_sent, sent_at, closed_working_agent, closed_intakes}
-use Rattle.hs_run_agent.specs.Stages.{PlainWorkingAgent, Helping, WorkingAgentStands}
-use Rattle.hs_run_agent.specs.Turns.{lent_of}
-use Rattle.hs_run_agent.specs.Work.{NodeWork, IsFew, with_events, with_moved, came_of}
+use Rattle.hs_run_agent.specs.ClosedAgents.{AllSent, TakesLeft, all_sent, sent_at, closed_working_agent, closed_intakes}
 use Rattle.hs_run_agent.proofs.Passed.{pass, came, came_behind, crumbs_behind, triggers_behind, ends_pass, gives_made, takes_asks, out_at, out_count}
 use Rattle.hs_run_agent.proofs.Ports.{lined, line_at}
 use Rattle.hs_run_agent.proofs.Resting.{shut_list, rest_at, left_at, all_empty, all_are_given}

@@ -1,21 +1,8 @@
 -- The stages of a pass, item by item.
 use Rattle.std.proofs.Common.{◌≡◌, ℕ, ◌+◌, List, [], ◌∷◌, ◌++◌, refl, sym, ap, subst, ◌∙◌, append_assoc, append-nil, ap₂, cond, map}
-use Rattle.std.proofs.lemmas.List.{map-append}
-use Rattle.std.proofs.lemmas.List.Sums.{sum_by-append}
-use Rattle.hs_base.specs.declared.told.Ask.{Ask}
-use Rattle.hs_law_journal.specs.Doings.{ask_in, asks_in}
-use Rattle.hs_law_journal.specs.Turns.{Lent, AreTurns, Begins, Takes}
+use Rattle.hs_run_agent.proofs.Prelude.{map-append, sum_by-append, Ask, ask_in, asks_in, AreTurns, Input, AgentEvent, Took, PlainSettings, PlainWorkload, Leased, Buffer, GiverTurn, AgentWorks, Intakes, AreIntakes, PlainWorkingAgent, WorkingAgentStands, lent_of, NodeWork, with_events, is_triggered, triggered}
+use Rattle.hs_law_journal.specs.Turns.{Lent, Begins, Takes}
 use Rattle.hs_law_journal.proofs.Lents.{turns_more}
-use Rattle.hs_law_agent.specs.Stepping.{Input, AgentEvent, Took}
-use Rattle.hs_records.specs.Plain.{PlainSettings, PlainWorkload}
-use Rattle.hs_ring.specs.Parts.{Leased}
-use Rattle.hs_words.specs.Buffers.{Buffer}
-use Rattle.hs_words.specs.Ends.{GiverTurn}
-use Rattle.hs_run_agent.specs.Agents.{AgentWorks}
-use Rattle.hs_run_agent.specs.Intakes.{Intakes, AreIntakes}
-use Rattle.hs_run_agent.specs.Stages.{PlainWorkingAgent, WorkingAgentStands}
-use Rattle.hs_run_agent.specs.Turns.{lent_of}
-use Rattle.hs_run_agent.specs.Work.{NodeWork, with_events, is_triggered, triggered}
 
 -- ---- work
 

@@ -1,27 +1,12 @@
 -- The agent takes an input that may come.
 use Rattle.std.proofs.Common.{◌≡◌, ℕ, List, [], ◌∷◌, ◌++◌, map, Option, Some, None, refl, sym, ap, subst, ◌∙◌, arith, append_assoc}
-use Rattle.std.proofs.lemmas.List.{map-append}
-use Rattle.std.specs.Prelude.{IsSome, slice_get}
-use Rattle.std.specs.List.{AllByRecursion, flat_map}
-use Rattle.std.specs.Option.{option_map_or, option_to_list}
-use Rattle.hs_lists.proofs.Alls.{all_append}
+use Rattle.hs_run_agent.proofs.Prelude.{map-append, IsSome, slice_get, AllByRecursion, flat_map, option_map_or, option_to_list, all_append, PlainAgent, sheet_in, Run, Follows, Knows, point_of, Told, EventsGoOn, EventsAddFew, StepsSayWhatTheyTell, brought_by, AgentState, start, AgentEvent, Took, Gave, Answered, after, after_from, after_event, told_by, PlainSettings, PlainWorkload, Leased, Buffer, buffer_of, Sheet, AgentIs, AgentWorks, IsPageThere, IsPooled, IsWithin, Label, label_of, run_at, state_at, NodeWork}
 use Rattle.hs_agent.specs.declared.input.Input.{Input}
 use Rattle.hs_agent.specs.declared.input.Input.TheVariants as inputs
-use Rattle.hs_agent.specs.Keeping.{PlainAgent}
-use Rattle.hs_agent.specs.Points.{sheet_in}
-use Rattle.hs_agent.specs.Runs.{Run, Follows, IsTakable, Knows, after_input, buffers_in, input_of, point_of, told_in}
+use Rattle.hs_agent.specs.Runs.{IsTakable, after_input, buffers_in, input_of, told_in}
 use Rattle.hs_law_journal.specs.LoopPasses.{HandsReady}
-use Rattle.hs_base.specs.declared.told.Told.{Told}
-use Rattle.hs_law_agent.specs.Laws.{EventsGoOn, EventsAddFew, StepsSayWhatTheyTell, brought_by}
-use Rattle.hs_law_agent.specs.State.{AgentState, start}
-use Rattle.hs_law_agent.specs.Stepping.{AgentEvent, Took, Gave, Answered, after, after_from, after_event, told_by}
 use Rattle.hs_law_agent.specs.Stepping as model
-use Rattle.hs_records.specs.Plain.{PlainSettings, PlainWorkload}
-use Rattle.hs_ring.specs.Parts.{Leased}
-use Rattle.hs_words.specs.Buffers.{Buffer, buffer_of}
-use Rattle.hs_words.specs.Pages.{Sheet}
-use Rattle.hs_run_agent.specs.Agents.{AgentIs, AgentWorks, IsPageThere, IsPooled, IsWithin, MayCome, Label, label_of, run_at, state_at, with_input}
-use Rattle.hs_run_agent.specs.Work.{NodeWork}
+use Rattle.hs_run_agent.specs.Agents.{MayCome, with_input}
 use Rattle.hs_run_agent.proofs.Admitted.{admitted_few}
 
 -- ---- offers are made of what is in the hand

@@ -1,28 +1,15 @@
 -- What agents tell may be heard, and what is told and asked between rounds.
 use Rattle.std.proofs.Common.{◌≡◌, ℕ, Bool, true, false, cond, List, [], ◌∷◌, ◌++◌, filter, Option, Some, None, refl, sym, ap, subst, ◌∙◌, append_assoc}
-use Rattle.std.specs.Prelude.{IfSome}
-use Rattle.std.specs.List.{AllByRecursion}
-use Rattle.std.specs.Option.{option_and_then, option_to_list}
-use Rattle.hs_lists.proofs.Alls.{all_append, all_mid, all_find}
-use Rattle.hs_law_journal.specs.Doings.{asks_in, crumbs_in, triggers_in}
-use Rattle.hs_live.specs.Live.{Port}
-use Rattle.hs_base.specs.Rules.{is_declared}
-use Rattle.hs_base.specs.declared.told.Ask.{Ask}
-use Rattle.hs_base.specs.declared.told.Crumb.{Crumb}
+use Rattle.hs_run_agent.proofs.Prelude.{IfSome, AllByRecursion, option_and_then, option_to_list, all_append, all_mid, asks_in, crumbs_in, triggers_in, Port, is_declared, Ask, Crumb, Told, EventsAddFew, StepsSayWhatTheyTell, CrumbsLeadBelow, AgentState, start, Input, Chunk, Crumbed, Triggered, Asked, Turn, AgentEvent, Took, Gave, after, after_from, after_event, admits, told_by, PlainWorkload, IsAskable, IsTellable, IsWithin, PlainAgentActor, IsAgentActor, HasReceived, working_agent_of, PlainWorkingAgent, WorkingAgentStands, Intakes, intakes_of, NodeWork, with_moved, is_of}
+use Rattle.hs_lists.proofs.Alls.{all_find}
 use Rattle.hs_base.specs.declared.told.Group.{Group}
-use Rattle.hs_base.specs.declared.told.Told.{Told}
 use Rattle.hs_base.specs.Ids.{same_trace}
-use Rattle.hs_law_agent.specs.Laws.{EventsAddFew, StepsSayWhatTheyTell, AllPass, IsPassed, claimed_by}
-use Rattle.hs_law_agent.specs.Leading.{CrumbsLeadBelow, LeadsBelow, BringsBelow, IsToldBelow}
+use Rattle.hs_law_agent.specs.Laws.{AllPass, IsPassed, claimed_by}
+use Rattle.hs_law_agent.specs.Leading.{LeadsBelow, BringsBelow, IsToldBelow}
 use Rattle.hs_law_agent.specs.Messages.{has_crumb, late_of}
-use Rattle.hs_law_agent.specs.State.{AgentState, ClaimedTrace, start, claim_of}
-use Rattle.hs_law_agent.specs.Stepping.{Input, Chunk, Crumbed, Triggered, Asked, Turn, AgentEvent, Took, Gave, after, after_from, after_event, admits, group_of, told_by}
-use Rattle.hs_records.specs.Plain.{PlainWorkload}
-use Rattle.hs_run_agent.specs.Agents.{IsAskable, IsTellable, IsWithin}
-use Rattle.hs_run_agent.specs.AgentActors.{PlainAgentActor, IsAgentActor, HasReceived, working_agent_of}
-use Rattle.hs_run_agent.specs.Stages.{PlainWorkingAgent, WorkingAgentStands}
-use Rattle.hs_run_agent.specs.Intakes.{Intakes, intakes_of}
-use Rattle.hs_run_agent.specs.Work.{NodeWork, with_ask, with_moved, is_of}
+use Rattle.hs_law_agent.specs.State.{ClaimedTrace, claim_of}
+use Rattle.hs_law_agent.specs.Stepping.{group_of}
+use Rattle.hs_run_agent.specs.Work.{with_ask}
 
 -- what is found is one of the list
 found_step : {A : Type 0} (P : A → Type 0) (b : Bool) (x y : A) (rest : Option A) → P x → (rest ≡ Some y → P y) → cond b (Some x) rest ≡ Some y → P y

@@ -1,32 +1,13 @@
 -- A client that was made has done nothing.
 use Rattle.std.proofs.Common.{◌≡◌, ℕ, suc, true, List, [], ◌∷◌, ◌++◌, length, map, sym, ap, ◌∙◌, subst, subst₂, arith}
-use Rattle.std.specs.List.{All, AllByRecursion}
-use Rattle.hs_auto.specs.Watching.{Watch}
-use Rattle.hs_base.specs.declared.ids.ClientId.{ClientId}
-use Rattle.hs_base.specs.declared.limits.TheConstants.{MAX_TAKEN}
-use Rattle.hs_base.specs.declared.settings.AutoRule.{AutoRule}
-use Rattle.hs_base.specs.declared.settings.TriggerRule.{TriggerRule}
-use Rattle.hs_base.specs.declared.told.Crumb.{Crumb}
-use Rattle.hs_base.specs.declared.told.Trigger.{Trigger}
-use Rattle.hs_base.specs.Rules.{fired_by, is_declared}
-use Rattle.hs_client.specs.Core.{Core, new_core}
-use Rattle.hs_link.specs.Contents.{Outgoing, Incoming, sent, AreNewEnds}
-use Rattle.hs_live.specs.Calls.{IsNew, IsUnused, made_of}
-use Rattle.hs_live.specs.Done.{HasDone}
-use Rattle.hs_live.specs.Keys.{Key}
-use Rattle.hs_live.specs.Live.{PlainClient, outgoing, incoming}
-use Rattle.hs_live.specs.Writing.{Made, IsDrawn}
-use Rattle.hs_law_sends.specs.Playable.{IsPlayable}
-use Rattle.hs_records.specs.Plain.{Operation, PlainSettings}
-use Rattle.hs_ring.specs.Parts.{Drawing, Giving, Leased}
-use Rattle.hs_words.specs.Buffers.{Buffer, buffer_of}
+use Rattle.hs_run_client.proofs.Prelude.{AllByRecursion, Watch, ClientId, MAX_TAKEN, AutoRule, TriggerRule, Crumb, Trigger, is_declared, Core, new_core, Outgoing, Incoming, sent, AreNewEnds, made_of, HasDone, Key, PlainClient, outgoing, incoming, Made, IsDrawn, IsPlayable, Operation, PlainSettings, Drawing, Giving, Leased, Buffer, client_pieces, PlainClientActor, crumbs_of, triggers_of, IsConnected, ConnectedClient, ClientActorIsAt, IsDrawerFor, made_for}
+use Rattle.std.specs.List.{All}
+use Rattle.hs_base.specs.Rules.{fired_by}
+use Rattle.hs_live.specs.Calls.{IsNew, IsUnused}
+use Rattle.hs_words.specs.Buffers.{buffer_of}
 use Rattle.hs_words.specs.declared.token.Held.{Held}
-use Rattle.hs_workload.specs.Validity.{client_pieces}
-use Rattle.hs_run_client.specs.ClientActors.{PlainClientActor}
-use Rattle.hs_run_client.specs.Counting.{crumbs_of, triggers_of}
-use Rattle.hs_run_client.specs.Making.{AreNewFor, IsConnected}
-use Rattle.hs_run_client.specs.declared.making.ConnectedClient.{ConnectedClient}
-use Rattle.hs_run_client.specs.Standing.{ClientActorIsAt, IsDrawerFor, made_for, key_for}
+use Rattle.hs_run_client.specs.Making.{AreNewFor}
+use Rattle.hs_run_client.specs.Standing.{key_for}
 use Rattle.hs_run_client.proofs.Operations.{fewer_crumbs, fewer_triggers}
 
 -- the new parts of a client

@@ -1,26 +1,17 @@
 -- The clients of a node in a valid workload, and their drawers.
 use Rattle.std.proofs.Common.{◌≡◌, ℕ, zero, suc, ◌+◌, ◌*◌, ◌<◌, ◌≤◌, List, [], ◌∷◌, length, map, take, drop, get_or, Some, None, sym, ap, ◌∙◌, arith, length-take, length-drop}
-use Rattle.std.proofs.lemmas.List.{length-map}
+use Rattle.hs_run_client.proofs.Prelude.{length-map, same_Some, slice_get, AllByRecursion, MAX_CLIENTS, Operation, PlainSettings, PlainWorkload, settings_of, Drawing, Giving, new_drawers, new_drawers_length, place_of, ops_of, PoolName, client_pieces, operations_of, workload_of, Op, lefts_of, drawer_for, IsDrawerFor}
 use Rattle.std.proofs.lemmas.List.Sums.{sum_by-cons}
-use Rattle.std.proofs.lemmas.Option.{same_Some, slice_get-get_or}
-use Rattle.std.specs.Prelude.{slice_get, sum}
-use Rattle.std.specs.List.{AllByRecursion}
+use Rattle.std.proofs.lemmas.Option.{slice_get-get_or}
+use Rattle.std.specs.Prelude.{sum}
 use Rattle.hs_lists.proofs.Places.{unwrap_map, item_there}
 use Rattle.hs_base.specs.Listing.{Listing}
-use Rattle.hs_base.specs.declared.limits.TheConstants.{MAX_OPERATIONS, MAX_NODES, MAX_CLIENTS, MIN_SIZE, MAX_SIZE, MAX_BUFFERS}
-use Rattle.hs_records.specs.Plain.{Operation, PlainSettings, PlainWorkload, settings_of}
-use Rattle.hs_ring.specs.Parts.{Drawing, Giving, new_drawers}
-use Rattle.hs_ring.proofs.Making.{new_drawers_length}
-use Rattle.hs_law_sends.specs.Sending.{place_of, ops_of}
-use Rattle.hs_words.specs.Pools.{PoolName}
-use Rattle.hs_workload.specs.Validity.{IsValid, client_pieces, workload_pieces}
-use Rattle.hs_workload.specs.Views.{operations_of, workload_of}
-use Rattle.hs_workload.specs.declared.operation.Op.{Op}
+use Rattle.hs_base.specs.declared.limits.TheConstants.{MAX_OPERATIONS, MAX_NODES, MIN_SIZE, MAX_SIZE, MAX_BUFFERS}
+use Rattle.hs_workload.specs.Validity.{IsValid, workload_pieces}
 use Rattle.hs_workload.specs.declared.operation.Workload.{Workload}
 use Rattle.hs_workload.specs.declared.word.Setting.TheVariants as words
 use Rattle.hs_workload.proofs.Sizes.{product_few, last_low}
-use Rattle.hs_run_client.specs.Nodes.{AreClientsOf, lefts_of, drawer_for}
-use Rattle.hs_run_client.specs.Standing.{IsDrawerFor}
+use Rattle.hs_run_client.specs.Nodes.{AreClientsOf}
 
 -- ---- how many there are
 

@@ -1,23 +1,10 @@
 -- A client that has done all its operations.
 use Rattle.std.proofs.Common.{◌≡◌, List, length, map, take, Option, None, IsNone, sym, ap, ◌∙◌, subst, arith}
-use Rattle.std.proofs.lemmas.List.{append-nil, take_all}
-use Rattle.std.specs.Prelude.{is_some}
-use Rattle.hs_lists.proofs.Options.{is_some_false}
-use Rattle.hs_base.specs.declared.ids.ClientId.{ClientId}
-use Rattle.hs_base.specs.declared.ids.TraceId.{TraceId}
-use Rattle.hs_client.specs.Core.{Core, all_pages}
+use Rattle.hs_run_client.proofs.Prelude.{append-nil, is_some, is_some_false, ClientId, TraceId, Core, PlainClientBook, PlainClient, Made, HasDone, HasSent, pages_of, Operation, PlainSettings, Leased, open_after, PlainClientActor, ClientActorIsAt, IsDone, Notes, made_for}
+use Rattle.std.proofs.lemmas.List.{take_all}
+use Rattle.hs_client.specs.Core.{all_pages}
 use Rattle.hs_client.specs.Calls.{note_of}
-use Rattle.hs_journal.specs.Books.{PlainClientBook}
-use Rattle.hs_live.specs.Live.{PlainClient}
-use Rattle.hs_live.specs.Writing.{Made}
-use Rattle.hs_live.specs.Done.{HasDone, HasSent}
-use Rattle.hs_records.specs.Pages.{pages_of}
-use Rattle.hs_records.specs.Plain.{Operation, PlainSettings}
-use Rattle.hs_ring.specs.Parts.{Leased}
-use Rattle.hs_law_sends.specs.OneMore.{open_after}
 use Rattle.hs_law_sends.proofs.OneMore.{none_open}
-use Rattle.hs_run_client.specs.ClientActors.{PlainClientActor}
-use Rattle.hs_run_client.specs.Standing.{ClientActorIsAt, IsDone, Notes, made_for}
 
 all_done : (settings : PlainSettings) (id : ClientId) (ops : List Operation) (caller : PlainClientActor) → ClientActorIsAt settings id ops caller → caller.done ≡ length ops → HasDone (made_for settings id ops) ops caller.client
 all_done settings id ops caller a all =

@@ -1,23 +1,9 @@
 -- A client goes through the operations of a round.
 use Rattle.std.proofs.Common.{◌≡◌, ℕ, ◌+◌, List, sym, ap, subst}
-use Rattle.hs_base.specs.declared.ids.ClientId.{ClientId}
-use Rattle.hs_base.specs.declared.told.Crumb.{Crumb}
-use Rattle.hs_base.specs.declared.told.Trigger.{Trigger}
-use Rattle.hs_link.specs.Contents.{Outgoing}
-use Rattle.hs_live.specs.declared.called.Called.TheVariants.{Done}
-use Rattle.hs_live.specs.Done.{Does, DoesNothing}
-use Rattle.hs_live.specs.Keys.{Key}
-use Rattle.hs_live.specs.Live.{PlainClient, GoesOn, Flushes}
+use Rattle.hs_run_client.proofs.Prelude.{ClientId, Crumb, Trigger, Outgoing, Done, Does, DoesNothing, Key, PlainClient, GoesOn, draws_none, Operation, PlainSettings, Drawing, Leased, done_behind, Buffer, PlainClientActor, Uses, ClientActorIsAt, Goes}
+use Rattle.hs_live.specs.Live.{Flushes}
 use Rattle.hs_live.specs.Writing.{DrawsOn}
-use Rattle.hs_live.proofs.Cuts.{draws_none}
 use Rattle.hs_live.proofs.Senders.{goes_same}
-use Rattle.hs_records.specs.Plain.{Operation, PlainSettings}
-use Rattle.hs_ring.specs.Parts.{Drawing, Leased}
-use Rattle.hs_law_sends.specs.SoFar.{done_behind}
-use Rattle.hs_words.specs.Buffers.{Buffer}
-use Rattle.hs_run_client.specs.ClientActors.{PlainClientActor}
-use Rattle.hs_run_client.specs.Counting.{Uses}
-use Rattle.hs_run_client.specs.Standing.{ClientActorIsAt, Goes}
 use Rattle.hs_run_client.proofs.Operations.{Stands}
 use Rattle.hs_run_client.proofs.Going.{Stays, StaysSo, at_next, at_same}
 

@@ -1,24 +1,11 @@
 -- The clients of a node are made one after another.
 use Rattle.std.proofs.Common.{◌≡◌, inl, inr, ℕ, ◌+◌, ◌<◌, ◌≤◌, List, [], ◌∷◌, ◌++◌, length, Some, None, refl, sym, ap, ◌∙◌, subst, arith, length-append}
-use Rattle.std.proofs.lemmas.Option.{same_Some, slice_get_within}
-use Rattle.std.specs.Prelude.{slice_get}
+use Rattle.hs_run_client.proofs.Prelude.{same_Some, slice_get, MAX_TAKEN, MAX_CLIENTS, Crumb, Trigger, client_of, Outgoing, Incoming, AreNewEnds, Key, incoming, PlainWorkload, Drawing, Giving, Leased, ops_of, Buffer, PlainClientActor, ConnectedClient, IsConnected, AreBegun, NodeBegins, Receiving, drawer_for}
+use Rattle.std.proofs.lemmas.Option.{slice_get_within}
 use Rattle.hs_lists.proofs.Places.{get_push_cases, get_front, get_there}
-use Rattle.hs_base.specs.declared.limits.TheConstants.{MAX_TAKEN, MAX_CLIENTS}
-use Rattle.hs_base.specs.declared.told.Crumb.{Crumb}
-use Rattle.hs_base.specs.declared.told.Trigger.{Trigger}
-use Rattle.hs_base.specs.Ids.{client_of}
-use Rattle.hs_link.specs.Contents.{Outgoing, Incoming, AreNewEnds}
 use Rattle.hs_live.specs.Calls.{IsOf, IsPort}
-use Rattle.hs_live.specs.Keys.{Key}
-use Rattle.hs_live.specs.Live.{IsEnd, incoming}
-use Rattle.hs_records.specs.Plain.{PlainWorkload}
-use Rattle.hs_ring.specs.Parts.{Drawing, Giving, Leased}
-use Rattle.hs_law_sends.specs.Sending.{ops_of}
-use Rattle.hs_words.specs.Buffers.{Buffer}
-use Rattle.hs_run_client.specs.ClientActors.{PlainClientActor}
-use Rattle.hs_run_client.specs.declared.making.ConnectedClient.{ConnectedClient}
-use Rattle.hs_run_client.specs.Making.{IsConnected}
-use Rattle.hs_run_client.specs.Nodes.{LinkBegins, ClientActorBegins, AreBegun, NodeBegins, Receiving, drawer_for}
+use Rattle.hs_live.specs.Live.{IsEnd}
+use Rattle.hs_run_client.specs.Nodes.{LinkBegins, ClientActorBegins}
 
 -- ---- lists with an item more
 

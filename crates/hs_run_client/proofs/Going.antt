@@ -1,35 +1,15 @@
 -- The next operation of a client may be done, and then the client stands behind it.
 use Rattle.std.proofs.Common.{◌≡◌, ℕ, ◌+◌, ◌<◌, true, List, ◌∷◌, length, map, take, drop, Option, None, inl, inr, sym, ap, ◌∙◌, subst, arith}
-use Rattle.std.proofs.lemmas.List.{length-map}
+use Rattle.hs_run_client.proofs.Prelude.{length-map, is_some, slice_get, AllByRecursion, is_some_false, Watch, ClientId, TraceId, AutoRule, TriggerRule, is_declared, Outgoing, sent, Done, HasDone, Does, DoesNothing, Key, PlainClient, IsDrawn, Answer, Operation, Begin, Point, End, Fire, Sample, PlainSettings, AreBracketed, open_after, PlainClientActor, Uses, MayDo, ClientActorIsAt, made_for}
 use Rattle.std.proofs.lemmas.Option.{slice_get-map, slice_get_cases}
-use Rattle.std.specs.Prelude.{is_some, slice_get}
-use Rattle.std.specs.List.{AllByRecursion}
 use Rattle.std.specs.Option.{option_map}
-use Rattle.hs_lists.proofs.Options.{is_some_false}
-use Rattle.hs_auto.specs.Watching.{Watch}
-use Rattle.hs_base.specs.declared.ids.ClientId.{ClientId}
-use Rattle.hs_base.specs.declared.ids.TraceId.{TraceId}
-use Rattle.hs_base.specs.declared.settings.AutoRule.{AutoRule}
-use Rattle.hs_base.specs.declared.settings.TriggerRule.{TriggerRule}
-use Rattle.hs_base.specs.Rules.{is_declared}
-use Rattle.hs_link.specs.Contents.{Outgoing, sent}
-use Rattle.hs_live.specs.declared.called.Called.TheVariants.{Done}
-use Rattle.hs_live.specs.Done.{HasDone, Does, DoesNothing}
-use Rattle.hs_live.specs.Keys.{Key}
-use Rattle.hs_live.specs.Live.{PlainClient}
-use Rattle.hs_live.specs.Writing.{IsDrawn}
 use Rattle.hs_live.proofs.Cuts.{all_drawn}
-use Rattle.hs_words.specs.Ends.{Answer}
-use Rattle.hs_records.specs.Plain.{Operation, Begin, Point, End, Fire, Sample, PlainSettings}
 use Rattle.hs_records.specs.Plain as plain
-use Rattle.hs_records.specs.Records.{AreBracketed, piece_count}
-use Rattle.hs_law_sends.specs.OneMore.{open_after}
+use Rattle.hs_records.specs.Records.{piece_count}
 use Rattle.hs_workload.specs.LookBack.{operation_pieces}
 use Rattle.hs_workload.specs.Validity.{IsOperation}
-use Rattle.hs_run_client.specs.ClientActors.{PlainClientActor}
-use Rattle.hs_run_client.specs.Counting.{Uses}
-use Rattle.hs_run_client.specs.Performing.{MayDo, MayRecord, HasRule}
-use Rattle.hs_run_client.specs.Standing.{ClientActorIsAt, IsClientOf, HasEnough, made_for}
+use Rattle.hs_run_client.specs.Performing.{MayRecord, HasRule}
+use Rattle.hs_run_client.specs.Standing.{IsClientOf, HasEnough}
 use Rattle.hs_run_client.proofs.Operations.{Stands, all_at, bracketed_at}
 
 -- ---- what the next operation needs

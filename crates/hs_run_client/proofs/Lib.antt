@@ -1,3 +1,4 @@
+mod Prelude
 mod Operations
 mod Uses
 mod Going

@@ -1,11 +1,8 @@
 -- A client that meets its port stands where it stood.
 use Rattle.std.proofs.Common.{ℕ, List, ap}
-use Rattle.hs_link.specs.Contents.{Outgoing, Incoming}
+use Rattle.hs_run_client.proofs.Prelude.{Outgoing, Incoming, DoesNothing, Key, PlainClient, Port, Drawing}
 use Rattle.hs_live.specs.Calls.{MeetsAt}
-use Rattle.hs_live.specs.Done.{DoesNothing}
-use Rattle.hs_live.specs.Keys.{Key}
-use Rattle.hs_live.specs.Live.{PlainClient, Port, MeetAt}
-use Rattle.hs_ring.specs.Parts.{Drawing}
+use Rattle.hs_live.specs.Live.{MeetAt}
 use Rattle.hs_run_client.proofs.Going.{Stays, StaysSo}
 
 heard : {T : Type 0} (number : ℕ) (receivers receivers' : List (Incoming T Key)) (s s' : Outgoing T Key) → MeetAt number receivers s receivers' s' → Stays s s'

@@ -1,17 +1,11 @@
 -- The operation at a place of a client's list, and what those before and behind it say.
 use Rattle.std.proofs.Common.{◌≡◌, ℕ, ◌+◌, ◌<◌, ◌≤◌, false, List, [], ◌∷◌, ◌++◌, length, map, take, drop, get_or, None, refl, sym, ap, ◌∙◌, subst, arith}
-use Rattle.std.proofs.lemmas.List.{drop_more, get_or-map, length-map, take-append-drop, take_more}
-use Rattle.std.specs.Prelude.{is_some}
-use Rattle.std.specs.List.{AllByRecursion}
+use Rattle.hs_run_client.proofs.Prelude.{length-map, take-append-drop, is_some, AllByRecursion, Operation, Begin, Point, End, Fire, Sample, AreBracketed, open_after, client_pieces, crumbs_in, triggers_in, crumbs_of, triggers_of}
+use Rattle.std.proofs.lemmas.List.{drop_more, get_or-map, take_more}
 use Rattle.hs_lists.proofs.Alls.{all_mid}
-use Rattle.hs_records.specs.Plain.{Operation, Begin, Point, End, Fire, Sample}
 use Rattle.hs_records.specs.Plain as plain
-use Rattle.hs_records.specs.Records.{AreBracketed}
-use Rattle.hs_law_sends.specs.OneMore.{open_after}
 use Rattle.hs_law_sends.proofs.OneMore.{bracketed_behind}
-use Rattle.hs_workload.specs.Validity.{client_pieces}
 use Rattle.hs_workload.proofs.Sizes.{one_at_least}
-use Rattle.hs_run_client.specs.Counting.{crumbs_in, triggers_in, crumbs_of, triggers_of}
 
 -- the operation stands at this place
 pub record Stands (ops : List Operation) (place : ℕ) (op : Operation) : Type 0 where

@@ -1,11 +1,6 @@
 -- Clients that are taken apart, one after another.
 use Rattle.std.proofs.Common.{◌≡◌, ℕ, zero, suc, ◌<◌, List, [], ◌∷◌, ◌++◌, length, map, get_or, sym, ap, ◌∙◌, subst, arith}
-use Rattle.std.proofs.lemmas.List.{map-append}
-use Rattle.std.specs.List.{AllByRecursion}
-use Rattle.hs_journal.specs.Books.{PlainClientBook}
-use Rattle.hs_run_client.specs.ClientActors.{PlainClientActor}
-use Rattle.hs_run_client.specs.Nodes.{AreNotes}
-use Rattle.hs_run_client.specs.Standing.{Notes}
+use Rattle.hs_run_client.proofs.Prelude.{map-append, AllByRecursion, PlainClientBook, PlainClientActor, AreNotes, Notes}
 
 pub all_at : {A : Type 0} (P : A → Type 0) (xs : List A) (place : ℕ) (x : A) → AllByRecursion P xs → (place < length xs) × (x ≡ get_or xs place x) → P x
 all_at P [] place x all at = absurd (omega (arith, at.0))

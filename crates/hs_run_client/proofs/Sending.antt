@@ -1,38 +1,25 @@
 -- What a client sent, from the steps of its client's core.
 use Rattle.std.proofs.Common.{◌≡◌, ℕ, suc, ◌+◌, ◌≤◌, false, List, [], ◌∷◌, ◌++◌, length, map, take, drop, reverse, Option, Some, None, refl, sym, ap, ap₂, ◌∙◌, subst, arith}
-use Rattle.std.proofs.lemmas.List.{append-nil, length-take-le, take-append-drop}
-use Rattle.std.specs.Prelude.{is_some, slice_get}
-use Rattle.std.specs.List.{AllByRecursion}
+use Rattle.hs_run_client.proofs.Prelude.{append-nil, take-append-drop, is_some, slice_get, AllByRecursion, ClientId, Core, new_core, sent, PlainClient, Made, HasDone, HasSent, IsPlayable, Operation, PlainSettings, pages_of, Leased, Buffer, Answer, PoolName, client_pieces, PlainClientActor, ClientActorIsAt, made_for}
+use Rattle.std.proofs.lemmas.List.{length-take-le}
 use Rattle.hs_lists.proofs.Alls.{all_front}
-use Rattle.hs_base.specs.declared.ids.ClientId.{ClientId}
-use Rattle.hs_client.specs.Core.{Core, Step, new_core}
+use Rattle.hs_client.specs.Core.{Step}
 use Rattle.hs_client.specs.Calls.{AreSteps, IsBook, after, draws_supplied, filled_chunks, segments_of_steps, sheet_for, with_all}
 use Rattle.hs_journal.specs.declared.journal.Draw.{Draw}
 use Rattle.hs_journal.specs.declared.journal.Draw.TheVariants as noted
-use Rattle.hs_link.specs.Contents.{sent}
-use Rattle.hs_live.specs.Live.{PlainClient}
-use Rattle.hs_live.specs.Writing.{Made, new_of, noted as noted_as, buffer_got, buffers_by, draws_by}
-use Rattle.hs_live.specs.Done.{HasDone, HasSent}
-use Rattle.hs_law_sends.specs.Playable.{IsPlayable}
-use Rattle.hs_records.specs.Plain.{Operation, PlainSettings}
-use Rattle.hs_records.specs.Pages.{PlainPage, pages_of}
+use Rattle.hs_live.specs.Writing.{new_of, noted as noted_as, buffer_got, buffers_by, draws_by}
+use Rattle.hs_records.specs.Pages.{PlainPage}
 use Rattle.hs_records.specs.Records.{segments_of}
 use Rattle.hs_records.proofs.Payloads.{nothing_comes}
-use Rattle.hs_ring.specs.Parts.{Leased}
 use Rattle.hs_law_sends.specs.Draws.{count_started}
 use Rattle.hs_law_sends.specs.HandedOut.{CoresHandOutSoFar, sheets_of_items}
 use Rattle.hs_law_sends.specs.OneMore.{items_of}
 use Rattle.hs_law_sends.specs.Sending.{Sent, sends_of, sent_within, sent_chunks}
 use Rattle.hs_law_sends.specs.Drawn.{drawn_pages}
 use Rattle.hs_law_sends.specs.SoFar.{has_open_page, FirstCrumbsAreSent, FirstTriggersAreSent, FirstOperationsSend, AllChunksAreSent, AllCrumbsAreSent, AllTriggersAreSent}
-use Rattle.hs_words.specs.Buffers.{Buffer}
-use Rattle.hs_words.specs.Ends.{Answer}
 use Rattle.hs_words.specs.Pages.{Sheet}
 use Rattle.hs_words.specs.PoolHistory.{PoolEvent, Got, Empty, Given, Missed}
-use Rattle.hs_words.specs.Pools.{PoolName}
-use Rattle.hs_workload.specs.Validity.{client_pieces}
-use Rattle.hs_run_client.specs.ClientActors.{PlainClientActor}
-use Rattle.hs_run_client.specs.Standing.{ClientActorIsAt, IsLeasedTo, HasSentSoFar, HasSentAll, made_for, sheets_in}
+use Rattle.hs_run_client.specs.Standing.{IsLeasedTo, HasSentSoFar, HasSentAll, sheets_in}
 
 -- what is known of cores and of clients
 pub record Laws : Type 0 where

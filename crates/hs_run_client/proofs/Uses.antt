@@ -1,25 +1,17 @@
 -- What each call of a client answers and uses, where its operation may be done.
 use Rattle.std.proofs.Common.{◌≡◌, ℕ, ◌+◌, ◌≤◌, List, [], ◌∷◌, length, Option, Some, None, IsSome, refl, sym, ap, ◌∙◌, subst, arith, length-append}
+use Rattle.hs_run_client.proofs.Prelude.{TraceId, Crumb, Trigger, Watch, Core, Outgoing, sent, Key, PlainClient, GoesOn, draws_none, Operation, Begin, Point, End, Fire, Sample, Leased, Uses}
 use Rattle.std.proofs.Math.Seq.{take-length}
 use Rattle.hs_base.specs.declared.ids.NodeId.{NodeId}
-use Rattle.hs_base.specs.declared.ids.TraceId.{TraceId}
 use Rattle.hs_base.specs.declared.limits.TheConstants.{MAX_PAYLOAD}
-use Rattle.hs_base.specs.declared.told.Crumb.{Crumb}
-use Rattle.hs_base.specs.declared.told.Trigger.{Trigger}
-use Rattle.hs_auto.specs.Watching.{Watch}
-use Rattle.hs_client.specs.Core.{Core, Began, IsLeft, after_step}
-use Rattle.hs_link.specs.Contents.{Outgoing, sent}
+use Rattle.hs_client.specs.Core.{Began, IsLeft, after_step}
 use Rattle.hs_live.specs.declared.called.Called.{Called}
 use Rattle.hs_live.specs.declared.called.Called.TheVariants as called
 use Rattle.hs_live.specs.Calls.{BeginsBy, PointsBy, NotesBy, EndsBy, WritesOnly, begun, counts}
-use Rattle.hs_live.specs.Keys.{Key}
-use Rattle.hs_live.specs.Live.{PlainClient, GoesOn, Sends}
+use Rattle.hs_live.specs.Live.{Sends}
 use Rattle.hs_live.specs.Writing.{Spends, writing_of}
-use Rattle.hs_live.proofs.Cuts.{draws_none}
-use Rattle.hs_records.specs.Plain.{Operation, Begin, Point, End, Fire, Sample}
 use Rattle.hs_records.specs.Plain as plain
-use Rattle.hs_ring.specs.Parts.{Leased}
-use Rattle.hs_run_client.specs.Counting.{SendsFew, UsesUp, Uses}
+use Rattle.hs_run_client.specs.Counting.{SendsFew, UsesUp}
 
 -- ---- answers
 

@@ -1,19 +1,9 @@
 -- The chunks that an agent took, by its events and by the buffers in which they came.
 use Rattle.std.proofs.Common.{◌≡◌, ℕ, Bool, true, false, ◌==◌, cond, List, [], ◌∷◌, ◌++◌, refl, sym, ap, ◌∙◌, Some, map, filter, append-nil, append_assoc}
-use Rattle.std.specs.List.{AllByRecursion, flat_map}
+use Rattle.hs_run_story.proofs.Prelude.{AllByRecursion, flat_map, sheet_in, EventsAddThis, sheets_of, AgentState, start, AgentEvent, after, PlainSettings, PlainWorkload, Leased, Buffer, Sheet, IsWithin, is_of, sheet_is, chunks_in}
 use Rattle.hs_lists.proofs.Filters.{filter_mapped}
-use Rattle.hs_agent.specs.Points.{sheet_in}
-use Rattle.hs_law_agent.specs.Laws.{EventsAddThis, sheets_of, brought_by}
-use Rattle.hs_law_agent.specs.State.{AgentState, start}
-use Rattle.hs_law_agent.specs.Stepping.{Chunk, Crumbed, Triggered, Asked, Turn, AgentEvent, Took, Gave, after, after_from, after_event}
-use Rattle.hs_records.specs.Plain.{PlainSettings, PlainWorkload}
-use Rattle.hs_ring.specs.Parts.{Leased}
-use Rattle.hs_words.specs.Buffers.{Buffer}
-use Rattle.hs_words.specs.Pages.{Sheet}
-use Rattle.hs_run_agent.specs.Agents.{IsWithin}
-use Rattle.hs_run_agent.specs.Work.{is_of}
-use Rattle.hs_run_agent.proofs.Taking.{sheet_is}
-use Rattle.hs_law_journal.specs.Doings.{chunks_in}
+use Rattle.hs_law_agent.specs.Laws.{brought_by}
+use Rattle.hs_law_agent.specs.Stepping.{Chunk, Crumbed, Triggered, Asked, Turn, Took, Gave, after_from, after_event}
 use Rattle.hs_law_journal.specs.LoopPasses.{IsOwn}
 
 pub own_events : (W : PlainWorkload) (node : ℕ) (events : List AgentEvent) → AllByRecursion (IsWithin W node) events → AllByRecursion (IsOwn W) events

@@ -1,13 +1,13 @@
 -- The trace of a round more.
 use Rattle.std.proofs.Common.{◌≡◌, inl, inr, ℕ, suc, ◌<◌, refl, sym, subst, ◌∙◌, arith}
+use Rattle.hs_run_story.proofs.Prelude.{PlainWorkload, RunState, Came}
 use Rattle.hs_lists.proofs.Numbers.{same_or_less}
 use Rattle.hs_base.proofs.Updates.{put, put_here, put_else}
-use Rattle.hs_records.specs.Plain.{PlainWorkload}
-use Rattle.hs_run_story.specs.RunStates.{RunState, IsBegun}
+use Rattle.hs_run_story.specs.RunStates.{IsBegun}
 use Rattle.hs_run_story.specs.Acting.{Acts}
 use Rattle.hs_run_story.specs.Meeting.{AllMeet}
 use Rattle.hs_run_story.specs.Moving.{Moves}
-use Rattle.hs_run_story.specs.Coming.{Came, NoRoundsCome, RoundsGoOn, RoundsKeepWhatCame}
+use Rattle.hs_run_story.specs.Coming.{NoRoundsCome, RoundsGoOn, RoundsKeepWhatCame}
 
 pub no_rounds_come : NoRoundsCome
 no_rounds_come W m begun =

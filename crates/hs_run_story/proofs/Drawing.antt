@@ -1,12 +1,8 @@
 -- The draws that a client noted are the answers of its drawer.
 use Rattle.std.proofs.Common.{◌≡◌, ℕ, List, [], ◌∷◌, ◌++◌, length, reverse, refl, sym, ap, ◌∙◌, arith, map, append-nil, append_assoc}
-use Rattle.std.specs.List.{AllByRecursion}
-use Rattle.std.proofs.lemmas.List.{length-append, map-append}
-use Rattle.hs_lists.proofs.Parts.{reverse_cons}
-use Rattle.hs_words.specs.Ends.{Answer}
+use Rattle.hs_run_story.proofs.Prelude.{AllByRecursion, length-append, map-append, reverse_cons, Answer, draws_by, draw_answer}
 use Rattle.hs_words.specs.PoolHistory.{PoolEvent, Got, Empty, Given, Missed}
-use Rattle.hs_live.specs.Writing.{IsDraw, IsDrawn, noted, draws_by}
-use Rattle.hs_law_run.specs.Pools.{draw_answer}
+use Rattle.hs_live.specs.Writing.{IsDraw, IsDrawn, noted}
 
 noted_answer : (stamp draw : ℕ) (event : PoolEvent) → IsDraw event → draw ≡ 0 → draw_answer (noted stamp event) ≡ record { stamp = stamp; event = event; draw = draw }
 noted_answer stamp draw (Got buffer) is zeroth = ap (λ d. record { stamp = stamp; event = Got buffer; draw = d }) (sym zeroth)

@@ -1,19 +1,7 @@
 -- What a client had drawn behind a round, and what the journal notes of it.
 use Rattle.std.proofs.Common.{◌≡◌, ℕ, zero, suc, ◌<◌, ◌≤◌, List, [], ◌∷◌, ◌++◌, length, take, refl, sym, ap, subst, ◌∙◌, Some, arith, slice_get}
-use Rattle.hs_records.specs.Plain.{PlainWorkload}
-use Rattle.hs_law_sends.specs.Draws.{count_started}
-use Rattle.hs_workload.specs.Validity.{IsValid}
-use Rattle.hs_run_client.specs.ClientActors.{PlainClientActor}
-use Rattle.hs_law_run.specs.Ends.{done_by}
-use Rattle.hs_run_story.specs.RunStates.{PlainNodeActors, RunState}
-use Rattle.hs_run_story.specs.Coming.{Came}
-use Rattle.hs_run_story.specs.Laws.{RoundsAreNoted}
+use Rattle.hs_run_story.proofs.Prelude.{PlainWorkload, count_started, IsValid, PlainClientActor, done_by, PlainNodeActors, RunState, Came, RoundsAreNoted, PlainJournal, passes_of, draws_at, place_of, ops_of, flat_map, slice_get_within}
 use Rattle.hs_run_story.specs.Noting.{NotesClient, JournalsNoteRounds}
-use Rattle.hs_journal.specs.Views.{PlainJournal}
-use Rattle.hs_law_journal.specs.Passes.{passes_of}
-use Rattle.hs_law_sends.specs.Sending.{draws_at, place_of, ops_of}
-use Rattle.std.specs.List.{flat_map}
-use Rattle.std.proofs.lemmas.Option.{slice_get_within}
 use Rattle.hs_run_story.proofs.Moments.{site_of, site_there, stands_at}
 use Rattle.hs_run_story.proofs.Meetings.{HaveSent, caller_at, here_at, done_at, sent_at}
 use Rattle.hs_run_story.proofs.Sending.{drawn_first}

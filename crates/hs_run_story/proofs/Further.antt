@@ -1,9 +1,6 @@
 -- A pass more behind the rounds.
 use Rattle.std.proofs.Common.{◌≡◌, ℕ, suc, ◌<◌, ◌≤◌, Bool, true, false, cond, nat_lt, ltb-true, ltb-false, lt-ltb, ◌++◌, refl, sym, ap, subst, ◌∙◌, Some, arith, slice_get}
-use Rattle.hs_coord.specs.Messages.{Messages}
-use Rattle.hs_records.specs.Plain.{PlainWorkload}
-use Rattle.hs_run_story.specs.RunStates.{PlainNodeActors}
-use Rattle.hs_run_story.specs.Spans.{NodeBetweenPasses}
+use Rattle.hs_run_story.proofs.Prelude.{Messages, PlainWorkload, PlainNodeActors, NodeBetweenPasses}
 use Rattle.hs_run_story.specs.Closing.{IsPassAlone}
 use Rattle.hs_run_story.specs.Laws.{ClosingGoesOn}
 

@@ -1,15 +1,7 @@
 -- The rounds and the passes behind them as one.
 use Rattle.std.proofs.Common.{◌≡◌, ℕ, zero, suc, ◌<◌, ◌≤◌, min, Bool, true, false, cond, nat_lt, ltb-true, ltb-false, ◌++◌, length, refl, sym, ap, subst, ◌∙◌, Some, arith, slice_get, drop}
-use Rattle.hs_lists.proofs.Parts.{drop_front}
-use Rattle.hs_coord.specs.Messages.{Messages}
-use Rattle.hs_records.specs.Plain.{PlainWorkload}
-use Rattle.hs_workload.specs.Validity.{IsValid}
-use Rattle.hs_run_story.specs.RunStates.{RunState, RunStands}
-use Rattle.hs_run_story.specs.Coming.{Came}
-use Rattle.hs_law_run.specs.Ends.{PoolEnds, PoolEndsMeet}
-use Rattle.hs_law_run.specs.Stories.{added}
-use Rattle.hs_run_story.specs.Spans.{NodeBetweenPasses, IsNodeBetweenPasses, IsStep}
-use Rattle.hs_run_story.specs.Closing.{left_at, Closing}
+use Rattle.hs_run_story.proofs.Prelude.{drop_front, Messages, PlainWorkload, IsValid, RunState, RunStands, Came, PoolEnds, PoolEndsMeet, added, NodeBetweenPasses, IsNodeBetweenPasses, IsStep, Closing}
+use Rattle.hs_run_story.specs.Closing.{left_at}
 use Rattle.hs_run_story.proofs.Moments.{site_of, site_there, stands_at, post_at, post_stands, round_steps, heard_same}
 use Rattle.hs_run_story.proofs.Meetings.{caller_at, ends_at, has_met}
 

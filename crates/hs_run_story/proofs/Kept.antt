@@ -1,11 +1,6 @@
 -- The pools of the nodes keep their sizes and their drawers.
 use Rattle.std.proofs.Common.{◌≡◌, ℕ, zero, suc, ◌<◌, ◌≤◌, sym, ap, subst, ◌∙◌, Some, arith, slice_get}
-use Rattle.std.proofs.lemmas.Option.{slice_get_within}
-use Rattle.hs_records.specs.Plain.{PlainWorkload}
-use Rattle.hs_workload.specs.Validity.{IsValid}
-use Rattle.hs_run_client.specs.ClientActors.{PlainClientActor}
-use Rattle.hs_run_story.specs.RunStates.{PlainNodeActors, RunState, RunStands}
-use Rattle.hs_run_story.specs.Coming.{Came}
+use Rattle.hs_run_story.proofs.Prelude.{slice_get_within, PlainWorkload, IsValid, PlainClientActor, PlainNodeActors, RunState, RunStands, Came}
 use Rattle.hs_run_story.specs.Laws.{AllBegin, PoolsAreKept}
 use Rattle.hs_run_story.proofs.Moments.{site_of, site_there, stands_at, site_stands, site_acts, site_meets, giver_same}
 use Rattle.hs_run_story.proofs.Meetings.{caller_at, here_at, goes_at, caller_met, caller_moved}

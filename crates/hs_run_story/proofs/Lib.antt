@@ -1,3 +1,4 @@
+mod Prelude
 pub mod Coming
 pub mod Lists
 pub mod Chunks

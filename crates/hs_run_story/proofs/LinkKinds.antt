@@ -1,17 +1,9 @@
 -- The three kinds of links of a client.
 use Rattle.std.proofs.Common.{ℕ, sym, ap, ◌∙◌, filter}
-use Rattle.std.proofs.lemmas.List.{length-map}
+use Rattle.hs_run_story.proofs.Prelude.{length-map, Incoming, Key, PlainClient, Port, PlainWorkload, Leased, Buffer, crumbs_in, triggers_in, NodeWork, is_of, came_of}
 use Rattle.hs_base.specs.declared.told.Crumb.{Crumb}
 use Rattle.hs_base.specs.declared.told.Trigger.{Trigger}
-use Rattle.hs_link.specs.Contents.{Incoming}
-use Rattle.hs_live.specs.Keys.{Key}
-use Rattle.hs_live.specs.Live.{PlainClient, Port}
-use Rattle.hs_records.specs.Plain.{PlainWorkload}
-use Rattle.hs_ring.specs.Parts.{Leased}
-use Rattle.hs_words.specs.Buffers.{Buffer}
-use Rattle.hs_law_journal.specs.Doings.{crumbs_in, triggers_in}
 use Rattle.hs_run_agent.specs.Intakes.{linked}
-use Rattle.hs_run_agent.specs.Work.{NodeWork, is_of, came_of}
 use Rattle.hs_run_story.proofs.Links.{Kind}
 
 module _ (W : PlainWorkload) (node client : ℕ) where

@@ -1,24 +1,12 @@
 -- A link in the rounds: in each pass the agent receives what its end was told of, and behind it is told of what the client sent, or in each
 -- case of as much as fits.
 use Rattle.std.proofs.Common.{◌≡◌, ℕ, zero, suc, ◌+◌, ◌<◌, ◌≤◌, min, Bool, true, false, nat_lt, ltb-true, ltb-false, List, length, refl, sym, ap, ◌∙◌, arith, slice_get}
-use Rattle.std.specs.Option.{option_map_or}
-use Rattle.std.proofs.lemmas.List.{length-append}
-use Rattle.hs_lists.proofs.Places.{HasItem, get_some}
-use Rattle.hs_base.specs.declared.limits.TheConstants.{MAX_TAKEN}
-use Rattle.hs_link.specs.Contents.{Outgoing, Incoming, sent}
-use Rattle.hs_live.specs.Keys.{Key}
-use Rattle.hs_live.specs.Live.{PlainClient, Port, IsEnd}
-use Rattle.hs_records.specs.Plain.{Operation, PlainWorkload}
-use Rattle.hs_workload.specs.Validity.{IsValid}
-use Rattle.hs_run_client.specs.ClientActors.{PlainClientActor}
-use Rattle.hs_run_client.specs.Standing.{Goes, IsFlushed}
+use Rattle.hs_run_story.proofs.Prelude.{option_map_or, length-append, HasItem, get_some, MAX_TAKEN, Incoming, sent, Key, PlainClient, Port, Operation, PlainWorkload, IsValid, PlainClientActor, Goes, NodeWork, PlainNodeActors, RunState, NodeActorsStand, ClientActorMet, IsSameDoing, Came, ops_of}
+use Rattle.hs_link.specs.Contents.{Outgoing}
+use Rattle.hs_live.specs.Live.{IsEnd}
+use Rattle.hs_run_client.specs.Standing.{IsFlushed}
 use Rattle.hs_run_agent.specs.AgentActors.{PlainAgentActor, HasReceived, Passes, ReceivesInPass, EachReceives}
-use Rattle.hs_run_agent.specs.Work.{NodeWork}
-use Rattle.hs_run_story.specs.RunStates.{PlainNodeActors, RunState, NodeActorsStand}
-use Rattle.hs_run_story.specs.Meeting.{EndsMet, ClientActorMet}
-use Rattle.hs_run_story.specs.Moving.{IsSameDoing}
-use Rattle.hs_run_story.specs.Coming.{Came}
-use Rattle.hs_law_sends.specs.Sending.{ops_of}
+use Rattle.hs_run_story.specs.Meeting.{EndsMet}
 use Rattle.hs_run_story.proofs.Moments.{site_of, site_stands, site_acts, site_moves, doing_same}
 use Rattle.hs_run_story.proofs.Meetings.{caller_at, acted_at, met_at, goes_at, caller_met, caller_moved}
 

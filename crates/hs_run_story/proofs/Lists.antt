@@ -1,6 +1,6 @@
 -- Lists: what is filtered, what is mapped, and what stands behind a front.
 use Rattle.std.proofs.Common.{◌≡◌, Bool, true, false, cond, List, [], ◌∷◌, refl, sym, ◌∙◌, filter}
-use Rattle.std.specs.List.{AllByRecursion}
+use Rattle.hs_run_story.proofs.Prelude.{AllByRecursion}
 
 -- what holds of the items that pass a test
 pub all_passing : {X : Type 0} (P : X → Type 0) (p : X → Bool) (xs : List X) → AllByRecursion P (filter p xs) → AllByRecursion (λ x. p x ≡ true → P x) xs

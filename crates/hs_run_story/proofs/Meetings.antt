@@ -1,22 +1,11 @@
 -- The clients of a node in the rounds: what their drawers were answered, and what meetings tell of it.
 use Rattle.std.proofs.Common.{◌≡◌, ℕ, zero, suc, ◌+◌, ◌*◌, ◌<◌, ◌≤◌, ◌==◌, ◌||◌, Bool, true, false, List, [], ◌∷◌, ◌++◌, length, reverse, refl, sym, ap, subst, ◌∙◌, Some, None, arith, map, filter, cond, nat_lt, ltb-true, slice_get, eq-eqb, append_assoc}
-use Rattle.std.specs.List.{AllByRecursion, list_any}
-use Rattle.hs_lists.proofs.Parts.{reverse_cons}
+use Rattle.hs_run_story.proofs.Prelude.{AllByRecursion, reverse_cons, ClientId, Operation, PlainSettings, PlainWorkload, count_started, ops_of, Answer, IsValid, PlainClientActor, ClientActorIsAt, Goes, HasSentSoFar, RunState, told_of, ClientActorMet, Came, done_by, PoolEnds, PoolEndsMeet}
+use Rattle.std.specs.List.{list_any}
 use Rattle.hs_lists.proofs.Alls.{all_each}
-use Rattle.hs_base.specs.declared.ids.ClientId.{ClientId}
-use Rattle.hs_records.specs.Plain.{Operation, PlainSettings, PlainWorkload}
 use Rattle.hs_ring.specs.Parts.{AllBelow}
-use Rattle.hs_law_sends.specs.Draws.{count_started}
 use Rattle.hs_law_sends.specs.Timing.{TimedPage, timed_pages}
-use Rattle.hs_law_sends.specs.Sending.{ops_of}
-use Rattle.hs_words.specs.Ends.{Answer, GiverTurn, met, answers_in, told_in, stamps_in}
-use Rattle.hs_workload.specs.Validity.{IsValid}
-use Rattle.hs_run_client.specs.ClientActors.{PlainClientActor}
-use Rattle.hs_run_client.specs.Standing.{ClientActorIsAt, Goes, HasSentSoFar}
-use Rattle.hs_run_story.specs.RunStates.{RunState}
-use Rattle.hs_run_story.specs.Meeting.{told_of, ClientActorMet}
-use Rattle.hs_run_story.specs.Coming.{Came}
-use Rattle.hs_law_run.specs.Ends.{done_by, PoolEnds, PoolEndsMeet}
+use Rattle.hs_words.specs.Ends.{GiverTurn, met, answers_in, told_in, stamps_in}
 use Rattle.hs_law_run.proofs.UnreadShown.{told_more}
 use Rattle.hs_run_story.proofs.Drawing.{draws_long}
 use Rattle.hs_run_story.proofs.Moments.{site_of, caller_of, site_there, caller_there, site_stands, site_acts, site_meets, site_moves, giver_same}

@@ -1,29 +1,12 @@
 -- The moments of the rounds, node by node: where a node stands between two rounds, and the step that a round makes of it.
 use Rattle.std.proofs.Common.{◌≡◌, ℕ, zero, suc, ◌<◌, ◌≤◌, List, ◌++◌, length, reverse, sym, ap, subst, ◌∙◌, Some, unwrap_or, arith, map, slice_get, append-nil, append_assoc}
-use Rattle.std.specs.List.{AllByRecursion}
-use Rattle.std.proofs.lemmas.List.{length-append}
-use Rattle.hs_lists.proofs.Places.{HasItem, get_some}
-use Rattle.hs_law_agent.specs.State.{start}
-use Rattle.hs_law_agent.specs.Stepping.{AgentEvent, after}
-use Rattle.hs_records.specs.Plain.{PlainWorkload}
-use Rattle.hs_workload.specs.Validity.{IsValid}
+use Rattle.hs_run_story.proofs.Prelude.{AllByRecursion, length-append, HasItem, get_some, start, AgentEvent, after, PlainWorkload, IsValid, asks_to, asks_in, HandsReady, AreTurns, PlainClientActor, IsPageThere, IsWithin, heard_of, lent_of, NodeWork, PlainNodeActors, RunState, NodeActorsStand, RunStands, told_of, IsSameDoing, Came, NodeBetweenPasses, IsNodeBetweenPasses, IsStep}
 use Rattle.hs_workload.specs.declared.word.Setting.TheVariants as settings
-use Rattle.hs_law_journal.specs.Following.{asks_to}
-use Rattle.hs_law_journal.specs.Doings.{asks_in}
-use Rattle.hs_law_journal.specs.LoopPasses.{HandsReady}
-use Rattle.hs_law_journal.specs.Turns.{AreTurns}
-use Rattle.hs_run_client.specs.ClientActors.{PlainClientActor}
 use Rattle.hs_coord.specs.declared.asks.Asks.{Asks}
-use Rattle.hs_run_agent.specs.Agents.{IsPageThere, IsWithin}
-use Rattle.hs_run_agent.specs.Coordinators.{heard_of, asks_for}
-use Rattle.hs_run_agent.specs.Turns.{lent_of}
-use Rattle.hs_run_agent.specs.Work.{NodeWork}
-use Rattle.hs_run_story.specs.RunStates.{PlainNodeActors, RunState, NodeActorsStand, RunStands}
+use Rattle.hs_run_agent.specs.Coordinators.{asks_for}
 use Rattle.hs_run_story.specs.Acting.{NodeActorsAct}
-use Rattle.hs_run_story.specs.Meeting.{told_of, NodeActorsMeet}
-use Rattle.hs_run_story.specs.Moving.{IsSameDoing, NodeActorsMove}
-use Rattle.hs_run_story.specs.Coming.{Came}
-use Rattle.hs_run_story.specs.Spans.{NodeBetweenPasses, IsNodeBetweenPasses, IsStep}
+use Rattle.hs_run_story.specs.Meeting.{NodeActorsMeet}
+use Rattle.hs_run_story.specs.Moving.{NodeActorsMove}
 
 pub found : {X : Type 0} (xs : List X) (i : ℕ) (other : X) → i < length xs → slice_get xs i ≡ Some (unwrap_or (slice_get xs i) other)
 found xs i other low = let s = get_some xs i low in s.there ∙ ap (λ x. Some x) (ap (λ o. unwrap_or o other) (sym s.there))

@@ -1,18 +1,11 @@
 -- What a node's log has noted behind a round.
 use Rattle.std.proofs.Common.{◌≡◌, ℕ, zero, suc, ◌+◌, ◌<◌, ◌≤◌, List, [], map, take, sym, ap, ◌∙◌, arith}
-use Rattle.std.specs.List.{AllByRecursion, flat_map, range_with_len}
+use Rattle.hs_run_story.proofs.Prelude.{AllByRecursion, flat_map, range_with_len, steps_of, grown_all, added, Step, passes_of, AgentEvent, NodeWork, RoundsAreNoted, NodeBetweenPasses}
 use Rattle.hs_law_journal.proofs.Passes.{passes_are}
-use Rattle.hs_law_journal.specs.Doings.{joined, steps_of}
+use Rattle.hs_law_journal.specs.Doings.{joined}
 use Rattle.hs_law_journal.specs.LoopPasses.{IsPass}
 use Rattle.hs_law_run.proofs.Joined.{steps_joined}
-use Rattle.hs_law_run.proofs.Grown.{grown, grown_all}
-use Rattle.hs_law_run.specs.Stories.{added}
-use Rattle.hs_journal.specs.declared.journal.Step.{Step}
-use Rattle.hs_law_journal.specs.Passes.{passes_of}
-use Rattle.hs_law_agent.specs.Stepping.{AgentEvent}
-use Rattle.hs_run_agent.specs.Work.{NodeWork}
-use Rattle.hs_run_story.specs.Laws.{RoundsAreNoted}
-use Rattle.hs_run_story.specs.Spans.{NodeBetweenPasses}
+use Rattle.hs_law_run.proofs.Grown.{grown}
 use Rattle.hs_run_story.proofs.Joined.{post, heard_by, post_low, post_last, all_posts, all_steps}
 use Rattle.hs_run_story.proofs.Spanning.{grows, ends_pass}
 

@@ -1,33 +1,13 @@
 -- What the story of a run that is over comes to.
 use Rattle.std.proofs.Common.{◌≡◌, ℕ, suc, ◌+◌, ◌*◌, ◌<◌, ◌≤◌, length, refl, sym, ap, subst, ◌∙◌, Option, Some, None, unwrap_or, option_map, arith, map, filter, slice_get, List, []}
-use Rattle.std.specs.List.{range_with_len}
-use Rattle.std.specs.Option.{option_map_or}
-use Rattle.std.proofs.lemmas.Simd.{map-map}
+use Rattle.hs_run_story.proofs.Prelude.{range_with_len, option_map_or, map-map, Message, Messages, PlainJournal, Incoming, Key, book_of, EventsAddThis, after, PlainWorkload, draws_at, place_of, IsValid, crumbs_in, triggers_in, steps_of, PlainClientActor, NodeWork, is_of, PlainNodeActors, RunState, Came, Story, grown_all, Step, slice_get_within, NodeBetweenPasses, Closing, IsOver}
 use Rattle.std.proofs.Math.Nat.{mul-le-mul_right}
-use Rattle.hs_coord.specs.Messages.{Message, Messages}
-use Rattle.hs_journal.specs.Views.{PlainJournal}
 use Rattle.hs_law_journal.specs.Following.{NodeRun, followed, log_at}
-use Rattle.hs_link.specs.Contents.{Incoming}
-use Rattle.hs_live.specs.Keys.{Key}
-use Rattle.hs_law_agent.specs.Books.{book_of}
-use Rattle.hs_law_agent.specs.Laws.{EventsAddThis}
-use Rattle.hs_law_agent.specs.Stepping.{after}
-use Rattle.hs_records.specs.Plain.{PlainWorkload}
-use Rattle.hs_law_sends.specs.Sending.{draws_at, place_of}
-use Rattle.hs_workload.specs.Validity.{IsValid}
-use Rattle.hs_law_journal.specs.Doings.{NodeDoings, all_events, crumbs_in, triggers_in, journal_of, steps_of}
-use Rattle.hs_run_client.specs.ClientActors.{PlainClientActor}
-use Rattle.hs_run_agent.specs.Work.{NodeWork, is_of}
-use Rattle.hs_run_story.specs.RunStates.{PlainNodeActors, RunState}
-use Rattle.hs_run_story.specs.Coming.{Came}
+use Rattle.hs_law_journal.specs.Doings.{NodeDoings, all_events, journal_of}
 use Rattle.hs_law_run.specs.Laws.{AgentAt, agent_of, agent_behind, IsTold, StoriesAreLawful}
-use Rattle.hs_law_run.specs.Stories.{Story, doings_of, node_doings}
-use Rattle.hs_law_run.proofs.Grown.{grown_all}
-use Rattle.hs_journal.specs.declared.journal.Step.{Step}
-use Rattle.std.proofs.lemmas.Option.{slice_get-map, slice_get_within}
+use Rattle.hs_law_run.specs.Stories.{doings_of, node_doings}
+use Rattle.std.proofs.lemmas.Option.{slice_get-map}
 use Rattle.hs_lists.proofs.Ranges.{map_range_at}
-use Rattle.hs_run_story.specs.Spans.{NodeBetweenPasses}
-use Rattle.hs_run_story.specs.Closing.{Closing, IsOver}
 use Rattle.hs_run_story.specs.Laws.{LinkIsNew, AllLinksBegin, IsRecounted}
 use Rattle.hs_run_story.proofs.Joined.{heard_last, post_last}
 use Rattle.hs_run_story.proofs.LinkKinds.{chunk_links, crumb_links, trigger_links}

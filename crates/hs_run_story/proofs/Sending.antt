@@ -1,23 +1,9 @@
 -- What the clients of a run sent in its rounds, and what of it the agents took.
 use Rattle.std.proofs.Common.{◌≡◌, ℕ, zero, suc, ◌+◌, ◌-◌, ◌<◌, ◌≤◌, List, [], ◌++◌, length, sym, ap, ◌∙◌, Some, arith, map, append_assoc}
-use Rattle.std.proofs.lemmas.List.{length-map}
-use Rattle.hs_base.specs.declared.ids.ClientId.{ClientId}
+use Rattle.hs_run_story.proofs.Prelude.{length-map, ClientId, sent, PlainWorkload, Sent, ClientSends, sends_of, ops_of, Buffer, Answer, Sheet, Leased, draws_by, IsValid, PlainClientActor, HasSentSoFar, RunState, Came, done_by, sent_by}
 use Rattle.hs_journal.specs.declared.journal.Draw.{Draw}
-use Rattle.hs_link.specs.Contents.{sent}
-use Rattle.hs_records.specs.Plain.{PlainWorkload}
-use Rattle.hs_law_sends.specs.Sending.{Sent, ClientSends, sends_of, sent_within, ops_of}
-use Rattle.hs_words.specs.Buffers.{Buffer}
-use Rattle.hs_words.specs.Ends.{Answer}
-use Rattle.hs_words.specs.Pages.{Sheet}
-use Rattle.hs_ring.specs.Parts.{Leased}
-use Rattle.hs_live.specs.Writing.{draws_by}
-use Rattle.hs_workload.specs.Validity.{IsValid}
-use Rattle.hs_run_client.specs.ClientActors.{PlainClientActor}
-use Rattle.hs_run_client.specs.Standing.{HasSentSoFar, sheets_in}
-use Rattle.hs_run_story.specs.RunStates.{RunState}
-use Rattle.hs_run_story.specs.Coming.{Came}
-use Rattle.hs_law_run.specs.Ends.{done_by}
-use Rattle.hs_law_run.specs.Stories.{sent_by}
+use Rattle.hs_law_sends.specs.Sending.{sent_within}
+use Rattle.hs_run_client.specs.Standing.{sheets_in}
 use Rattle.hs_run_story.proofs.Drawing.{draws_more}
 use Rattle.hs_run_story.proofs.Moments.{site_acts}
 use Rattle.hs_run_story.proofs.Meetings.{HaveSent, caller_at, acted_at, ends_at, here_acted, caller_met, caller_moved, done_at, has_met, sent_at}

@@ -1,26 +1,10 @@
 -- What a node's passes make of its story.
 use Rattle.std.proofs.Common.{◌≡◌, ℕ, zero, suc, ◌+◌, ◌-◌, ◌<◌, ◌≤◌, min, Bool, true, false, cond, List, [], ◌∷◌, ◌++◌, length, refl, sym, ap, subst, ◌∙◌, arith, map, filter, drop, count_by, eqb-true, append-nil, append_assoc}
-use Rattle.std.proofs.lemmas.List.{length-map, map-append}
+use Rattle.hs_run_story.proofs.Prelude.{length-map, map-append, map-map, drop_front, MAX_TAKEN, Message, Messages, message, EventsAddThis, sheets_of, AgentEvent, after, AgentState, PlainWorkload, Leased, Buffer, is_from, asks_to, asks_in, heard_of, lent_of, added, AreTurns, NodeBetweenPasses, IsNodeBetweenPasses, IsStep}
 use Rattle.std.proofs.lemmas.List.Sums.{length-filter}
-use Rattle.std.proofs.lemmas.Simd.{map-map}
-use Rattle.hs_lists.proofs.Parts.{drop_front}
-use Rattle.hs_base.specs.declared.limits.TheConstants.{MAX_TAKEN}
-use Rattle.hs_coord.specs.Messages.{Message, Messages, message}
-use Rattle.hs_law_agent.specs.Laws.{EventsAddThis, sheets_of}
-use Rattle.hs_law_agent.specs.Stepping.{AgentEvent, after}
-use Rattle.hs_law_agent.specs.State.{AgentState}
-use Rattle.hs_records.specs.Plain.{PlainWorkload}
-use Rattle.hs_ring.specs.Parts.{Leased}
-use Rattle.hs_words.specs.Buffers.{Buffer}
-use Rattle.hs_law_journal.specs.Following.{is_from, asks_to}
-use Rattle.hs_law_journal.specs.Doings.{asks_in}
 use Rattle.hs_law_journal.specs.LoopPasses.{EndsPass}
-use Rattle.hs_run_agent.specs.Coordinators.{heard_of}
-use Rattle.hs_run_agent.specs.Turns.{lent_of}
-use Rattle.hs_law_run.specs.Stories.{added}
-use Rattle.hs_law_journal.specs.Turns.{Lent, AreTurns}
+use Rattle.hs_law_journal.specs.Turns.{Lent}
 use Rattle.hs_law_journal.proofs.Lents.{turns_more}
-use Rattle.hs_run_story.specs.Spans.{NodeBetweenPasses, IsNodeBetweenPasses, IsStep}
 use Rattle.hs_run_story.proofs.Chunks.{sheets_taken}
 
 -- ---- messages

@@ -1,44 +1,16 @@
 -- The story of a run that is over.
 use Rattle.std.proofs.Common.{◌≡◌, ℕ, zero, suc, ◌+◌, ◌*◌, ◌/◌, ◌%◌, ◌<◌, ◌≤◌, min, true, List, [], ◌∷◌, length, reverse, refl, sym, ap, subst, ◌∙◌, Option, Some, None, arith, map, filter, slice_get, nat_lt, eq-eqb}
-use Rattle.std.specs.List.{AllByRecursion, range_with_len}
-use Rattle.std.proofs.lemmas.List.{length-map}
+use Rattle.hs_run_story.proofs.Prelude.{AllByRecursion, range_with_len, length-map, slice_get_within, sheet_in, ClientId, MAX_TAKEN, Message, Messages, message, sent, book_of, EventsAddThis, AgentEvent, after, Operation, PlainSettings, PlainWorkload, Leased, Sent, ClientSends, sends_of, place_of, ops_of, Buffer, Answer, Sheet, IsValid, is_from, steps_of, chunks_in, crumbs_in, triggers_in, draw_answer, PlainClientActor, ClientActorIsAt, IsPageThere, NodeWork, is_of, came_of, lent_of, sheet_is, PlainNodeActors, RunState, Came, done_by, PoolEnds, Story, sent_by, NodeBetweenPasses, IsNodeBetweenPasses, IsStep, Closing, IsOver}
 use Rattle.std.proofs.lemmas.Nat.{div-mul-add}
-use Rattle.std.proofs.lemmas.Option.{slice_get_within}
 use Rattle.std.proofs.Math.Nat.{mod-eq-sub-div-mul}
 use Rattle.hs_lists.proofs.Alls.{all_at}
 use Rattle.hs_lists.proofs.Filters.{filter_few}
-use Rattle.hs_agent.specs.Points.{sheet_in}
-use Rattle.hs_base.specs.declared.ids.ClientId.{ClientId}
-use Rattle.hs_base.specs.declared.limits.TheConstants.{MAX_TAKEN}
-use Rattle.hs_coord.specs.Messages.{Message, Messages, message}
-use Rattle.hs_link.specs.Contents.{sent}
-use Rattle.hs_law_agent.specs.Books.{book_of}
-use Rattle.hs_law_agent.specs.Laws.{EventsAddThis}
-use Rattle.hs_law_agent.specs.Stepping.{AgentEvent, after}
-use Rattle.hs_records.specs.Plain.{Operation, PlainSettings, PlainWorkload}
-use Rattle.hs_ring.specs.Parts.{Leased}
-use Rattle.hs_law_sends.specs.Sending.{Sent, ClientSends, sends_of, place_of, ops_of}
 use Rattle.hs_law_sends.specs.OneMore.{items_of}
-use Rattle.hs_words.specs.Buffers.{Buffer}
-use Rattle.hs_words.specs.Ends.{Deed, Answer, IsTogether}
-use Rattle.hs_words.specs.Pages.{Sheet}
-use Rattle.hs_workload.specs.Validity.{IsValid}
-use Rattle.hs_law_journal.specs.Following.{is_from}
+use Rattle.hs_words.specs.Ends.{Deed, IsTogether}
 use Rattle.hs_law_journal.specs.Shape.{log_stamps}
-use Rattle.hs_law_journal.specs.Doings.{steps_of, chunks_in, crumbs_in, triggers_in}
-use Rattle.hs_law_run.specs.Pools.{draw_answer}
-use Rattle.hs_run_client.specs.ClientActors.{PlainClientActor}
-use Rattle.hs_run_client.specs.Standing.{ClientActorIsAt, IsLeasedTo, HasSentAll}
-use Rattle.hs_run_agent.specs.Agents.{IsPageThere}
-use Rattle.hs_run_agent.specs.Work.{NodeWork, is_of, came_of}
-use Rattle.hs_run_agent.specs.Turns.{lent_of}
-use Rattle.hs_run_agent.proofs.Taking.{sheet_is}
-use Rattle.hs_run_story.specs.RunStates.{PlainNodeActors, RunState}
-use Rattle.hs_run_story.specs.Coming.{Came}
-use Rattle.hs_law_run.specs.Ends.{done_by, PoolEnds}
-use Rattle.hs_law_run.specs.Stories.{NodeStory, Story, draws_of, sends_at, state_by, IsQueueStory, sent_by, TakesFrom, TalksWith, IsDrawnFor, PoolsWith, IsNodeStory, IsStory}
-use Rattle.hs_run_story.specs.Spans.{NodeBetweenPasses, IsNodeBetweenPasses, IsStep}
-use Rattle.hs_run_story.specs.Closing.{Closing, TakesAllOfClient, IsNodeBare, drawn_at, IsOver}
+use Rattle.hs_run_client.specs.Standing.{IsLeasedTo, HasSentAll}
+use Rattle.hs_law_run.specs.Stories.{NodeStory, draws_of, sends_at, state_by, IsQueueStory, TakesFrom, TalksWith, IsDrawnFor, PoolsWith, IsNodeStory, IsStory}
+use Rattle.hs_run_story.specs.Closing.{TakesAllOfClient, IsNodeBare, drawn_at}
 use Rattle.hs_run_story.proofs.Chunks.{own_events, chunks_came, sheets_are}
 use Rattle.hs_run_story.proofs.Drawing.{draws_answers}
 use Rattle.hs_run_story.proofs.Joined.{post, heard_by, post_low, post_high, last_site, heard_low, heard_last, post_last, heard_grows, all_posts, all_steps, ends_by, all_met, ends_low}

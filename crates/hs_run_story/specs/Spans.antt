@@ -1,6 +1,6 @@
 -- A node between two passes, in rounds or behind them, and what a pass does to it. Between passes all messages of the agent were moved to
 -- the coordinator, and all asks to the agent.
-use Rattle.std.specs.Prelude.{◌≡◌, ℕ, ◌+◌, ◌≤◌, min, List, ◌++◌, length, map}
+use Rattle.std.specs.Prelude.{[], ◌≡◌, ℕ, ◌+◌, ◌≤◌, min, List, ◌++◌, length, map}
 use Rattle.std.specs.List.{AllByRecursion, flat_map}
 use Rattle.hs_agent.specs.Points.{sheet_in}
 use Rattle.hs_base.specs.declared.limits.TheConstants.{MAX_TAKEN}

@@ -1,24 +1,11 @@
 -- A line has no fault exactly where it spells something that is allowed after the lines before it, and then it is taken.
 use Rattle.std.proofs.Common.{◌≡◌, ℕ, true, false, not, List, [], ◌∷◌, map, Option, Some, None, Ok, refl, sym, arith, ap, subst, ◌∙◌}
-use Rattle.std.specs.Prelude.{IfSome, option_and_then, decimal, is_none}
-use Rattle.std.specs.List.{AllByRecursion}
-use Rattle.std.proofs.lemmas.Bool.{not-false}
-use Rattle.hs_lists.proofs.Parts.{length_map}
-use Rattle.hs_base.specs.declared.settings.AutoRule.{AutoRule}
-use Rattle.hs_base.specs.declared.settings.AutoRule.TheVariants.{Exception, Percentile, Category, Queue}
-use Rattle.hs_text.specs.Text.{words_of, line_of, has_bad_byte, numbers_of}
-use Rattle.hs_text.specs.TextLaws.{payload_of-payload_text, line_of-words_of, words_of-line_of}
-use Rattle.hs_text.specs.Spelling.{spelled-text}
+use Rattle.hs_workload.proofs.Prelude.{IfSome, option_and_then, decimal, is_none, AllByRecursion, not-false, length_map, AutoRule, Exception, Percentile, Category, Queue, numbers_of, payload_of-payload_text, spelled-text, trace_word, Agrees, Begin, Point, Crumb, End, Fire, Sample, Keyword, Statement, Put, Declare, Watch, Start, Operate, Finish, keyword_text, all_keywords, keyword_of, keywords_told_apart, kinds_told_apart, auto_numbers, rule_numbers, says, statement_of, statement_words, statement_line, may_stand, has_no_kind, is_out_of_range, is_out_of_order, names_unknown, begins_while_open, lacks_trace, leaves_open, is_one_too_many, statement_reasons, keyword_reasons, version_of, before_words, fault_at, has_wrong_count, has_wrong_number, has_wrong_hex, Past, Draft, past_of, after, line_step}
+use Rattle.hs_text.specs.Text.{words_of, line_of, has_bad_byte}
+use Rattle.hs_text.specs.TextLaws.{line_of-words_of, words_of-line_of}
 use Rattle.hs_text.specs.Opening.{words_say, line_reasons}
-use Rattle.hs_text.specs.Writing.{trace_word}
-use Rattle.hs_text.specs.Agreement.{Agrees, NoneHolds, none_hold, none_is_first, agrees_ok, agrees_none, line_opened, opened_says, words_spelled}
-use Rattle.hs_records.specs.Plain.{Begin, Point, Crumb, End, Fire, Sample}
-use Rattle.hs_workload.specs.declared.word.Keyword.{Keyword}
+use Rattle.hs_text.specs.Agreement.{NoneHolds, none_hold, none_is_first, agrees_ok, agrees_none, line_opened, opened_says, words_spelled}
 use Rattle.hs_workload.specs.declared.word.Kind.TheVariants as kinds
-use Rattle.hs_workload.specs.Statements.{Statement, Put, Declare, Watch, Start, Operate, Finish, keyword_text, all_keywords, keyword_of, keywords_told_apart, kinds_told_apart, auto_numbers, rule_numbers, says, statement_of, statement_words, statement_line}
-use Rattle.hs_workload.specs.Faults.{may_stand, has_no_kind, is_out_of_range, is_out_of_order, names_unknown, begins_while_open, lacks_trace, leaves_open, is_one_too_many, statement_reasons, keyword_reasons, version_of, before_words, fault_at, has_wrong_count, has_wrong_number, has_wrong_hex}
-use Rattle.hs_workload.specs.LookBack.{Past}
-use Rattle.hs_workload.specs.Forward.{Draft, past_of, after, line_step}
 use Rattle.hs_workload.proofs.Exact.{line_agrees}
 use Rattle.hs_workload.proofs.Spelled.{IsSmall, Form, keyword_said, IsSpelled, says_spelled, words_said, IsRead, read, numbers_of-decimals, traces_of-words}
 

@@ -1,21 +1,8 @@
 -- The statements of a valid workload are allowed, each after those before it, and lead to that workload.
 use Rattle.std.proofs.Common.{◌≡◌, ℕ, ◌+◌, ◌*◌, ◌/◌, ◌%◌, ◌<◌, ◌≤◌, Bool, true, false, not, cond, nat_eq, nat_lt, nat_le, ◌&&◌, List, [], ◌∷◌, ◌++◌, length, map, refl, sym, ap, subst, ◌∙◌, append_assoc, append-nil, arith, eq-eqb, lt-ltb, le-leb}
-use Rattle.std.specs.List.{AllByRecursion}
-use Rattle.std.proofs.lemmas.Bool.{le-ltb, or_from, and_from}
-use borrow.Author.Tests.{ne_eqb}
-use Rattle.std.proofs.Math.Nat.{mul-le-mul, div-le_self, mod-le}
-use Rattle.hs_lists.proofs.Numbers.{nat_le_false}
-use Rattle.hs_base.specs.declared.limits.TheConstants.{MAX_NODES, MAX_CLIENTS, MAX_AUTOS, MAX_PAYLOAD, MAX_OPERATIONS}
-use Rattle.hs_base.specs.Rules.{AreRules}
-use Rattle.hs_records.specs.Records.{AreBracketed}
-use Rattle.hs_records.specs.Plain.{Operation, Begin, Point, Crumb, End, Fire, Sample, PlainWorkload}
+use Rattle.hs_workload.proofs.Prelude.{AllByRecursion, le-ltb, or_from, and_from, ne_eqb, mul-le-mul, nat_le_false, MAX_NODES, MAX_CLIENTS, MAX_AUTOS, MAX_PAYLOAD, MAX_OPERATIONS, AreRules, AreBracketed, Operation, Begin, Point, Crumb, End, Fire, Sample, PlainWorkload, setting_in, Statement, Declare, Start, Operate, Finish, statement_line, head_statements, auto_statements, client_statements, workload_statements, IsOperation, IsClient, client_pieces, workload_pieces, IsValid, operation_pieces, Draft, fresh, past_of, open_after, after, closed, workload_drafted}
+use Rattle.std.proofs.Math.Nat.{div-le_self, mod-le}
 use Rattle.hs_workload.specs.declared.word.Setting.TheVariants as settings
-use Rattle.hs_workload.specs.Settings.{setting_in}
-use Rattle.hs_workload.specs.Statements.{Statement, Declare, Start, Operate, Finish, statement_line}
-use Rattle.hs_workload.specs.Grammar.{head_statements, auto_statements, client_statements, workload_statements}
-use Rattle.hs_workload.specs.Validity.{IsOperation, IsClient, client_pieces, workload_pieces, IsValid}
-use Rattle.hs_workload.specs.LookBack.{operation_pieces}
-use Rattle.hs_workload.specs.Forward.{Draft, fresh, past_of, open_after, after, closed, workload_drafted}
 use Rattle.hs_workload.proofs.Spelled.{Form}
 use Rattle.hs_workload.proofs.Clear.{Allowed}
 use Rattle.hs_workload.proofs.Keeps.{version_in, settings_in, size_in}

@@ -1,30 +1,17 @@
 -- The forward reading of a line agrees with the list of reasons: it refuses a line for its first reason, and takes a
 -- line without one for what it says.
 use Rattle.std.proofs.Common.{◌≡◌, ℕ, suc, ◌+◌, ◌≤◌, Bool, true, false, not, ◌||◌, nat_lt, nat_le, nat_eq, List, [], ◌∷◌, length, cond, Option, Some, None, Result, Ok, Err, refl, ap, arith}
-use Rattle.std.specs.Prelude.{is_none, option_map, option_and_then}
-use borrow.Author.Tests.{ne_eqb, leb-true}
-use Rattle.hs_lists.proofs.Numbers.{nat_eq_from}
-use Rattle.hs_base.specs.declared.limits.TheConstants.{MAX_PAYLOAD, MAX_OPERATIONS, MAX_LATERALS}
-use Rattle.hs_base.specs.declared.ids.TraceId.{TraceId}
-use Rattle.hs_text.specs.Text.{number_of, payload_of, numbers_of}
-use Rattle.hs_text.specs.Steps.{◌>>=◌, unless, value_or, first_that_holds}
-use Rattle.hs_text.specs.Spelling.{spelled-every}
-use Rattle.hs_text.specs.Agreement.{Agrees, agrees_unless, agrees_check, agrees_opened}
+use Rattle.hs_workload.proofs.Prelude.{is_none, option_map, option_and_then, ne_eqb, leb-true, nat_eq_from, MAX_PAYLOAD, MAX_OPERATIONS, MAX_LATERALS, TraceId, number_of, payload_of, numbers_of, ◌>>=◌, value_or, spelled-every, Agrees, Begin, Point, Reason, Keyword, Kind, setting_in, Statement, Watch, Operate, keyword_text, all_keywords, keywords_told_apart, keyword_of, kind_of, kind_count, auto_rule, number_count, numbers_at, numbers_say, trace_of, traces_of, fire, watch_said, says, statement_of, Past, may_stand, is_out_of_range, is_out_of_order, names_unknown, begins_while_open, lacks_trace, leaves_open, is_one_too_many, has_no_kind, has_wrong_count, has_wrong_number, has_wrong_hex, statement_reasons, version_of, keyword_reasons, before_words, fault_at, Draft, past_of, after, point_step, line_step}
+use Rattle.hs_text.specs.Steps.{unless, first_that_holds}
+use Rattle.hs_text.specs.Agreement.{agrees_unless, agrees_check, agrees_opened}
 use Rattle.hs_records.specs.Records.{piece_count}
-use Rattle.hs_records.specs.Plain.{Begin, Point}
-use Rattle.hs_workload.specs.declared.refusal.Reason.{Reason}
 use Rattle.hs_workload.specs.declared.refusal.Reason.TheVariants as reasons
 use Rattle.hs_workload.specs.declared.word.Setting.TheVariants as settings
-use Rattle.hs_workload.specs.declared.word.Keyword.{Keyword}
 use Rattle.hs_workload.specs.declared.word.Keyword.TheVariants as keywords
-use Rattle.hs_workload.specs.declared.word.Kind.{Kind}
 use Rattle.hs_workload.specs.declared.word.Kind.TheVariants as kinds
 use Rattle.hs_workload.specs.declared.line.Numbers.{Numbers}
-use Rattle.hs_workload.specs.Settings.{setting_in}
-use Rattle.hs_workload.specs.Statements.{Statement, Watch, Operate, keyword_text, all_keywords, keywords_told_apart, keyword_of, kind_of, kind_count, auto_rule, number_count, numbers_at, numbers_say, trace_of, traces_of, fire, watch_said, says, statement_of}
-use Rattle.hs_workload.specs.LookBack.{Past}
-use Rattle.hs_workload.specs.Faults.{may_stand, is_out_of_range, is_out_of_order, names_unknown, begins_while_open, lacks_trace, leaves_open, is_one_too_many, has_no_kind, is_count_of, has_wrong_count, has_wrong_number, has_wrong_hex, statement_reasons, version_of, keyword_reasons, before_words, fault_at}
-use Rattle.hs_workload.specs.Forward.{Draft, past_of, after, with_payload, counted, statement_step, four_numbers, numbers_step, begin_step, point_step, trigger_step, auto_step, keyword_step, found_step, line_step}
+use Rattle.hs_workload.specs.Faults.{is_count_of}
+use Rattle.hs_workload.specs.Forward.{with_payload, counted, statement_step, four_numbers, numbers_step, begin_step, trigger_step, auto_step, keyword_step, found_step}
 
 not_one : (n : ℕ) → not (nat_eq (suc (suc n)) 1) ≡ true
 not_one n = ap not (ne_eqb (suc (suc n)) 1 (λ e. omega arith))

@@ -1,17 +1,11 @@
 -- A text has no fault exactly where it is the text of a valid workload, and then of no other workload.
 use Rattle.std.proofs.Common.{◌≡◌, ℕ, List, None, Result, Ok, Err, refl, sym, ap, ◌∙◌}
+use Rattle.hs_workload.proofs.Prelude.{first_fault_in, run, PlainWorkload, ReadError, workload_of, workload_statements, IsValid, Reads, judging, first_fault, Refuses, fresh, line_step, workload_drafted}
 use Rattle.std.specs.Prelude.{IfOk, IfErr, MatchResult}
-use Rattle.hs_text.specs.Judging.{first_fault_in}
-use Rattle.hs_text.specs.JudgingLaws.{run, run_clean, same_lines}
-use Rattle.hs_records.specs.Plain.{PlainWorkload}
-use Rattle.hs_workload.specs.declared.refusal.ReadError.{ReadError}
+use Rattle.hs_text.specs.JudgingLaws.{run_clean, same_lines}
 use Rattle.hs_workload.specs.declared.refusal.ReadError.TheVariants as errors
 use Rattle.hs_workload.specs.declared.operation.Workload.{Workload}
-use Rattle.hs_workload.specs.Views.{workload_of}
-use Rattle.hs_workload.specs.Grammar.{workload_statements, workload_lines}
-use Rattle.hs_workload.specs.Validity.{IsValid, Reads}
-use Rattle.hs_workload.specs.Faults.{judging, first_fault, Refuses}
-use Rattle.hs_workload.specs.Forward.{fresh, line_step, workload_drafted}
+use Rattle.hs_workload.specs.Grammar.{workload_lines}
 use Rattle.hs_workload.proofs.Seen.{workload_reader}
 use Rattle.hs_workload.proofs.Whole.{first_fault-judged}
 use Rattle.hs_workload.proofs.Runs.{lines_run}

@@ -1,25 +1,7 @@
 -- What is read so far says the lines so far, and stays within the limits of workloads.
 use Rattle.std.proofs.Common.{◌≡◌, ℕ, zero, suc, ◌+◌, ◌*◌, ◌/◌, ◌%◌, ◌<◌, ◌≤◌, Bool, true, false, nat_lt, List, [], ◌∷◌, ◌++◌, length, map, get_or, refl, sym, ap, ◌∙◌, append_assoc, append-nil, arith}
-use Rattle.std.specs.List.{AllByRecursion}
-use Rattle.std.proofs.Math.ListN.{get_or-eq_default}
-use Rattle.std.proofs.lemmas.Bool.{ltb-false}
-use Rattle.std.proofs.lemmas.List.{map_push}
-use borrow.Author.Tests.{ltb-true}
-use Rattle.std.proofs.Math.Nat.{mul-le-mul}
-use Rattle.hs_base.specs.declared.limits.TheConstants.{MAX_NODES, MAX_CLIENTS, MAX_OPERATIONS, MAX_TRIGGER}
-use Rattle.hs_base.specs.declared.settings.TriggerRule.{TriggerRule}
-use Rattle.hs_base.specs.declared.settings.AutoRule.{AutoRule}
-use Rattle.hs_base.specs.Rules.{AreRules, AreAutoRules}
-use Rattle.hs_records.specs.Plain.{Operation, PlainSettings}
-use Rattle.hs_records.specs.Records.{AreBracketed}
-use Rattle.hs_workload.specs.declared.word.Setting.{Setting}
+use Rattle.hs_workload.proofs.Prelude.{AllByRecursion, get_or-eq_default, ltb-false, map_push, ltb-true, mul-le-mul, MAX_NODES, MAX_CLIENTS, MAX_OPERATIONS, MAX_TRIGGER, TriggerRule, AutoRule, AreRules, AreAutoRules, Operation, PlainSettings, AreBracketed, Setting, setting_place, setting_in, least, most, Statement, Put, Declare, Watch, Start, Operate, Finish, auto_statements, client_statements, IsOperation, IsClient, client_pieces, workload_pieces, operation_pieces, Draft, fresh, closed, workload_drafted, IsSound}
 use Rattle.hs_workload.specs.declared.word.Setting.TheVariants as settings
-use Rattle.hs_workload.specs.Settings.{setting_place, setting_in, least, most}
-use Rattle.hs_workload.specs.Statements.{Statement, Put, Declare, Watch, Start, Operate, Finish}
-use Rattle.hs_workload.specs.Grammar.{auto_statements, client_statements}
-use Rattle.hs_workload.specs.Validity.{IsOperation, IsClient, client_pieces, workload_pieces}
-use Rattle.hs_workload.specs.LookBack.{operation_pieces}
-use Rattle.hs_workload.specs.Forward.{Draft, fresh, closed, workload_drafted, IsSound}
 
 -- ---- the statements of a draft
 

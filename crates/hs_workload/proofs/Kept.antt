@@ -1,32 +1,13 @@
 -- Each line that is taken keeps what was read, and adds what it says.
 use Rattle.std.proofs.Common.{◌≡◌, ℕ, zero, suc, ◌+◌, ◌*◌, ◌/◌, ◌%◌, ◌<◌, ◌≤◌, Bool, true, false, not, cond, nat_eq, nat_lt, nat_le, ◌&&◌, ◌||◌, List, [], ◌∷◌, ◌++◌, length, map, get_or, refl, sym, ap, subst, ◌∙◌, append_assoc, append-nil, length-append, arith}
-use Rattle.std.specs.List.{AllByRecursion, list_any}
-use Rattle.std.proofs.Math.ListN.{get_or-append, get_or-eq_default}
-use Rattle.std.proofs.Math.Seq.{get_or-append_seam}
+use Rattle.hs_workload.proofs.Prelude.{AllByRecursion, get_or-append, get_or-eq_default, get_or-append_seam, ltb-false, not-false, map_push, nil_from_length, ltb-true, leb-true, eqb-true, ne_eqb, nat_eq_from, MAX_TRIGGER, MAX_WEIGHT, MAX_BURST, MAX_RATE, MIN_WINDOW, MAX_WINDOW, WHOLE_SHARE, MAX_LATERALS, MAX_AUTOS, MAX_PAYLOAD, MAX_OPERATIONS, TriggerRule, AutoRule, Exception, Percentile, Category, Queue, IsRule, IsAutoRule, AreAutoRules, is_declared, fired_by, is_out, Operation, Begin, Point, Crumb, End, Fire, Sample, AreBracketed, Setting, setting_place, setting_in, least, most, Statement, Put, Declare, Watch, Start, Operate, Finish, auto_statements, client_statements, IsOperation, IsClient, client_pieces, workload_pieces, is_rule_out, is_window_out, is_auto_out, operation_pieces, Draft, past_of, closed, open_after, after}
+use Rattle.std.specs.List.{list_any}
 use Rattle.std.proofs.lemmas.List.Elements.{All-push}
 use Rattle.std.proofs.lemmas.List.Quantifiers.{all_pairs_push}
-use Rattle.std.proofs.lemmas.Bool.{and_parts, ltb-false, or_parts, not-true, not-false}
-use Rattle.std.proofs.lemmas.List.{map_push, nil_from_length}
-use borrow.Author.Tests.{ltb-true, leb-true, eqb-true, ne_eqb}
-use Rattle.hs_lists.proofs.Numbers.{nat_eq_from, nat_le_past}
+use Rattle.std.proofs.lemmas.Bool.{and_parts, or_parts, not-true}
+use Rattle.hs_lists.proofs.Numbers.{nat_le_past}
 use Rattle.hs_lists.proofs.Alls.{all_push}
-use Rattle.hs_base.specs.declared.limits.TheConstants.{MAX_TRIGGER, MAX_WEIGHT, MAX_BURST, MAX_RATE, MIN_WINDOW, MAX_WINDOW, WHOLE_SHARE, MAX_LATERALS, MAX_AUTOS, MAX_PAYLOAD, MAX_OPERATIONS}
-use Rattle.hs_base.specs.declared.settings.TriggerRule.{TriggerRule}
-use Rattle.hs_base.specs.declared.settings.AutoRule.{AutoRule}
-use Rattle.hs_base.specs.declared.settings.AutoRule.TheVariants.{Exception, Percentile, Category, Queue}
-use Rattle.hs_base.specs.Rules.{IsRule, IsAutoRule, AreAutoRules, is_declared, fired_by}
-use Rattle.hs_base.specs.Ranges.{is_out}
-use Rattle.hs_records.specs.Plain.{Operation, Begin, Point, Crumb, End, Fire, Sample}
-use Rattle.hs_records.specs.Records.{AreBracketed}
-use Rattle.hs_workload.specs.declared.word.Setting.{Setting}
 use Rattle.hs_workload.specs.declared.word.Setting.TheVariants as settings
-use Rattle.hs_workload.specs.Settings.{setting_place, setting_in, least, most}
-use Rattle.hs_workload.specs.Statements.{Statement, Put, Declare, Watch, Start, Operate, Finish}
-use Rattle.hs_workload.specs.Grammar.{auto_statements, client_statements}
-use Rattle.hs_workload.specs.Validity.{IsOperation, IsClient, client_pieces, workload_pieces}
-use Rattle.hs_workload.specs.Faults.{is_rule_out, is_window_out, is_auto_out}
-use Rattle.hs_workload.specs.LookBack.{operation_pieces}
-use Rattle.hs_workload.specs.Forward.{Draft, past_of, closed, open_after, after}
 use Rattle.hs_workload.proofs.Spelled.{Form}
 use Rattle.hs_workload.proofs.Clear.{Allowed}
 use Rattle.hs_workload.proofs.Keeps.{setting_at, setting_again, nine_places, puts, ending, behind_autos, behind_rules, behind_head, last_of, deeper, puts_more, autos_more, clients_more, clients_operated, client_more, workload_more, version_in, settings_in, size_in, IsBare, Keeps, Kept, no_autos, headed}

@@ -1,15 +1,9 @@
 -- Numbers of a head, and ids that are not declared.
 use Rattle.std.proofs.Common.{◌≡◌, ◌≢◌, ℕ, zero, suc, ◌*◌, ◌<◌, ◌≤◌, false, nat_eq, arith}
-use Rattle.std.specs.List.{All}
+use Rattle.hs_workload.proofs.Prelude.{All, ne_eqb, list_any_none, TriggerRule, is_declared, setting_in, Draft, IsSound}
 use Rattle.std.specs.Prelude.{List}
-use borrow.Author.Tests.{ne_eqb}
-use Rattle.std.proofs.lemmas.List.Folds.{list_any_none}
 use Rattle.hs_base.specs.declared.limits.TheConstants.{MIN_SIZE}
-use Rattle.hs_base.specs.declared.settings.TriggerRule.{TriggerRule}
-use Rattle.hs_base.specs.Rules.{is_declared}
 use Rattle.hs_workload.specs.declared.word.Setting.TheVariants as settings
-use Rattle.hs_workload.specs.Settings.{setting_in}
-use Rattle.hs_workload.specs.Forward.{Draft, IsSound}
 
 pub factor_positive : (a b c : ℕ) → a < b * c → 0 < c
 factor_positive a b zero h = absurd (omega (arith, h))

@@ -1,12 +1,10 @@
 -- What the reader answers, from where it stands.
 use Rattle.std.proofs.Common.{◌≡◌, ℕ, ◌+◌, List, Ok, subst, ◌∙◌}
+use Rattle.hs_workload.proofs.Prelude.{IsReading, Reason, first_fault, Refuses, Draft, error_at, line_step}
 use Rattle.hs_text.specs.Steps.{Stops}
-use Rattle.hs_text.specs.JudgingLaws.{IsReading, IsNext, reading_goes_on, line_refused}
+use Rattle.hs_text.specs.JudgingLaws.{IsNext, reading_goes_on, line_refused}
 use Rattle.hs_text.specs.declared.stop.Stop.{Stop}
 use Rattle.hs_text.specs.declared.stop.Stop.TheVariants as stops
-use Rattle.hs_workload.specs.declared.refusal.Reason.{Reason}
-use Rattle.hs_workload.specs.Faults.{first_fault, Refuses}
-use Rattle.hs_workload.specs.Forward.{Draft, error_at, line_step}
 use Rattle.hs_workload.proofs.Seen.{workload_reader, numbered}
 use Rattle.hs_workload.proofs.Whole.{first_fault-judged}
 

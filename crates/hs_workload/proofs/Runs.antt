@@ -1,30 +1,8 @@
 -- The lines of a valid workload are taken one after another, up to that workload.
 use Rattle.std.proofs.Common.{◌≡◌, ℕ, ◌+◌, ◌^◌, ◌<◌, ◌≤◌, true, false, not, nat_eq, nat_lt, nat_le, ◌||◌, ◌&&◌, List, [], ◌∷◌, ◌++◌, length, map, get_or, Ok, refl, sym, ap, subst, ◌∙◌, append_assoc, append-nil, length-append, arith, eq-eqb}
-use Rattle.std.specs.List.{AllByRecursion}
-use Rattle.std.proofs.Math.ListN.{get_or-append}
-use Rattle.std.proofs.Math.Seq.{get_or-append_seam}
-use Rattle.std.proofs.lemmas.List.Folds.{list_any_none, Any-from_list_any}
-use Rattle.std.proofs.lemmas.Bool.{le-ltb, or_from, and_from}
-use borrow.Author.Tests.{eqb-true}
-use Rattle.hs_lists.proofs.Numbers.{nat_le_false}
-use Rattle.hs_base.specs.declared.limits.TheConstants.{MAX_TRIGGER, MAX_WEIGHT, MAX_BURST, MAX_RATE, MIN_WINDOW, MAX_WINDOW, WHOLE_SHARE, MAX_LATERALS, MAX_AUTOS}
-use Rattle.hs_base.specs.declared.settings.TriggerRule.{TriggerRule}
-use Rattle.hs_base.specs.declared.settings.AutoRule.{AutoRule}
-use Rattle.hs_base.specs.declared.settings.AutoRule.TheVariants.{Exception, Percentile, Category, Queue}
-use Rattle.hs_base.specs.Rules.{IsRule, IsAutoRule, AreRules, AreAutoRules, is_declared, fired_by}
-use Rattle.hs_base.specs.Ranges.{Within, is_out}
-use Rattle.hs_text.specs.Steps.{◌>>=◌}
-use Rattle.hs_text.specs.JudgingLaws.{run}
-use Rattle.hs_records.specs.Plain.{PlainWorkload}
-use Rattle.hs_workload.specs.declared.word.Setting.{Setting}
+use Rattle.hs_workload.proofs.Prelude.{AllByRecursion, get_or-append, get_or-append_seam, list_any_none, le-ltb, or_from, and_from, eqb-true, nat_le_false, MAX_TRIGGER, MAX_WEIGHT, MAX_BURST, MAX_RATE, MIN_WINDOW, MAX_WINDOW, WHOLE_SHARE, MAX_LATERALS, MAX_AUTOS, TriggerRule, AutoRule, Exception, Percentile, Category, Queue, IsRule, IsAutoRule, AreRules, AreAutoRules, is_declared, fired_by, Within, is_out, ◌>>=◌, run, PlainWorkload, Setting, setting_place, least, most, Statement, Put, Declare, Watch, auto_numbers, statement_line, head_statements, auto_statements, IsValid, Past, is_rule_out, is_window_out, is_auto_out, Draft, fresh, past_of, after, line_step}
+use Rattle.std.proofs.lemmas.List.Folds.{Any-from_list_any}
 use Rattle.hs_workload.specs.declared.word.Setting.TheVariants as settings
-use Rattle.hs_workload.specs.Settings.{setting_place, least, most}
-use Rattle.hs_workload.specs.Statements.{Statement, Put, Declare, Watch, auto_numbers, statement_line}
-use Rattle.hs_workload.specs.Grammar.{head_statements, auto_statements}
-use Rattle.hs_workload.specs.Validity.{IsValid}
-use Rattle.hs_workload.specs.LookBack.{Past}
-use Rattle.hs_workload.specs.Faults.{is_rule_out, is_window_out, is_auto_out}
-use Rattle.hs_workload.specs.Forward.{Draft, fresh, past_of, after, line_step}
 use Rattle.hs_workload.proofs.Spelled.{IsSmall, Form}
 use Rattle.hs_workload.proofs.Clear.{Allowed, statement_taken}
 use Rattle.hs_workload.proofs.Keeps.{version_in}

@@ -1,21 +1,14 @@
 -- What a reader of workloads sees of the lines that it took, so that it reads a text as the text's lines are judged.
 use Rattle.std.proofs.Common.{◌≡◌, ℕ, ◌+◌, ◌<◌, Bool, true, false, nat_lt, List, [], ◌∷◌, ◌++◌, length, map, Option, None, Ok, refl, sym, ap, subst, ◌∙◌, arith}
+use Rattle.hs_workload.proofs.Prelude.{ltb-false, map_push, nil_from_length, ltb-true, IsReading, Begin, Point, Crumb, End, Fire, Sample, Reason, setting_in, Statement, Put, Declare, Watch, Start, Operate, Finish, statement_of, statement_line, Past, operation_pieces, fault_at, judging, version_of, Draft, fresh, past_of, open_after, after, line_step}
 use Rattle.std.specs.List.{cons_option}
-use Rattle.std.proofs.lemmas.Bool.{ltb-false}
-use Rattle.std.proofs.lemmas.List.{map_push, nil_from_length}
-use borrow.Author.Tests.{ltb-true}
 use Rattle.hs_text.specs.Judging.{onto}
-use Rattle.hs_text.specs.JudgingLaws.{Reader, IsReading, onto-append}
+use Rattle.hs_text.specs.JudgingLaws.{Reader, onto-append}
 use Rattle.hs_text.specs.Agreement.{agrees_err}
-use Rattle.hs_records.specs.Plain.{Begin, Point, Crumb, End, Fire, Sample}
-use Rattle.hs_workload.specs.declared.refusal.Reason.{Reason}
 use Rattle.hs_workload.specs.declared.refusal.Refusal.{Refusal}
 use Rattle.hs_workload.specs.declared.word.Setting.TheVariants as settings
-use Rattle.hs_workload.specs.Settings.{setting_in}
-use Rattle.hs_workload.specs.Statements.{Statement, Put, Declare, Watch, Start, Operate, Finish, statement_of, statement_line}
-use Rattle.hs_workload.specs.LookBack.{Past, past_said, said, operation_pieces}
-use Rattle.hs_workload.specs.Faults.{fault_at, fault_of, judging, version_of}
-use Rattle.hs_workload.specs.Forward.{Draft, fresh, past_of, open_after, after, line_step}
+use Rattle.hs_workload.specs.LookBack.{past_said, said}
+use Rattle.hs_workload.specs.Faults.{fault_of}
 use Rattle.hs_workload.proofs.Exact.{line_agrees}
 use Rattle.hs_workload.proofs.Clear.{IsClear, line_taken, statement_read}
 use Rattle.hs_workload.proofs.Keeps.{version_in, draft_statements, behind_head, puts, IsBare, Keeps, Kept, keeps_fresh}

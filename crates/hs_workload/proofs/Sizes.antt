@@ -1,17 +1,11 @@
 -- How large a valid workload is: its nodes and clients, where the clients of a node lie, and the pieces of operations.
 use Rattle.std.proofs.Common.{ℕ, ◌*◌, ◌≤◌, ◌≡◌, suc, ◌+◌, ◌<◌, length, ap, ◌∙◌, arith, false, List, [], ◌∷◌, take, drop, map, sym, Some, slice_get, unwrap_or}
-use Rattle.std.proofs.Math.Nat.{mul-le-mul, suc-mul, mul-le-mul_right}
-use Rattle.std.specs.List.{AllByRecursion}
+use Rattle.hs_workload.proofs.Prelude.{mul-le-mul, AllByRecursion, MAX_NODES, MAX_CLIENTS, PlainWorkload, Operation, PlainSettings, Begin, Point, End, Fire, Sample, AreBracketed, IsValid, IsClient, client_pieces, operation_pieces, operations_of}
+use Rattle.std.proofs.Math.Nat.{suc-mul, mul-le-mul_right}
 use Rattle.hs_lists.proofs.Alls.{all_each}
 use Rattle.hs_lists.proofs.Places.{sliced, unwrap_map}
-use Rattle.hs_base.specs.declared.limits.TheConstants.{MAX_NODES, MAX_CLIENTS}
 use Rattle.hs_base.specs.Listing.{Listing}
-use Rattle.hs_records.specs.Plain.{PlainWorkload, Operation, PlainSettings, Begin, Point, End, Fire, Sample}
-use Rattle.hs_records.specs.Records.{AreBracketed}
-use Rattle.hs_workload.specs.Validity.{IsValid, IsClient, client_pieces}
 use Rattle.hs_workload.specs.declared.word.Setting.TheVariants as settings
-use Rattle.hs_workload.specs.LookBack.{operation_pieces}
-use Rattle.hs_workload.specs.Views.{operations_of}
 use Rattle.hs_workload.specs.declared.operation.Op.{Op}
 use Rattle.hs_records.specs.Plain as plain
 

@@ -1,24 +1,13 @@
 -- What a line says is spelled by the line, and a spelled line says what it spells.
 use Rattle.std.proofs.Common.{◌≡◌, ℕ, ◌^◌, ◌<◌, ◌≤◌, Bool, true, false, cond, nat_eq, nat_le, List, [], ◌∷◌, length, map, drop, Option, Some, None, refl, sym, ap, subst, ◌∙◌, arith}
-use Rattle.std.specs.Prelude.{IfSome, option_map, option_and_then, decimal, ⊤}
-use Rattle.std.specs.List.{All, AllByRecursion, list_all}
-use Rattle.std.proofs.lemmas.Bool.{and_from}
-use Rattle.hs_lists.proofs.Parts.{length_map}
-use Rattle.hs_base.specs.declared.limits.TheConstants.{MAX_LATERALS}
-use Rattle.hs_base.specs.declared.ids.TraceId.{TraceId}
-use Rattle.hs_base.specs.declared.settings.AutoRule.{AutoRule}
-use Rattle.hs_base.specs.declared.settings.AutoRule.TheVariants.{Exception, Percentile, Category, Queue}
-use Rattle.hs_text.specs.Spelling.{spelled-text, spelled-every}
-use Rattle.hs_text.specs.Text.{number_of, hex_of, trace_digits, payload_of, payload_text, numbers_of}
-use Rattle.hs_text.specs.Writing.{trace_word}
-use Rattle.hs_text.specs.TextLaws.{is_word, number_of-decimal, decimal-number_of, hex_of-hex_text, hex_text-hex_of, payload_of-payload_text, payload_text-payload_of, is_word-decimal, is_word-hex_text, is_word-payload_text}
-use Rattle.hs_records.specs.Plain.{Operation, Begin, Point, Crumb, End, Fire, Sample}
-use Rattle.hs_workload.specs.declared.word.Keyword.{Keyword}
+use Rattle.hs_workload.proofs.Prelude.{IfSome, option_map, option_and_then, decimal, All, AllByRecursion, and_from, length_map, MAX_LATERALS, TraceId, AutoRule, Exception, Percentile, Category, Queue, spelled-text, spelled-every, number_of, payload_of, numbers_of, trace_word, payload_of-payload_text, Operation, Begin, Point, Crumb, End, Fire, Sample, Keyword, Kind, Statement, Put, Declare, Watch, Start, Operate, Finish, keyword_text, all_keywords, keywords_told_apart, kind_text, kind_of, kinds_told_apart, kind_count, auto_numbers, auto_rule, rule_numbers, number_count, numbers_at, numbers_say, trace_of, traces_of, fire, watch_said, says, statement_words, HasDigits}
+use Rattle.std.specs.Prelude.{⊤}
+use Rattle.std.specs.List.{list_all}
+use Rattle.hs_text.specs.Text.{hex_of, trace_digits, payload_text}
+use Rattle.hs_text.specs.TextLaws.{is_word, number_of-decimal, decimal-number_of, hex_of-hex_text, hex_text-hex_of, payload_text-payload_of, is_word-decimal, is_word-hex_text, is_word-payload_text}
 use Rattle.hs_workload.specs.declared.word.Keyword.TheVariants as keywords
-use Rattle.hs_workload.specs.declared.word.Kind.{Kind}
 use Rattle.hs_workload.specs.declared.word.Kind.TheVariants as kinds
-use Rattle.hs_workload.specs.Statements.{Statement, Put, Declare, Watch, Start, Operate, Finish, keyword_text, all_keywords, keywords_told_apart, kind_text, all_kinds, kind_of, kinds_told_apart, kind_count, auto_kind, auto_numbers, auto_rule, rule_numbers, number_count, numbers_at, numbers_say, trace_of, traces_of, fire, watch_said, says, statement_words}
-use Rattle.hs_workload.specs.Validity.{HasDigits}
+use Rattle.hs_workload.specs.Statements.{all_kinds, auto_kind}
 
 abbrev pub IsSmall : ℕ → Type 0
 IsSmall n = n < 2 ^ 64

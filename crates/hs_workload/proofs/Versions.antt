@@ -1,13 +1,7 @@
 -- A valid workload is valid in each version that its traces fit, and they fit version 2.
 use Rattle.std.proofs.Common.{ℕ, ◌^◌, ◌<◌, Bool, true, false, cond, nat_eq, List, [], ◌∷◌, arith}
-use Rattle.std.specs.List.{AllByRecursion}
-use Rattle.hs_base.specs.declared.ids.TraceId.{TraceId}
-use Rattle.hs_base.specs.Ranges.{Within}
-use Rattle.hs_records.specs.Plain.{Operation, Begin, Point, Crumb, End, Fire, Sample, PlainSettings, PlainWorkload}
-use Rattle.hs_workload.specs.declared.word.Setting.{Setting}
+use Rattle.hs_workload.proofs.Prelude.{AllByRecursion, TraceId, Within, Operation, Begin, Point, Crumb, End, Fire, Sample, PlainSettings, PlainWorkload, Setting, least, most, setting_of, HasDigits, IsOperation, IsClient, IsValid}
 use Rattle.hs_workload.specs.declared.word.Setting.TheVariants as settings
-use Rattle.hs_workload.specs.Settings.{least, most, setting_of}
-use Rattle.hs_workload.specs.Validity.{HasDigits, IsOperation, IsClient, IsValid}
 use Rattle.hs_workload.specs.Versions.{HasTraces, FitsVersion}
 
 -- ---- each version that the traces fit

@@ -1,18 +1,9 @@
 -- What the reader makes of a text that it took is a valid workload, and the text is that workload's.
 use Rattle.std.proofs.Common.{◌≡◌, ℕ, true, List, [], ◌∷◌, ◌++◌, length, map, None, refl, sym, ap, subst, ◌∙◌, arith}
-use Rattle.hs_base.specs.Ranges.{Within}
+use Rattle.hs_workload.proofs.Prelude.{Within, first_fault_in, judging, first_fault, PlainWorkload, Setting, all_settings, setting_in, setting_of, least, most, Put, Declare, statement_line, auto_statements, client_statements, workload_statements, IsValid, Reads, Draft, closed, workload_drafted}
 use Rattle.hs_text.specs.Text.{text_of}
-use Rattle.hs_text.specs.Judging.{first_fault_in}
 use Rattle.hs_text.specs.JudgingLaws.{Makes, faultless_made}
-use Rattle.hs_workload.specs.Faults.{judging, first_fault}
-use Rattle.hs_records.specs.Plain.{PlainWorkload}
-use Rattle.hs_workload.specs.declared.word.Setting.{Setting}
 use Rattle.hs_workload.specs.declared.word.Setting.TheVariants as settings
-use Rattle.hs_workload.specs.Settings.{all_settings, setting_in, setting_of, least, most}
-use Rattle.hs_workload.specs.Statements.{Put, Declare, statement_line}
-use Rattle.hs_workload.specs.Grammar.{auto_statements, client_statements, workload_statements}
-use Rattle.hs_workload.specs.Validity.{IsValid, Reads}
-use Rattle.hs_workload.specs.Forward.{Draft, closed, workload_drafted}
 use Rattle.hs_workload.proofs.Keeps.{setting_at, nine_places, puts, ending, behind_head, draft_statements, version_in, Keeps, headed}
 use Rattle.hs_workload.proofs.Kept.{clients_closed, pieces_closed}
 use Rattle.hs_workload.proofs.Seen.{workload_reader}

@@ -1,15 +1,10 @@
 -- The text of what is said, a line after the other.
 use Rattle.std.proofs.Common.{◌≡◌, ℕ, ◌+◌, ◌*◌, ◌≤◌, List, [], ◌∷◌, ◌++◌, length, map, drop, refl, sym, ap, ◌∙◌, append_assoc, arith}
+use Rattle.hs_workload.proofs.Prelude.{MAX_NODES, MAX_CLIENTS, TriggerRule, AutoRule, PlainWorkload, Statement, Declare, Watch, Finish, statement_line, IsValid, head_statements, auto_statements, client_statements, statements_text}
 use Rattle.std.proofs.lemmas.List.{append-nil, drop_all}
-use Rattle.hs_base.specs.declared.limits.TheConstants.{MAX_NODES, MAX_CLIENTS}
-use Rattle.hs_base.specs.declared.settings.TriggerRule.{TriggerRule}
-use Rattle.hs_base.specs.declared.settings.AutoRule.{AutoRule}
-use Rattle.hs_records.specs.Plain.{PlainWorkload}
-use Rattle.hs_workload.specs.Statements.{Statement, Declare, Watch, Finish, statement_line}
 use Rattle.hs_workload.specs.declared.word.Setting.TheVariants as settings
-use Rattle.hs_workload.specs.Validity.{IsValid}
 use Rattle.hs_workload.proofs.Keeps.{product_small}
-use Rattle.hs_workload.specs.Grammar.{head_statements, auto_statements, client_statements, statements_text, workload_text}
+use Rattle.hs_workload.specs.Grammar.{workload_text}
 
 pub statements_text-append : (version : ℕ) (ss ts : List Statement) → statements_text version (ss ++ ts) ≡ statements_text version ss ++ statements_text version ts
 statements_text-append version [] ts = refl

@@ -1,15 +1,8 @@
 use Rattle.std.proofs.Common.{◌≡◌, List, [], ◌∷◌, ◌++◌, refl, sym, ap, subst, ◌∙◌}
-use Rattle.std.specs.Prelude.{OnOk}
-use Rattle.std.proofs.lemmas.Result.{on_ok_weaker}
+use Rattle.hs_agent.proofs.Prelude.{OnOk, on_ok_weaker, buffer_of, Schedule, told_of, take_ask, Kept, Holds, Point, with_state, StandsAt, IsTakable, taken_in, sheet_in, chunk_taken, crumb_taken, claimed_for}
 use Rattle.hs_base.specs.declared.told.Why.TheVariants.{Answer}
-use Rattle.hs_words.specs.Buffers.{buffer_of}
-use Rattle.hs_sched.specs.Turns.{Schedule}
 use Rattle.hs_agent.specs.declared.input.Input.TheVariants as inputs
-use Rattle.hs_law_agent.specs.Messages.{told_of}
-use Rattle.hs_law_agent.specs.Stepping.{take_ask}
-use Rattle.hs_agent.specs.Keeping.{Kept, Holds, Point, with_state}
-use Rattle.hs_agent.specs.Runs.{StandsAt, IsTakable, taken_in}
-use Rattle.hs_agent.specs.Points.{sheet_in, chunk_taken, crumb_taken, trigger_taken, claimed_for}
+use Rattle.hs_agent.specs.Points.{trigger_taken}
 use Rattle.hs_agent.proofs.Offered.{holds-rest}
 use Rattle.hs_agent.proofs.Unchanged.{chunk-shares, crumb-shares, trigger-shares, claim-shares}
 use Rattle.hs_agent.proofs.Following.{stands-then, nothing-came}

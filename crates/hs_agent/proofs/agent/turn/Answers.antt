@@ -1,13 +1,8 @@
 use Rattle.std.proofs.Common.{◌≡◌, ℕ, ◌<◌, ◌≤◌, All, List, map, refl, sym, ap, subst, ◌∙◌}
-use Rattle.std.proofs.lemmas.Result.{on_ok_weaker}
-use Rattle.hs_sched.specs.declared.share.Share.{Share}
-use Rattle.hs_sched.specs.Sending.{SendsEach}
-use Rattle.hs_sched.specs.Turns.{Schedule, IsSchedule, after_turn, sent_ids}
-use Rattle.hs_sched.specs.Visits.{visited}
+use Rattle.hs_agent.proofs.Prelude.{on_ok_weaker, Share, SendsEach, Schedule, IsSchedule, after_turn, visited, Kept, Point, Holds, with_state, SendsNext, costs_of, StandsAt}
+use Rattle.hs_sched.specs.Turns.{sent_ids}
 use Rattle.hs_law_agent.specs.Turning as model
-use Rattle.hs_agent.specs.Keeping.{Kept, Point, Holds, with_state}
-use Rattle.hs_agent.specs.Reporting.{SendsNext, costs_of}
-use Rattle.hs_agent.specs.Runs.{StandsAt, schedule_of}
+use Rattle.hs_agent.specs.Runs.{schedule_of}
 use Rattle.hs_agent.proofs.Turned.{visited-once, costs-within, pins-distinct, shares-turned, sent-paged, holds-turned}
 use Rattle.hs_agent.proofs.agent.turn.Goals as goal
 

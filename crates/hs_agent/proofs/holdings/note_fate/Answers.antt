@@ -1,9 +1,6 @@
 use Rattle.std.proofs.Common.{◌≡◌, ◌<◌, length, slice_index_or, slice_set, sym, ap, ◌∙◌, arith}
-use Rattle.std.specs.Option.{option_map_or}
-use Rattle.std.proofs.lemmas.Option.{slice_get-get_or}
-use Rattle.hs_lists.proofs.Lent.{written_back}
+use Rattle.hs_agent.proofs.Prelude.{option_map_or, slice_get-get_or, written_back, Standing}
 use Rattle.hs_base.specs.declared.told.Fate.TheVariants.{Null}
-use Rattle.hs_journal.specs.declared.books.Standing.{Standing}
 use Rattle.hs_agent.proofs.holdings.note_fate.Goals as goal
 
 abbrev none : Standing

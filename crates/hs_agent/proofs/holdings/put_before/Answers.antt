@@ -1,5 +1,5 @@
 use Rattle.std.proofs.Common.{◌++◌, map, sym, ap, ◌∙◌}
-use Rattle.hs_words.specs.Buffers.{buffer_of}
+use Rattle.hs_agent.proofs.Prelude.{buffer_of}
 use Rattle.hs_agent.proofs.holdings.put_before.Goals as goal
 
 pub returns : goal.returns

@@ -1,5 +1,5 @@
 use Rattle.std.proofs.Common.{◌≡◌, ◌++◌, length, map}
-use Rattle.hs_words.specs.Buffers.{buffer_of}
+use Rattle.hs_agent.proofs.Prelude.{buffer_of}
 use Rattle.hs_agent.proofs.holdings.put_before.Given as goal
 
 -- what is not in the hand yet, and then the hand

@@ -1,9 +1,5 @@
 use Rattle.std.proofs.Common.{◌≡◌, ◌++◌, map, sym, ap, subst, ◌∙◌}
-use Rattle.std.specs.Prelude.{IfOk, filter_map}
-use Rattle.std.specs.List.{AllByRecursion}
-use Rattle.hs_words.specs.Buffers.{buffer_of}
-use Rattle.hs_index.specs.Index.{chunks_left}
-use Rattle.hs_agent.specs.Placing.{pledges_in, IsPledged, HaveOwnPlaces, lent}
+use Rattle.hs_agent.proofs.Prelude.{IfOk, filter_map, AllByRecursion, buffer_of, chunks_left, pledges_in, IsPledged, HaveOwnPlaces, lent}
 use Rattle.hs_agent.proofs.holdings.rest_of.Goals as goal
 
 pub with_leases-requires-clause-apart : goal.with_leases-requires-clause-apart

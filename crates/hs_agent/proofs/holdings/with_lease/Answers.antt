@@ -1,8 +1,6 @@
 use Rattle.std.proofs.Common.{◌≡◌, ℕ, Option, None, Some, get_or, set, length, refl, ap, sym, ◌∙◌, subst, option_map}
+use Rattle.hs_agent.proofs.Prelude.{option_map_or, written_back, Pledged, pledged_of, pledges_in}
 use Rattle.std.specs.Bool.{IsTrue}
-use Rattle.std.specs.Option.{option_map_or}
-use Rattle.hs_lists.proofs.Lent.{written_back}
-use Rattle.hs_agent.specs.Placing.{Pledged, pledged_of, pledges_in}
 use Rattle.hs_agent.proofs.Writing.{kept_at, pledges-set}
 use Rattle.hs_agent.proofs.holdings.with_lease.Goals as goal
 

@@ -1,9 +1,5 @@
 use Rattle.std.proofs.Common.{◌≡◌, List, [], ◌∷◌, ◌++◌, map, refl, sym, ap, subst, ◌∙◌}
-use Rattle.std.specs.Prelude.{filter_map}
-use Rattle.std.specs.List.{AllByRecursion}
-use Rattle.std.proofs.lemmas.List.{append_assoc, map-append}
-use Rattle.hs_words.specs.Buffers.{Buffer, buffer_of}
-use Rattle.hs_agent.specs.Placing.{Placed, HandsOut, pledges_in, IsPledged, HaveOwnPlaces, lent}
+use Rattle.hs_agent.proofs.Prelude.{filter_map, AllByRecursion, append_assoc, map-append, Buffer, buffer_of, Placed, HandsOut, pledges_in, IsPledged, HaveOwnPlaces, lent}
 use Rattle.hs_agent.proofs.Leasing.{still_pledged, first_lent}
 use Rattle.hs_agent.proofs.holdings.with_leases.Goals as goal
 

@@ -1,9 +1,5 @@
 use Rattle.std.proofs.Common.{◌≡◌, ◌++◌, length, map}
-use Rattle.std.specs.Prelude.{filter_map}
-use Rattle.std.specs.List.{AllByRecursion}
-use Rattle.hs_words.specs.Buffers.{buffer_of}
-use Rattle.hs_agent.specs.declared.placed.ArrivalPlace.{ArrivalPlace}
-use Rattle.hs_agent.specs.Placing.{pledges_in, IsPledged, HaveOwnPlaces, lent}
+use Rattle.hs_agent.proofs.Prelude.{filter_map, AllByRecursion, buffer_of, ArrivalPlace, pledges_in, IsPledged, HaveOwnPlaces, lent}
 use Rattle.hs_agent.proofs.holdings.with_leases.Given as goal
 
 -- what was handed out, and what will be, are all of them

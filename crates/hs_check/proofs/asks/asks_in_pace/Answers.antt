@@ -1,17 +1,6 @@
 use Rattle.std.proofs.Common.{◌≡◌, ℕ, ◌<◌, ◌∷◌, List, length, get_or, sym, ap, ◌∙◌, arith}
-use Rattle.std.specs.List.{list_all}
-use Rattle.std.proofs.lemmas.List.{drop_all}
-use Rattle.hs_base.specs.declared.ids.NodeId.{NodeId}
-use Rattle.hs_base.specs.declared.node_set.NodeSet.{NodeSet}
-use Rattle.hs_journal.specs.Views.{journal_of}
-use Rattle.hs_law_journal.specs.Following.{followed}
-use Rattle.hs_law_journal.specs.Pace.{asks_in_pace}
+use Rattle.hs_check.proofs.Prelude.{list_all, drop_all, NodeId, NodeSet, journal_of, followed, asks_in_pace, workload_of, found_counted, nodes_counted, step_more, step_fails, heard_for, most_passes, asks_behind_each, all_ask_enough, behind_each, is_of}
 use Rattle.hs_workload.specs.declared.word.Setting.TheVariants as settings
-use Rattle.hs_workload.specs.Views.{workload_of}
-use Rattle.hs_check_clauses.proofs.Knowing.{found_counted, nodes_counted}
-use Rattle.hs_check_clauses.proofs.Ranges.{step_more, step_fails}
-use Rattle.hs_check.specs.CountedAsks.{heard_for, most_passes, asks_behind_each, all_ask_enough}
-use Rattle.hs_check.specs.Counting.{behind_each, is_of}
 use Rattle.hs_check.specs.declared.kinds.Kind.TheVariants as kinds
 use Rattle.hs_check.proofs.Asked.{node_asks}
 use Rattle.hs_check.proofs.asks.asks_in_pace.Goals as goal

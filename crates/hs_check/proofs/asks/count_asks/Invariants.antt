@@ -1,5 +1,5 @@
 use Rattle.std.proofs.Common.{◌≡◌, ◌≤◌, ◌∷◌, ◌++◌, drop}
-use Rattle.hs_check.specs.CountedAsks.{asks_behind_each}
+use Rattle.hs_check.proofs.Prelude.{asks_behind_each}
 use Rattle.hs_check.proofs.asks.count_asks.Given as goal
 
 abbrev pub invariant-loop-place : goal.invariant-loop-place

@@ -1,6 +1,5 @@
 use Rattle.std.proofs.Common.{◌≡◌, ℕ, ◌<◌, ◌≤◌, max, length, get_or}
-use Rattle.hs_law_journal.specs.Pace.{due_of}
-use Rattle.hs_check.specs.CountedAsks.{said_behind, heard_with}
+use Rattle.hs_check.proofs.Prelude.{due_of, said_behind, heard_with}
 use Rattle.hs_check.proofs.asks.hear_due.Given as goal
 
 abbrev pub invariant-loop-pass : goal.invariant-loop-pass

@@ -1,7 +1,5 @@
 use Rattle.std.proofs.Common.{◌≡◌, ℕ, ◌+◌, max, List, length, drop, get_or, sym, ap, ◌∙◌, arith}
-use Rattle.hs_law_journal.specs.Pace.{due_of}
-use Rattle.hs_check_clauses.specs.declared.found.FoundNode.{FoundNode}
-use Rattle.hs_check.specs.CountedAsks.{said_behind, places_behind, heard_with, heard_until, heard_for}
+use Rattle.hs_check.proofs.Prelude.{due_of, FoundNode, said_behind, places_behind, heard_with, heard_until, heard_for}
 use Rattle.hs_check.proofs.Heard.{with_is, hear_more}
 use Rattle.hs_check.proofs.asks.heard_by_passes.Goals as goal
 

@@ -1,5 +1,5 @@
 use Rattle.std.proofs.Common.{◌≡◌, ℕ, ◌<◌, max, length, get_or, drop}
-use Rattle.hs_check.specs.CountedAsks.{heard_for, most_passes}
+use Rattle.hs_check.proofs.Prelude.{heard_for, most_passes}
 use Rattle.hs_check.proofs.asks.heard_by_passes.Given as goal
 
 abbrev pub invariant-loop-node : goal.invariant-loop-node

@@ -1,5 +1,5 @@
 use Rattle.std.proofs.Common.{◌≡◌, max, drop}
-use Rattle.hs_check.specs.CountedAsks.{most_passes}
+use Rattle.hs_check.proofs.Prelude.{most_passes}
 use Rattle.hs_check.proofs.asks.most_passes.Given as goal
 
 abbrev pub invariant-loop-node : goal.invariant-loop-node

@@ -1,5 +1,5 @@
 use Rattle.std.proofs.Common.{◌≡◌, ◌++◌, drop}
-use Rattle.hs_check.specs.CountedAsks.{places_behind}
+use Rattle.hs_check.proofs.Prelude.{places_behind}
 use Rattle.hs_check.proofs.asks.places_of.Given as goal
 
 abbrev pub invariant-loop-place : goal.invariant-loop-place

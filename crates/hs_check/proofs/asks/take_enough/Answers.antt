@@ -1,6 +1,5 @@
 use Rattle.std.proofs.Common.{◌≡◌, ◌+◌, ◌-◌, ◌<◌, true, leb, min, length, get_or, sym, ap, ◌∙◌, arith}
-use Rattle.hs_base.specs.declared.limits.TheConstants.{MAX_TAKEN}
-use Rattle.hs_check.specs.CountedAsks.{ask_enough_at}
+use Rattle.hs_check.proofs.Prelude.{MAX_TAKEN, ask_enough_at}
 use Rattle.hs_check.proofs.Asked.{enough_more}
 use Rattle.hs_check.proofs.asks.take_enough.Goals as goal
 

@@ -1,6 +1,5 @@
 use Rattle.std.proofs.Common.{◌≡◌, ◌-◌, ◌+◌, ◌≤◌, length}
-use Rattle.std.specs.List.{list_all, range_with_len}
-use Rattle.hs_check.specs.CountedAsks.{ask_enough_at, all_ask_enough}
+use Rattle.hs_check.proofs.Prelude.{list_all, range_with_len, ask_enough_at, all_ask_enough}
 use Rattle.hs_check.proofs.asks.take_enough.Given as goal
 
 abbrev pub invariant-loop-pass : goal.invariant-loop-pass

@@ -1,9 +1,7 @@
 use Rattle.std.proofs.Common.{◌≡◌, ◌+◌, List, [], ◌∷◌, ◌++◌, length, map, sym, ap, subst, arith, length-append}
+use Rattle.hs_check.proofs.Prelude.{agent_book_of, AgentBook, book_at}
 use Rattle.std.proofs.lemmas.Iterator.Adapters.{YieldsList-from_vec}
 use Rattle.std.proofs.lemmas.Iterator.Consumers.{YieldsList-turn, YieldsList-end}
-use Rattle.hs_journal.specs.Books.{agent_book_of}
-use Rattle.hs_journal.specs.declared.books.AgentBook.{AgentBook}
-use Rattle.hs_check.specs.Leaving.{book_at}
 use Rattle.hs_check.proofs.Finishing.{AreBooksSo, may_finish, one_more, all_books}
 use Rattle.hs_check.proofs.ending.finish_all.Goals as goal
 

@@ -1,7 +1,5 @@
 use Rattle.std.proofs.Common.{List, length}
-use Rattle.hs_law_journal.specs.Following.{NodeRun}
-use Rattle.hs_records.specs.Plain.{PlainSettings}
-use Rattle.hs_check.specs.Leaving.{AreAgentsOf}
+use Rattle.hs_check.proofs.Prelude.{NodeRun, PlainSettings, AreAgentsOf}
 use Rattle.hs_check.proofs.Finishing.{AreBooksSo}
 use Rattle.hs_check.proofs.ending.finish_all.Given as goal
 

@@ -1,5 +1,5 @@
 use Rattle.std.proofs.Common.{◌≡◌, drop}
-use Rattle.hs_check.specs.Besides.{all_beside}
+use Rattle.hs_check.proofs.Prelude.{all_beside}
 use Rattle.hs_check.proofs.gives.all_beside.Given as goal
 
 abbrev pub invariant-loop-page : goal.invariant-loop-page

@@ -1,7 +1,5 @@
 use Rattle.std.proofs.Common.{◌≡◌, ◌+◌, ◌*◌, drop}
-use Rattle.hs_journal.specs.Views.{journal_of}
-use Rattle.hs_check_clauses.specs.Happening.{drawn_from}
-use Rattle.hs_check.specs.Besides.{clients_beside}
+use Rattle.hs_check.proofs.Prelude.{journal_of, drawn_from, clients_beside}
 use Rattle.hs_check.proofs.gives.clients_beside.Given as goal
 
 abbrev pub invariant-loop-number : goal.invariant-loop-number

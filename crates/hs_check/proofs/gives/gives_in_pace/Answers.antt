@@ -1,14 +1,6 @@
 use Rattle.std.proofs.Common.{ℕ, ◌*◌, ◌∷◌, List, sym, ap, ◌∙◌, arith}
-use Rattle.hs_journal.specs.declared.journal.Draw.{Draw}
-use Rattle.hs_journal.specs.Views.{journal_of}
-use Rattle.hs_law_journal.specs.Following.{log_at}
-use Rattle.hs_law_journal.specs.Shape.{log_stamps}
+use Rattle.hs_check.proofs.Prelude.{Draw, journal_of, log_at, log_stamps, workload_of, FoundClient, drawn_from, clients_beside, behind_each, is_of}
 use Rattle.hs_workload.specs.declared.word.Setting.TheVariants as settings
-use Rattle.hs_workload.specs.Views.{workload_of}
-use Rattle.hs_check_clauses.specs.declared.found.FoundClient.{FoundClient}
-use Rattle.hs_check_clauses.specs.Happening.{drawn_from}
-use Rattle.hs_check.specs.Besides.{clients_beside}
-use Rattle.hs_check.specs.Counting.{behind_each, is_of}
 use Rattle.hs_check.specs.declared.kinds.Kind.TheVariants as kinds
 use Rattle.hs_check.proofs.Gave.{node_gives}
 use Rattle.hs_check.proofs.gives.gives_in_pace.Goals as goal

@@ -1,5 +1,5 @@
 use Rattle.std.proofs.Common.{◌≡◌, ◌++◌, drop}
-use Rattle.hs_law_journal.specs.Shape.{log_stamps}
+use Rattle.hs_check.proofs.Prelude.{log_stamps}
 use Rattle.hs_check.proofs.gives.log_stamps.Given as goal
 
 abbrev pub invariant-loop-step : goal.invariant-loop-step

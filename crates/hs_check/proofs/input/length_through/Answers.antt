@@ -1,5 +1,5 @@
 use Rattle.std.proofs.Common.{◌≡◌, ◌-◌, ◌∷◌, length, take, sym, ap, ◌∙◌, arith, length-append}
-use Rattle.hs_check.specs.Parts.{length_with}
+use Rattle.hs_check.proofs.Prelude.{length_with}
 use Rattle.hs_check.proofs.Cuts.{behind_other, with_line, to_the_end, all_of}
 use Rattle.hs_check.proofs.input.length_through.Goals as goal
 

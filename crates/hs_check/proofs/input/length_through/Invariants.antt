@@ -1,5 +1,5 @@
 use Rattle.std.proofs.Common.{◌≡◌, ◌+◌, ◌≤◌, length}
-use Rattle.hs_check.specs.Parts.{length_with}
+use Rattle.hs_check.proofs.Prelude.{length_with}
 use Rattle.hs_check.proofs.input.length_through.Given as goal
 
 abbrev pub invariant-loop-line : goal.invariant-loop-line

@@ -1,8 +1,5 @@
 use Rattle.std.proofs.Common.{◌≡◌, ℕ, Bool, List, ap, ◌∙◌}
-use Rattle.std.specs.Prelude.{◌&&◌}
-use Rattle.hs_law_journal.specs.Following.{Chunks, Crumbs, Triggers, takes}
-use Rattle.hs_law_journal.specs.Passes.{passes_of}
-use Rattle.hs_check.specs.Pacing.{numbers_in_pace}
+use Rattle.hs_check.proofs.Prelude.{◌&&◌, Chunks, Crumbs, Triggers, takes, passes_of, numbers_in_pace}
 use Rattle.hs_check.proofs.Passing.{client_pace}
 use Rattle.hs_check.proofs.items.client_in_pace.Goals as goal
 

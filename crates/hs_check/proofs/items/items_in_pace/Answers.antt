@@ -1,14 +1,5 @@
 use Rattle.std.proofs.Common.{◌≡◌, ℕ, ◌+◌, Bool, List, ◌∷◌, length, drop, sym, ap, ◌∙◌, arith}
-use Rattle.std.specs.Prelude.{zip, ◌&&◌}
-use Rattle.std.specs.List.{list_all, range_with_len}
-use Rattle.std.proofs.lemmas.List.{drop_all}
-use Rattle.hs_journal.specs.declared.journal.Step.{Step}
-use Rattle.hs_law_journal.specs.Pace.{client_in_pace}
-use Rattle.hs_law_journal.specs.Passes.{passes_of}
-use Rattle.hs_records.specs.Plain.{PlainSettings}
-use Rattle.hs_law_sends.specs.Sending.{ClientSends}
-use Rattle.hs_check_clauses.specs.Finding.{IsFoundClient}
-use Rattle.hs_check_clauses.proofs.Knowing.{found_at, found_as_many}
+use Rattle.hs_check.proofs.Prelude.{zip, ◌&&◌, list_all, range_with_len, drop_all, Step, client_in_pace, passes_of, PlainSettings, ClientSends, IsFoundClient, found_at, found_as_many}
 use Rattle.hs_check.proofs.items.items_in_pace.Goals as goal
 
 abbrev from : PlainSettings → List Step → ℕ → List ClientSends → Bool

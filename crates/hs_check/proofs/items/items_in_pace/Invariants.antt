@@ -1,11 +1,5 @@
 use Rattle.std.proofs.Common.{◌≡◌, ℕ, List, length, drop}
-use Rattle.std.specs.Prelude.{zip}
-use Rattle.std.specs.List.{list_all, range_with_len}
-use Rattle.hs_law_journal.specs.Pace.{client_in_pace}
-use Rattle.hs_law_journal.specs.Passes.{passes_of}
-use Rattle.hs_records.specs.Plain.{PlainSettings}
-use Rattle.hs_law_sends.specs.Sending.{ClientSends}
-use Rattle.hs_check_clauses.specs.Finding.{AreFound, IsFoundClient}
+use Rattle.hs_check.proofs.Prelude.{zip, list_all, range_with_len, client_in_pace, passes_of, PlainSettings, ClientSends, AreFound, IsFoundClient}
 use Rattle.hs_check.proofs.items.items_in_pace.Given as goal
 
 abbrev pub invariant-loop-number : goal.invariant-loop-number

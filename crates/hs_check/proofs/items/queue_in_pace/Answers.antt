@@ -1,6 +1,5 @@
 use Rattle.std.proofs.Common.{◌≡◌, ℕ, ◌∷◌, List, length, sum, ap, ◌∙◌, arith}
-use Rattle.hs_check.specs.Counting.{is_of, behind_each}
-use Rattle.hs_check.specs.Pacing.{all_enough}
+use Rattle.hs_check.proofs.Prelude.{is_of, behind_each, all_enough}
 use Rattle.hs_check.proofs.Passing.{counted_pace}
 use Rattle.hs_check.proofs.Tallied.{sent_few}
 use Rattle.hs_check.proofs.items.queue_in_pace.Goals as goal

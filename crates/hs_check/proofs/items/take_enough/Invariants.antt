@@ -1,6 +1,5 @@
 use Rattle.std.proofs.Common.{◌≡◌, ◌-◌, ◌+◌, ◌≤◌, length, take, sum}
-use Rattle.std.specs.List.{list_all, range_with_len}
-use Rattle.hs_check.specs.Pacing.{enough_at, all_enough}
+use Rattle.hs_check.proofs.Prelude.{list_all, range_with_len, enough_at, all_enough}
 use Rattle.hs_check.proofs.items.take_enough.Given as goal
 
 abbrev pub invariant-loop-pass : goal.invariant-loop-pass

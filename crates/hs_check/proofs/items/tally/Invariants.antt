@@ -1,5 +1,5 @@
 use Rattle.std.proofs.Common.{◌≡◌, ℕ, ◌<◌, length, take, get_or}
-use Rattle.hs_check.specs.Pacing.{sent_in}
+use Rattle.hs_check.proofs.Prelude.{sent_in}
 use Rattle.hs_check.proofs.items.tally.Given as goal
 
 abbrev pub invariant-loop-number : goal.invariant-loop-number

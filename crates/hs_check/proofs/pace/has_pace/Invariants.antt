@@ -1,9 +1,5 @@
 use Rattle.std.proofs.Common.{◌≡◌, drop}
-use Rattle.std.specs.List.{list_all}
-use Rattle.hs_journal.specs.Views.{journal_of}
-use Rattle.hs_law_journal.specs.Following.{followed}
-use Rattle.hs_records.specs.Plain.{settings_of}
-use Rattle.hs_workload.specs.Views.{workload_of}
+use Rattle.hs_check.proofs.Prelude.{list_all, journal_of, followed, settings_of, workload_of}
 use Rattle.hs_check.proofs.Paced.{keeps_pace}
 use Rattle.hs_check.proofs.pace.has_pace.Given as goal
 

@@ -1,13 +1,6 @@
 use Rattle.std.proofs.Common.{ℕ, List, length, refl, sym, ap, subst, ◌∙◌, arith}
-use Rattle.std.specs.Prelude.{zip, ◌&&◌}
-use Rattle.std.specs.List.{list_all, range_with_len}
-use Rattle.hs_journal.specs.declared.journal.Step.{Step}
-use Rattle.hs_law_journal.specs.Pace.{items_in_pace, client_in_pace}
-use Rattle.hs_law_journal.specs.Passes.{passes_of}
-use Rattle.hs_law_sends.specs.Sending.{ClientSends}
+use Rattle.hs_check.proofs.Prelude.{zip, ◌&&◌, list_all, range_with_len, Step, items_in_pace, client_in_pace, passes_of, ClientSends, workload_of, AreFound, IsFoundClient}
 use Rattle.hs_workload.specs.declared.word.Setting.TheVariants as settings
-use Rattle.hs_workload.specs.Views.{workload_of}
-use Rattle.hs_check_clauses.specs.Finding.{AreFound, IsFoundClient}
 use Rattle.hs_check.proofs.pace.keeps_pace.Goals as goal
 
 pub items_in_pace-requires-clause-some : goal.items_in_pace-requires-clause-some

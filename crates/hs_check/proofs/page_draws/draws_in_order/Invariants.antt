@@ -1,7 +1,5 @@
 use Rattle.std.proofs.Common.{◌≡◌, ◌*◌, ◌+◌, ◌++◌, drop}
-use Rattle.hs_journal.specs.Views.{journal_of}
-use Rattle.hs_check_clauses.specs.Happening.{drawn_from}
-use Rattle.hs_check.specs.PageDraws.{all_page_draws}
+use Rattle.hs_check.proofs.Prelude.{journal_of, drawn_from, all_page_draws}
 use Rattle.hs_check.proofs.page_draws.draws_in_order.Given as goal
 
 abbrev pub invariant-loop-number : goal.invariant-loop-number

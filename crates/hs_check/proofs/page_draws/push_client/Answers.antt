@@ -1,6 +1,5 @@
 use Rattle.std.proofs.Common.{◌++◌, List, sym, ap, ◌∙◌}
-use Rattle.std.proofs.lemmas.List.{append-nil}
-use Rattle.hs_check.specs.declared.page_draws.PageDraw.{PageDraw}
+use Rattle.hs_check.proofs.Prelude.{append-nil, PageDraw}
 use Rattle.hs_check.proofs.Drawing.{no_draw}
 use Rattle.hs_check.proofs.page_draws.push_client.Goals as goal
 

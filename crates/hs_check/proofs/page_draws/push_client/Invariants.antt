@@ -1,5 +1,5 @@
 use Rattle.std.proofs.Common.{◌≡◌, ◌++◌, drop}
-use Rattle.hs_check.specs.PageDraws.{page_draws}
+use Rattle.hs_check.proofs.Prelude.{page_draws}
 use Rattle.hs_check.proofs.page_draws.push_client.Given as goal
 
 abbrev pub invariant-loop-page : goal.invariant-loop-page

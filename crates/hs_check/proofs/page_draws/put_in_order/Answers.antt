@@ -1,5 +1,5 @@
 use Rattle.std.proofs.Common.{◌≡◌, ℕ, true, eqb, ltb, List, None, sym, ◌∙◌, rules}
-use Rattle.std.specs.Prelude.{filter}
+use Rattle.hs_check.proofs.Prelude.{filter, PageDraw}
 use Rattle.std.specs.List.Sorted.{IsStableByKey, ties}
 use Rattle.std.specs.Ordering.{nat_cmp, is_lt}
 use Rattle.std.proofs.lemmas.Fn.{filter_same as kept_same}
@@ -7,7 +7,6 @@ use Rattle.std.proofs.lemmas.List.Elements.{filter_agree}
 use Rattle.std.proofs.lemmas.List.Sorted.{IsNonDecreasingBy-from_sort_by_key, answers_always}
 use Rattle.hs_lists.proofs.Numbers.{nat_cmp_tie}
 use Rattle.hs_check_clauses.proofs.Sorting.{put_in_order}
-use Rattle.hs_check.specs.declared.page_draws.PageDraw.{PageDraw}
 use Rattle.hs_check.proofs.page_draws.put_in_order.Goals as goal
 
 -- what ties with a draw of a stamp has that stamp

@@ -1,10 +1,8 @@
 use Rattle.std.proofs.Common.{◌≡◌, Bool, true, false, List, [], take, get_or, refl, sym, ap, subst, ◌∙◌, arith}
-use Rattle.std.specs.Prelude.{not, ◌||◌}
+use Rattle.hs_check.proofs.Prelude.{not, ◌||◌, Step, is_unread, IsShown}
 use Rattle.std.proofs.lemmas.List.{get_or_default}
-use Rattle.hs_journal.specs.declared.journal.Step.{Step}
 use Rattle.hs_journal.specs.declared.journal.Step.TheVariants as steps
-use Rattle.hs_law_journal.specs.Passes.{is_unread}
-use Rattle.hs_check.specs.Showing.{may_be_unread, IsShown}
+use Rattle.hs_check.specs.Showing.{may_be_unread}
 use Rattle.hs_check.proofs.Noting.{has_room}
 use Rattle.hs_check.proofs.Stepping.{through, through_is, noted, goes_on, ends, at_end}
 use Rattle.hs_check.proofs.unreads.are_possible.Goals as goal

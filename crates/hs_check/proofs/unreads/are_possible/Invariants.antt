@@ -1,5 +1,6 @@
 use Rattle.std.proofs.Common.{◌≡◌, [], take, drop}
-use Rattle.hs_check.specs.Showing.{may_be_unread, IsShown}
+use Rattle.hs_check.proofs.Prelude.{IsShown}
+use Rattle.hs_check.specs.Showing.{may_be_unread}
 use Rattle.hs_check.proofs.Stepping.{through}
 use Rattle.hs_check.proofs.unreads.are_possible.Given as goal
 

@@ -1,15 +1,6 @@
 use Rattle.std.proofs.Common.{List, length, get_or, sym, ap, ◌∙◌, arith}
-use Rattle.std.specs.List.{list_all}
-use Rattle.std.proofs.lemmas.List.{drop_all}
-use Rattle.hs_journal.specs.Views.{journal_of}
-use Rattle.hs_law_journal.specs.Following.{NodeRun, followed}
-use Rattle.hs_law_journal.specs.Unreads.{before_unreads, may_be_unread}
+use Rattle.hs_check.proofs.Prelude.{list_all, drop_all, journal_of, NodeRun, followed, before_unreads, may_be_unread, workload_of, FoundNode, clients_counted, known_at, found_counted, nodes_counted, step_more, step_fails}
 use Rattle.hs_workload.specs.declared.word.Setting.TheVariants as settings
-use Rattle.hs_workload.specs.Views.{workload_of}
-use Rattle.hs_check_clauses.specs.declared.found.FoundNode.{FoundNode}
-use Rattle.hs_check_clauses.proofs.Bared.{clients_counted}
-use Rattle.hs_check_clauses.proofs.Knowing.{known_at, found_counted, nodes_counted}
-use Rattle.hs_check_clauses.proofs.Ranges.{step_more, step_fails}
 use Rattle.hs_check.proofs.UnreadOffers.{unreads_are}
 use Rattle.hs_check.proofs.unreads.has_unreads.Goals as goal
 

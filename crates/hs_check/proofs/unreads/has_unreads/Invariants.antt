@@ -1,10 +1,6 @@
 use Rattle.std.proofs.Common.{◌≡◌, drop}
-use Rattle.std.specs.List.{list_all}
-use Rattle.hs_journal.specs.Views.{journal_of}
-use Rattle.hs_law_journal.specs.Following.{NodeRun, followed}
-use Rattle.hs_law_journal.specs.Played.{played}
-use Rattle.hs_law_journal.specs.Unreads.{before_unreads, has_unreads, may_be_unread}
-use Rattle.hs_workload.specs.Views.{workload_of}
+use Rattle.hs_check.proofs.Prelude.{list_all, journal_of, NodeRun, followed, played, before_unreads, may_be_unread, workload_of}
+use Rattle.hs_law_journal.specs.Unreads.{has_unreads}
 use Rattle.hs_check.proofs.unreads.has_unreads.Given as goal
 
 abbrev pub invariant-loop-node : goal.invariant-loop-node

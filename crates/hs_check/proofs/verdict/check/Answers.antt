@@ -1,11 +1,5 @@
 use Rattle.std.proofs.Common.{◌≡◌, true, sym, ◌∙◌}
-use Rattle.hs_journal.specs.Views.{PlainJournal, journal_of}
-use Rattle.hs_law_journal.specs.Ends.{is_followed}
-use Rattle.hs_law_journal.specs.Following.{followed}
-use Rattle.hs_law_journal.specs.Played.{played}
-use Rattle.hs_records.specs.Plain.{PlainWorkload}
-use Rattle.hs_workload.specs.Views.{workload_of}
-use Rattle.hs_check.specs.Asking.{of_the_journal}
+use Rattle.hs_check.proofs.Prelude.{PlainJournal, journal_of, is_followed, followed, played, PlainWorkload, workload_of, of_the_journal}
 use Rattle.hs_check.proofs.First.{none_fails}
 use Rattle.hs_check.proofs.Left.{all_left}
 use Rattle.hs_check.proofs.Whole.{none_so, some_so, following_fails, pools_fail, behind_pools}

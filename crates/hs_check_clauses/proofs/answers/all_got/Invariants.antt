@@ -1,8 +1,5 @@
 use Rattle.std.proofs.Common.{◌≡◌, ◌*◌, drop}
-use Rattle.std.specs.List.{list_all}
-use Rattle.hs_journal.specs.Views.{journal_of}
-use Rattle.hs_check_clauses.specs.Answering.{is_got}
-use Rattle.hs_check_clauses.specs.Happening.{draw_at, drawn_from}
+use Rattle.hs_check_clauses.proofs.Prelude.{list_all, journal_of, is_got, draw_at, drawn_from}
 use Rattle.hs_check_clauses.proofs.answers.all_got.Given as goal
 
 abbrev pub invariant-loop-page : goal.invariant-loop-page

@@ -1,10 +1,6 @@
 use Rattle.std.proofs.Common.{◌≡◌, ℕ, ◌+◌, ◌<◌, Bool, true, false, List, [], ◌∷◌, length, drop, get_or, refl, sym, ap, ◌∙◌, arith}
-use Rattle.std.specs.Prelude.{◌&&◌}
-use Rattle.std.proofs.lemmas.Bool.{OnTrue_at}
-use Rattle.std.proofs.lemmas.List.{drop_more}
-use Rattle.hs_check_clauses.specs.declared.happened.StampedEvent.{StampedEvent}
+use Rattle.hs_check_clauses.proofs.Prelude.{◌&&◌, OnTrue_at, drop_more, StampedEvent, answers_last, answers_through}
 use Rattle.hs_check_clauses.specs.declared.happened.NotedEvent.TheVariants as happenings
-use Rattle.hs_check_clauses.specs.Answering.{answers_last, answers_through}
 use Rattle.hs_check_clauses.proofs.answers.answer_in_order.Goals as goal
 
 -- one event more

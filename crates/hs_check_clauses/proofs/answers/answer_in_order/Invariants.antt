@@ -1,6 +1,6 @@
 use Rattle.std.proofs.Common.{◌≡◌, List, [], drop}
-use Rattle.hs_check_clauses.specs.declared.happened.StampedEvent.{StampedEvent}
-use Rattle.hs_check_clauses.specs.Answering.{answers_through, IsLatest}
+use Rattle.hs_check_clauses.proofs.Prelude.{StampedEvent, answers_through}
+use Rattle.hs_check_clauses.specs.Answering.{IsLatest}
 use Rattle.hs_check_clauses.proofs.answers.answer_in_order.Given as goal
 
 abbrev pub invariant-loop-event : goal.invariant-loop-event

@@ -1,12 +1,6 @@
 use Rattle.std.proofs.Common.{◌≡◌, ℕ, ◌+◌, ◌<◌, ◌≤◌, Bool, List, length, drop, get_or, sym, ap, ◌∙◌, arith}
-use Rattle.std.specs.List.{list_all}
-use Rattle.std.proofs.lemmas.List.{drop_all}
-use Rattle.hs_journal.specs.Views.{journal_of}
-use Rattle.hs_law_journal.specs.Following.{followed}
-use Rattle.hs_law_journal.specs.Pooled.{gives_answer}
+use Rattle.hs_check_clauses.proofs.Prelude.{list_all, drop_all, journal_of, followed, gives_answer, workload_of, FoundNode}
 use Rattle.hs_workload.specs.declared.word.Setting.TheVariants as settings
-use Rattle.hs_workload.specs.Views.{workload_of}
-use Rattle.hs_check_clauses.specs.declared.found.FoundNode.{FoundNode}
 use Rattle.hs_check_clauses.proofs.Answering.{answers_told}
 use Rattle.hs_check_clauses.proofs.Bared.{clients_counted}
 use Rattle.hs_check_clauses.proofs.Knowing.{known_at, found_counted, nodes_counted}

@@ -1,6 +1,5 @@
 use Rattle.std.proofs.Common.{◌≡◌, ◌≤◌, take}
-use Rattle.std.specs.Prelude.{count_by}
-use Rattle.hs_base.specs.NodeSets.{has_node}
+use Rattle.hs_check_clauses.proofs.Prelude.{count_by, has_node}
 use Rattle.hs_check_clauses.proofs.bare.count_asks.Given as goal
 
 abbrev pub invariant-loop-to : goal.invariant-loop-to

@@ -1,6 +1,5 @@
 use Rattle.std.proofs.Common.{◌≡◌, ◌≤◌, take, eqb}
-use Rattle.std.specs.Prelude.{count_by}
-use Rattle.hs_base.specs.declared.ids.NodeId.{NodeId}
+use Rattle.hs_check_clauses.proofs.Prelude.{count_by, NodeId}
 use Rattle.hs_check_clauses.proofs.bare.count_told.Given as goal
 
 abbrev pub invariant-loop-other : goal.invariant-loop-other

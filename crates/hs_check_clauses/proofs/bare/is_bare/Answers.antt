@@ -1,16 +1,6 @@
 use Rattle.std.proofs.Common.{◌≡◌, ℕ, ◌+◌, ◌<◌, ◌≤◌, Bool, List, length, drop, get_or, sym, ap, ◌∙◌, eqb, arith}
-use Rattle.std.specs.Prelude.{count_by}
-use Rattle.std.specs.List.{list_all}
-use Rattle.std.proofs.lemmas.List.{drop_all}
-use Rattle.hs_base.specs.declared.ids.NodeId.{NodeId}
-use Rattle.hs_base.specs.declared.node_set.NodeSet.{NodeSet}
-use Rattle.hs_base.specs.NodeSets.{has_node}
-use Rattle.hs_journal.specs.Views.{journal_of}
-use Rattle.hs_law_journal.specs.Ends.{is_left_bare}
-use Rattle.hs_law_journal.specs.Following.{followed}
+use Rattle.hs_check_clauses.proofs.Prelude.{count_by, list_all, drop_all, NodeId, NodeSet, has_node, journal_of, is_left_bare, followed, workload_of, FoundNode}
 use Rattle.hs_workload.specs.declared.word.Setting.TheVariants as settings
-use Rattle.hs_workload.specs.Views.{workload_of}
-use Rattle.hs_check_clauses.specs.declared.found.FoundNode.{FoundNode}
 use Rattle.hs_check_clauses.proofs.Bared.{bare_is, clients_counted}
 use Rattle.hs_check_clauses.proofs.Knowing.{known_at, found_counted, nodes_counted}
 use Rattle.hs_check_clauses.proofs.Ranges.{step_more, step_fails}

@@ -1,10 +1,6 @@
 use Rattle.std.proofs.Common.{◌≡◌, drop}
-use Rattle.std.specs.List.{list_all}
-use Rattle.hs_journal.specs.Views.{journal_of}
-use Rattle.hs_law_journal.specs.Ends.{is_bare, is_left_bare}
-use Rattle.hs_law_journal.specs.Following.{followed}
-use Rattle.hs_law_journal.specs.Played.{played}
-use Rattle.hs_workload.specs.Views.{workload_of}
+use Rattle.hs_check_clauses.proofs.Prelude.{list_all, journal_of, is_left_bare, followed, played, workload_of}
+use Rattle.hs_law_journal.specs.Ends.{is_bare}
 use Rattle.hs_check_clauses.proofs.bare.is_bare.Given as goal
 
 abbrev pub invariant-loop-node : goal.invariant-loop-node

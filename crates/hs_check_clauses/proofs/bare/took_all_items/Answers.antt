@@ -1,11 +1,5 @@
 use Rattle.std.proofs.Common.{◌≡◌, ℕ, zero, suc, ◌+◌, ◌<◌, ◌≤◌, Bool, true, false, List, [], ◌∷◌, length, drop, refl, sym, ap, ◌∙◌, arith}
-use Rattle.std.specs.Prelude.{zip, ◌&&◌}
-use Rattle.std.specs.List.{list_all, range_with_len}
-use Rattle.std.proofs.lemmas.List.{drop_all}
-use Rattle.hs_journal.specs.declared.journal.Step.{Step}
-use Rattle.hs_law_journal.specs.Ends.{took_all}
-use Rattle.hs_law_sends.specs.Sending.{ClientSends}
-use Rattle.hs_check_clauses.specs.Finding.{AreFound, IsFoundClient}
+use Rattle.hs_check_clauses.proofs.Prelude.{zip, ◌&&◌, list_all, range_with_len, drop_all, Step, took_all, ClientSends, AreFound, IsFoundClient}
 use Rattle.hs_check_clauses.proofs.Knowing.{FoundAt, found_at, found_as_many}
 use Rattle.hs_check_clauses.proofs.bare.took_all_items.Goals as goal
 

@@ -1,9 +1,5 @@
 use Rattle.std.proofs.Common.{◌≡◌, ℕ, ◌-◌, List, length, drop}
-use Rattle.std.specs.Prelude.{zip}
-use Rattle.std.specs.List.{list_all, range_with_len}
-use Rattle.hs_law_journal.specs.Ends.{took_all}
-use Rattle.hs_law_sends.specs.Sending.{ClientSends}
-use Rattle.hs_check_clauses.specs.Finding.{AreFound, IsFoundClient}
+use Rattle.hs_check_clauses.proofs.Prelude.{zip, list_all, range_with_len, took_all, ClientSends, AreFound, IsFoundClient}
 use Rattle.hs_check_clauses.proofs.bare.took_all_items.Given as goal
 
 abbrev pub invariant-loop-number : goal.invariant-loop-number

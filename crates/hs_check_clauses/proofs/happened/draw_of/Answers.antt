@@ -1,5 +1,5 @@
 use Rattle.std.proofs.Common.{◌≡◌, ◌*◌, length, take, refl, arith}
-use Rattle.hs_journal.specs.Views.{journal_of}
+use Rattle.hs_check_clauses.proofs.Prelude.{journal_of}
 use Rattle.hs_check_clauses.proofs.PoolEvents.{no_client, no_page, one_page}
 use Rattle.hs_check_clauses.proofs.happened.draw_of.Goals as goal
 

@@ -1,7 +1,5 @@
 use Rattle.std.proofs.Common.{◌≡◌, ◌*◌, ◌+◌, ◌++◌, map, drop}
-use Rattle.std.specs.List.{flat_map}
-use Rattle.hs_journal.specs.Views.{journal_of}
-use Rattle.hs_check_clauses.specs.Happening.{timed_draw, drawn_from}
+use Rattle.hs_check_clauses.proofs.Prelude.{flat_map, journal_of, timed_draw, drawn_from}
 use Rattle.hs_check_clauses.proofs.happened.push_all_drawn.Given as goal
 
 abbrev pub invariant-loop-number : goal.invariant-loop-number

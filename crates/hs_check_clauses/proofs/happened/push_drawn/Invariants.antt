@@ -1,5 +1,5 @@
 use Rattle.std.proofs.Common.{◌≡◌, ◌++◌, map, take}
-use Rattle.hs_check_clauses.specs.Happening.{timed_draw}
+use Rattle.hs_check_clauses.proofs.Prelude.{timed_draw}
 use Rattle.hs_check_clauses.proofs.happened.push_drawn.Given as goal
 
 abbrev pub invariant-loop-draw : goal.invariant-loop-draw

@@ -1,6 +1,5 @@
 use Rattle.std.proofs.Common.{◌≡◌, ◌*◌, ◌≤◌, ◌++◌, length, drop}
-use Rattle.hs_journal.specs.Views.{journal_of}
-use Rattle.hs_check_clauses.specs.Happening.{drawn_from, timed_gives}
+use Rattle.hs_check_clauses.proofs.Prelude.{journal_of, drawn_from, timed_gives}
 use Rattle.hs_check_clauses.proofs.happened.push_given.Given as goal
 
 abbrev pub invariant-loop-step : goal.invariant-loop-step

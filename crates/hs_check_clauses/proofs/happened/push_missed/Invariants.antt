@@ -1,6 +1,5 @@
 use Rattle.std.proofs.Common.{◌≡◌, ◌++◌, drop}
-use Rattle.std.specs.Prelude.{filter_map}
-use Rattle.hs_check_clauses.specs.Happening.{timed_miss}
+use Rattle.hs_check_clauses.proofs.Prelude.{filter_map, timed_miss}
 use Rattle.hs_check_clauses.proofs.happened.push_missed.Given as goal
 
 abbrev pub invariant-loop-step : goal.invariant-loop-step

@@ -1,10 +1,6 @@
 use Rattle.std.proofs.Common.{◌≡◌, drop}
-use Rattle.std.specs.List.{list_all}
-use Rattle.hs_journal.specs.Views.{journal_of}
-use Rattle.hs_law_journal.specs.Following.{NodeRun, followed}
-use Rattle.hs_law_journal.specs.Played.{played}
-use Rattle.hs_law_journal.specs.Pooled.{has_history, is_history, pool_history}
-use Rattle.hs_workload.specs.Views.{workload_of}
+use Rattle.hs_check_clauses.proofs.Prelude.{list_all, journal_of, NodeRun, followed, played, is_history, pool_history, workload_of}
+use Rattle.hs_law_journal.specs.Pooled.{has_history}
 use Rattle.hs_check_clauses.proofs.history.has_history.Given as goal
 
 abbrev pub invariant-loop-node : goal.invariant-loop-node

@@ -1,8 +1,5 @@
 use Rattle.std.proofs.Common.{◌≡◌, ℕ, List, length, map, ltb, sym, ap, ◌∙◌, arith}
-use Rattle.std.specs.Prelude.{filter}
-use Rattle.hs_law_journal.specs.Pooled.{StampedPoolEvent, is_history, by_stamp}
-use Rattle.hs_check_clauses.specs.declared.happened.StampedEvent.{StampedEvent}
-use Rattle.hs_check_clauses.specs.Happening.{pool_event, events_below}
+use Rattle.hs_check_clauses.proofs.Prelude.{filter, StampedPoolEvent, is_history, by_stamp, StampedEvent, pool_event, events_below}
 use Rattle.hs_check_clauses.proofs.Histories.{events_of_pool}
 use Rattle.hs_check_clauses.proofs.history.is_history.Goals as goal
 

@@ -1,9 +1,6 @@
 use Rattle.std.proofs.Common.{◌≡◌, ℕ, ◌+◌, ◌<◌, ◌≤◌, Bool, true, false, List, [], length, drop, get_or, refl, sym, ap, ◌∙◌, arith}
-use Rattle.std.proofs.lemmas.Bool.{OnTrue_at}
-use Rattle.std.proofs.lemmas.List.{drop_all, get_or_default}
-use Rattle.hs_check_clauses.specs.declared.happened.StampedEvent.{StampedEvent}
+use Rattle.hs_check_clauses.proofs.Prelude.{OnTrue_at, drop_all, get_or_default, StampedEvent, events_below, earlier_with}
 use Rattle.hs_check_clauses.specs.declared.happened.NotedEvent.TheVariants as happenings
-use Rattle.hs_check_clauses.specs.Happening.{events_below, earlier_with}
 use Rattle.hs_check_clauses.proofs.Histories.{history_from, history_is, below_more, below_fails, one_longer}
 use Rattle.hs_check_clauses.proofs.history.may_happen.Goals as goal
 

@@ -1,7 +1,5 @@
 use Rattle.std.proofs.Common.{◌≡◌, ◌≤◌, List, length, drop}
-use Rattle.hs_law_journal.specs.Pooled.{is_history}
-use Rattle.hs_words.specs.PoolHistory.{PoolEvent}
-use Rattle.hs_check_clauses.specs.Happening.{events_below}
+use Rattle.hs_check_clauses.proofs.Prelude.{is_history, PoolEvent, events_below}
 use Rattle.hs_check_clauses.specs.Replaying.{IsReplayed}
 use Rattle.hs_check_clauses.proofs.Histories.{history_from}
 use Rattle.hs_check_clauses.proofs.history.may_happen.Given as goal

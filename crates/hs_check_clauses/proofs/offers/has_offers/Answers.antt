@@ -1,14 +1,5 @@
 use Rattle.std.proofs.Common.{◌≡◌, ℕ, ◌+◌, ◌<◌, ◌≤◌, Bool, List, length, drop, get_or, sym, ap, ◌∙◌, arith}
-use Rattle.std.specs.List.{list_all}
-use Rattle.std.proofs.lemmas.List.{drop_all}
-use Rattle.hs_journal.specs.declared.journal.Step.{Step}
-use Rattle.hs_journal.specs.Views.{journal_of}
-use Rattle.hs_law_journal.specs.Following.{followed}
-use Rattle.hs_law_journal.specs.Passes.{offers_end, passes_of}
-use Rattle.hs_records.specs.Plain.{settings_of}
-use Rattle.hs_workload.specs.Views.{workload_of}
-use Rattle.hs_check_clauses.specs.declared.found.FoundNode.{FoundNode}
-use Rattle.hs_check_clauses.specs.Offering.{ends_through}
+use Rattle.hs_check_clauses.proofs.Prelude.{list_all, drop_all, Step, journal_of, followed, offers_end, passes_of, settings_of, workload_of, FoundNode, ends_through}
 use Rattle.hs_check_clauses.proofs.Knowing.{KnownAt, known_at, found_as_many, found_counted, nodes_counted}
 use Rattle.hs_check_clauses.proofs.Offered.{offers_are, hands_counted}
 use Rattle.hs_check_clauses.proofs.Ranges.{step_more, step_fails}

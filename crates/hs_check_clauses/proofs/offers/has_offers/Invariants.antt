@@ -1,11 +1,6 @@
 use Rattle.std.proofs.Common.{◌≡◌, drop}
-use Rattle.std.specs.List.{list_all}
-use Rattle.hs_journal.specs.Views.{journal_of}
-use Rattle.hs_law_journal.specs.Following.{followed}
-use Rattle.hs_law_journal.specs.Passes.{has_offers, offers_end}
-use Rattle.hs_law_journal.specs.Played.{played}
-use Rattle.hs_records.specs.Plain.{settings_of}
-use Rattle.hs_workload.specs.Views.{workload_of}
+use Rattle.hs_check_clauses.proofs.Prelude.{list_all, journal_of, followed, offers_end, played, settings_of, workload_of}
+use Rattle.hs_law_journal.specs.Passes.{has_offers}
 use Rattle.hs_check_clauses.proofs.offers.has_offers.Given as goal
 
 abbrev pub invariant-loop-node : goal.invariant-loop-node

@@ -1,5 +1,5 @@
 use Rattle.std.proofs.Common.{◌≡◌, ◌+◌, length, sym, ◌∙◌}
-use Rattle.std.proofs.lemmas.Bool.{eq-eqb}
+use Rattle.hs_check_clauses.proofs.Prelude.{eq-eqb}
 use Rattle.hs_check_clauses.proofs.Offered.{last_ends}
 use Rattle.hs_check_clauses.proofs.offers.is_last.Goals as goal
 

@@ -1,6 +1,5 @@
 use Rattle.std.proofs.Common.{◌≡◌, ◌+◌, length, drop}
-use Rattle.hs_law_journal.specs.Passes.{passes_of}
-use Rattle.hs_check_clauses.specs.Offering.{ends_through}
+use Rattle.hs_check_clauses.proofs.Prelude.{passes_of, ends_through}
 use Rattle.hs_check_clauses.proofs.offers.offers_end.Given as goal
 
 abbrev pub invariant-loop-place : goal.invariant-loop-place

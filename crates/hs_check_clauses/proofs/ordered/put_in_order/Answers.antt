@@ -1,14 +1,10 @@
 use Rattle.std.proofs.Common.{◌≡◌, ℕ, ◌+◌, Bool, eqb, ltb, List, map, refl, sym, ap, ◌∙◌, rules}
-use Rattle.std.specs.Prelude.{filter}
+use Rattle.hs_check_clauses.proofs.Prelude.{filter, filter_agree, StampedPoolEvent, StampedEvent, pool_event}
 use Rattle.std.specs.List.Sorted.{IsStableByKey, ties}
 use Rattle.std.specs.Ordering.{nat_cmp, is_lt}
-use Rattle.std.proofs.lemmas.List.Elements.{filter_agree}
 use Rattle.std.proofs.lemmas.List.Sorted.{IsNonDecreasingBy-from_sort_by_key, answers_always}
 use Rattle.hs_lists.proofs.Numbers.{nat_cmp_tie}
-use Rattle.hs_law_journal.specs.Pooled.{StampedPoolEvent}
-use Rattle.hs_check_clauses.specs.declared.happened.StampedEvent.{StampedEvent}
 use Rattle.hs_check_clauses.specs.declared.happened.NotedEvent.TheVariants as happenings
-use Rattle.hs_check_clauses.specs.Happening.{pool_event}
 use Rattle.hs_check_clauses.proofs.Sorting.{put_in_order, buckets-map}
 use Rattle.hs_check_clauses.proofs.ordered.put_in_order.Goals as goal
 

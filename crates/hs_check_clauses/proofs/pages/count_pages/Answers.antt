@@ -1,5 +1,5 @@
 use Rattle.std.proofs.Common.{◌≡◌, ◌+◌, ◌≤◌, map, drop, arith}
-use Rattle.hs_workload.specs.Views.{operation_of}
+use Rattle.hs_check_clauses.proofs.Prelude.{operation_of}
 use Rattle.hs_check_clauses.proofs.Filled.{pages_are_started, pages_are_few, step_is, rest_is}
 use Rattle.hs_check_clauses.proofs.pages.count_pages.Goals as goal
 

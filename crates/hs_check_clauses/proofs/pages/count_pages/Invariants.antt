@@ -1,6 +1,5 @@
 use Rattle.std.proofs.Common.{◌≡◌, ◌+◌, map, drop}
-use Rattle.hs_workload.specs.Views.{operation_of}
-use Rattle.hs_check_clauses.specs.Filling.{started_from}
+use Rattle.hs_check_clauses.proofs.Prelude.{operation_of, started_from}
 use Rattle.hs_check_clauses.proofs.pages.count_pages.Given as goal
 
 abbrev pub invariant-loop-operation : goal.invariant-loop-operation

@@ -1,13 +1,6 @@
 use Rattle.std.proofs.Common.{◌≡◌, ℕ, ◌<◌, ◌≤◌, ◌+◌, Bool, true, false, List, [], ◌∷◌, ◌++◌, length, drop, get_or, Option, Some, None, subst, sym, ap, ◌∙◌, arith}
-use Rattle.std.specs.List.{list_all, flat_map, range_with_len}
-use Rattle.std.proofs.lemmas.Bool.{eqb-false}
-use Rattle.std.proofs.lemmas.List.{drop_more, drop_all}
-use Rattle.hs_journal.specs.declared.journal.Step.{Step}
-use Rattle.hs_law_journal.specs.Following.{Queue, Asks}
-use Rattle.hs_law_journal.specs.Passes.{is_whole_pass, passes_of, queues_of, client_queues}
-use Rattle.hs_records.specs.Plain.{PlainWorkload}
-use Rattle.hs_check_clauses.specs.declared.passes.Walk.{Walk}
-use Rattle.hs_check_clauses.specs.Walking.{goes_through, walk_behind, is_turned, at_start}
+use Rattle.hs_check_clauses.proofs.Prelude.{list_all, flat_map, range_with_len, eqb-false, drop_more, drop_all, Step, Queue, Asks, is_whole_pass, passes_of, queues_of, client_queues, PlainWorkload, Walk, goes_through, walk_behind, at_start}
+use Rattle.hs_check_clauses.specs.Walking.{is_turned}
 use Rattle.hs_check_clauses.proofs.Queues.{queue_count, Match, queues_match}
 use Rattle.hs_check_clauses.proofs.Walked.{walked}
 use Rattle.hs_check_clauses.proofs.passes.are_whole.Goals as goal

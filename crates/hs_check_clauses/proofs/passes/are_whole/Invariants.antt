@@ -1,5 +1,5 @@
 use Rattle.std.proofs.Common.{◌≡◌, drop}
-use Rattle.hs_check_clauses.specs.Walking.{goes_through, at_start}
+use Rattle.hs_check_clauses.proofs.Prelude.{goes_through, at_start}
 use Rattle.hs_check_clauses.proofs.passes.are_whole.Given as goal
 
 abbrev pub invariant-loop-step : goal.invariant-loop-step

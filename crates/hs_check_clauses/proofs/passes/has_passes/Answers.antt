@@ -1,11 +1,5 @@
 use Rattle.std.proofs.Common.{◌≡◌, ℕ, Bool, List, refl, sym, ap, ◌∙◌}
-use Rattle.std.specs.List.{list_all}
-use Rattle.hs_journal.specs.declared.journal.Step.{Step}
-use Rattle.hs_journal.specs.Views.{PlainJournal, journal_of}
-use Rattle.hs_law_journal.specs.Following.{log_at}
-use Rattle.hs_law_journal.specs.Passes.{is_whole_pass, passes_of, queues_of}
-use Rattle.hs_records.specs.Plain.{PlainWorkload}
-use Rattle.hs_workload.specs.Views.{workload_of}
+use Rattle.hs_check_clauses.proofs.Prelude.{list_all, Step, PlainJournal, journal_of, log_at, is_whole_pass, passes_of, queues_of, PlainWorkload, workload_of}
 use Rattle.hs_check_clauses.proofs.Ranges.{all_more, all_fails, all_done}
 use Rattle.hs_check_clauses.proofs.passes.has_passes.Goals as goal
 

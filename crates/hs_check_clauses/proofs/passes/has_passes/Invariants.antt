@@ -1,10 +1,6 @@
 use Rattle.std.proofs.Common.{◌≡◌}
-use Rattle.std.specs.List.{list_all}
-use Rattle.hs_journal.specs.Views.{journal_of}
-use Rattle.hs_law_journal.specs.Following.{log_at}
-use Rattle.hs_law_journal.specs.Passes.{has_passes, is_whole_pass, passes_of, queues_of}
-use Rattle.hs_law_journal.specs.Played.{played}
-use Rattle.hs_workload.specs.Views.{workload_of}
+use Rattle.hs_check_clauses.proofs.Prelude.{list_all, journal_of, log_at, is_whole_pass, passes_of, queues_of, played, workload_of}
+use Rattle.hs_law_journal.specs.Passes.{has_passes}
 use Rattle.hs_check_clauses.proofs.Ranges.{range_from}
 use Rattle.hs_check_clauses.proofs.passes.has_passes.Given as goal
 

@@ -1,6 +1,5 @@
 use Rattle.std.proofs.Common.{◌≡◌, length, map, fold, max, drop}
-use Rattle.hs_law_journal.specs.Ends.{rounds_for, rounds_of}
-use Rattle.hs_workload.specs.Views.{operations_of, workload_of}
+use Rattle.hs_check_clauses.proofs.Prelude.{rounds_for, rounds_of, operations_of, workload_of}
 use Rattle.hs_check_clauses.proofs.rounds.count_rounds.Given as goal
 
 abbrev pub invariant-loop-operations : goal.invariant-loop-operations

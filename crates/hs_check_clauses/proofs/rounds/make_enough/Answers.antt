@@ -1,11 +1,5 @@
 use Rattle.std.proofs.Common.{◌≡◌, ℕ, Bool, ◌+◌, List, sym, ap, ◌∙◌, arith}
-use Rattle.std.specs.Prelude.{count_by}
-use Rattle.std.specs.List.{list_all, range_with_len}
-use Rattle.hs_journal.specs.declared.journal.Step.{Step}
-use Rattle.hs_journal.specs.Views.{PlainJournal, journal_of}
-use Rattle.hs_law_journal.specs.Following.{log_at}
-use Rattle.hs_law_journal.specs.Passes.{is_turn}
-use Rattle.hs_check_clauses.specs.Rounds.{are_enough}
+use Rattle.hs_check_clauses.proofs.Prelude.{count_by, list_all, range_with_len, Step, PlainJournal, journal_of, log_at, is_turn, are_enough}
 use Rattle.hs_check_clauses.proofs.Ranges.{all_more, all_fails, all_done}
 use Rattle.hs_check_clauses.proofs.rounds.make_enough.Goals as goal
 

@@ -1,10 +1,5 @@
 use Rattle.std.proofs.Common.{◌≡◌}
-use Rattle.std.specs.Prelude.{count_by}
-use Rattle.std.specs.List.{list_all, range_with_len}
-use Rattle.hs_journal.specs.Views.{journal_of}
-use Rattle.hs_law_journal.specs.Following.{log_at}
-use Rattle.hs_law_journal.specs.Passes.{is_turn}
-use Rattle.hs_check_clauses.specs.Rounds.{are_enough}
+use Rattle.hs_check_clauses.proofs.Prelude.{count_by, list_all, range_with_len, journal_of, log_at, is_turn, are_enough}
 use Rattle.hs_check_clauses.proofs.Ranges.{range_from}
 use Rattle.hs_check_clauses.proofs.rounds.make_enough.Given as goal
 

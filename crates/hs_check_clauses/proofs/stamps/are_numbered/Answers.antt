@@ -1,9 +1,6 @@
 use Rattle.std.proofs.Common.{◌≡◌, ℕ, ◌+◌, ◌<◌, ◌≤◌, Bool, true, false, eqb, ltb, length, get_or, take, refl, sym, ap, ◌∙◌, arith, take_all}
-use Rattle.std.specs.Prelude.{count_by}
-use Rattle.std.proofs.lemmas.Bool.{eq-eqb, lt-ltb}
-use Rattle.std.proofs.lemmas.List.{get_or_default, length-set}
-use Rattle.std.proofs.lemmas.List.Sums.{count_by_more_yes}
-use Rattle.hs_lists.proofs.Counts.{one_if, one_few}
+use Rattle.hs_check_clauses.proofs.Prelude.{count_by, eq-eqb, lt-ltb, get_or_default, length-set, count_by_more_yes, one_if}
+use Rattle.hs_lists.proofs.Counts.{one_few}
 use Rattle.hs_check_clauses.proofs.Numbered.{numbered, too_high, twice, marked}
 use Rattle.hs_check_clauses.proofs.stamps.are_numbered.Goals as goal
 

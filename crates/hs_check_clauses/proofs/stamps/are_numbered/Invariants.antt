@@ -1,12 +1,5 @@
 use Rattle.std.proofs.Common.{◌≡◌, ℕ, ◌<◌, ◌++◌, List, length, get_or, take, drop, eqb, ltb, cond, true, false}
-use Rattle.std.specs.Prelude.{count_by}
-use Rattle.std.specs.List.{list_all, flat_map, range_with_len}
-use Rattle.hs_journal.specs.Views.{journal_of}
-use Rattle.hs_law_journal.specs.Played.{played, nodes_of}
-use Rattle.hs_law_journal.specs.Shape.{has_stamps, node_has_stamps, node_stamps, node_draws, draw_stamps, log_stamps, rise}
-use Rattle.hs_law_sends.specs.Sending.{draws_at, place_of}
-use Rattle.hs_workload.specs.Views.{workload_of}
-use Rattle.hs_check_clauses.specs.Rising.{rise_behind}
+use Rattle.hs_check_clauses.proofs.Prelude.{count_by, list_all, flat_map, range_with_len, journal_of, played, nodes_of, has_stamps, node_has_stamps, node_stamps, node_draws, draw_stamps, log_stamps, rise, draws_at, place_of, workload_of, rise_behind}
 use Rattle.hs_check_clauses.proofs.Ranges.{range_from}
 use Rattle.hs_check_clauses.proofs.stamps.are_numbered.Given as goal
 

@@ -1,11 +1,6 @@
 use Rattle.std.proofs.Common.{◌≡◌, ℕ, Bool, ◌+◌, List, sym, ap, ◌∙◌, arith}
-use Rattle.std.specs.List.{list_all, range_with_len}
+use Rattle.hs_check_clauses.proofs.Prelude.{list_all, range_with_len, Draw, PlainJournal, journal_of, draw_stamps, rise, node_draws, draws_at, place_of, workload_of}
 use Rattle.hs_lists.proofs.Tests.{list_all_map}
-use Rattle.hs_journal.specs.declared.journal.Draw.{Draw}
-use Rattle.hs_journal.specs.Views.{PlainJournal, journal_of}
-use Rattle.hs_law_journal.specs.Shape.{draw_stamps, rise, node_draws}
-use Rattle.hs_law_sends.specs.Sending.{draws_at, place_of}
-use Rattle.hs_workload.specs.Views.{workload_of}
 use Rattle.hs_check_clauses.proofs.Ranges.{all_more, all_fails, all_done}
 use Rattle.hs_check_clauses.proofs.stamps.clients_rise.Goals as goal
 

@@ -1,7 +1,5 @@
 use Rattle.std.proofs.Common.{◌≡◌, sym, ◌∙◌}
-use Rattle.hs_journal.specs.Views.{journal_of}
-use Rattle.hs_law_journal.specs.Shape.{node_has_stamps}
-use Rattle.hs_workload.specs.Views.{workload_of}
+use Rattle.hs_check_clauses.proofs.Prelude.{journal_of, node_has_stamps, workload_of}
 use Rattle.hs_check_clauses.proofs.Ranges.{all_more, all_fails, all_done}
 use Rattle.hs_check_clauses.proofs.stamps.has_stamps.Goals as goal
 

@@ -1,13 +1,6 @@
 use Rattle.std.proofs.Common.{◌≡◌, ℕ, ◌+◌, ◌++◌, List, sym, ap, ◌∙◌, arith}
-use Rattle.std.specs.List.{flat_map, range_with_len}
+use Rattle.hs_check_clauses.proofs.Prelude.{flat_map, range_with_len, Draw, Step, PlainJournal, journal_of, draw_stamps, log_stamps, node_draws, log_at, draws_at, place_of, workload_of}
 use Rattle.std.proofs.lemmas.List.Folds.{flat_map-map}
-use Rattle.hs_journal.specs.declared.journal.Draw.{Draw}
-use Rattle.hs_journal.specs.declared.journal.Step.{Step}
-use Rattle.hs_journal.specs.Views.{PlainJournal, journal_of}
-use Rattle.hs_law_journal.specs.Shape.{draw_stamps, log_stamps, node_draws}
-use Rattle.hs_law_journal.specs.Following.{log_at}
-use Rattle.hs_law_sends.specs.Sending.{draws_at, place_of}
-use Rattle.hs_workload.specs.Views.{workload_of}
 use Rattle.hs_check_clauses.proofs.Ranges.{range_from, told_more, told_all}
 use Rattle.hs_check_clauses.proofs.stamps.stamps_of.Goals as goal
 

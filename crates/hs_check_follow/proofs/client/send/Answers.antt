@@ -1,12 +1,5 @@
 use Rattle.std.proofs.Common.{◌≡◌, List, ◌++◌, length, map, ap, ◌∙◌, subst, arith}
-use Rattle.std.proofs.lemmas.List.{length-map}
-use Rattle.hs_client.specs.Calls.{note_of}
-use Rattle.hs_journal.specs.Books.{PlainClientBook}
-use Rattle.hs_journal.specs.declared.journal.Draw.{Draw}
-use Rattle.hs_records.specs.Pages.{pages_of}
-use Rattle.hs_records.specs.Plain.{settings_of}
-use Rattle.hs_workload.specs.Views.{operation_of}
-use Rattle.hs_check_follow.specs.Gathering.{IsSentBy}
+use Rattle.hs_check_follow.proofs.Prelude.{length-map, note_of, PlainClientBook, Draw, pages_of, settings_of, operation_of, IsSentBy}
 use Rattle.hs_check_follow.proofs.NothingSent.{begins_so}
 use Rattle.hs_check_follow.proofs.Whole.{Ends, crumbs, triggers, found}
 use Rattle.hs_check_follow.proofs.client.send.Goals as goal

@@ -1,7 +1,5 @@
 use Rattle.std.proofs.Common.{map}
-use Rattle.hs_records.specs.Plain.{settings_of}
-use Rattle.hs_workload.specs.Views.{operation_of}
-use Rattle.hs_check_follow.specs.Gathering.{IsSentBy}
+use Rattle.hs_check_follow.proofs.Prelude.{settings_of, operation_of, IsSentBy}
 use Rattle.hs_check_follow.proofs.client.send.Given as goal
 
 abbrev pub invariant-loop-number : goal.invariant-loop-number

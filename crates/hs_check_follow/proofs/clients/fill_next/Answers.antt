@@ -1,12 +1,6 @@
 use Rattle.std.proofs.Common.{◌≡◌, ◌<◌, List, length, map, refl, sym, ap, subst, ◌∙◌}
-use Rattle.hs_base.specs.declared.ids.ClientId.{ClientId}
+use Rattle.hs_check_follow.proofs.Prelude.{ClientId, Fills, MayFill, Operation, operations_at, place_of, buffer_in, operation_of, workload_of, own_operations}
 use Rattle.hs_base.specs.declared.settings.AutoRule.{AutoRule}
-use Rattle.hs_check_follow.specs.Fillings.{Fills, MayFill}
-use Rattle.hs_records.specs.Plain.{Operation}
-use Rattle.hs_law_sends.specs.Sending.{operations_at, place_of}
-use Rattle.hs_words.specs.Buffers.{buffer_in}
-use Rattle.hs_workload.specs.Views.{operation_of, workload_of}
-use Rattle.hs_check_follow.specs.Clients.{own_operations}
 use Rattle.hs_check_follow.proofs.clients.fill_next.Goals as goal
 
 pub operations_of-operations-requires : goal.operations_of-operations-requires

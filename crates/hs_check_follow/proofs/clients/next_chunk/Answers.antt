@@ -1,6 +1,5 @@
 use Rattle.std.proofs.Common.{arith, inr, get_or}
-use Rattle.hs_lists.proofs.Lent.{lent_is, lent_from}
-use Rattle.hs_check_follow.specs.declared.client.FollowedClient.{FollowedClient}
+use Rattle.hs_check_follow.proofs.Prelude.{lent_is, lent_from, FollowedClient}
 use Rattle.hs_check_follow.proofs.clients.next_chunk.Goals as goal
 
 pub fill_next-requires : goal.fill_next-requires

@@ -1,5 +1,5 @@
 use Rattle.std.proofs.Common.{◌≡◌, length, subst, arith}
-use Rattle.hs_check_follow.specs.Whole.{AreSent}
+use Rattle.hs_check_follow.proofs.Prelude.{AreSent}
 use Rattle.hs_check_follow.proofs.Sending.{sent_none, sent_more}
 use Rattle.hs_check_follow.proofs.coordinator.send_all.Goals as goal
 

@@ -1,4 +1,4 @@
-use Rattle.hs_check_follow.specs.Whole.{AreSent}
+use Rattle.hs_check_follow.proofs.Prelude.{AreSent}
 use Rattle.hs_check_follow.proofs.coordinator.send_all.Given as goal
 
 abbrev pub invariant-loop-node : goal.invariant-loop-node

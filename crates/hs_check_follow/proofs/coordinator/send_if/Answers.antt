@@ -1,7 +1,5 @@
 use Rattle.std.proofs.Common.{cond, get_or, sym, ap, ◌∙◌, [], ◌∷◌, ◌++◌}
-use Rattle.std.proofs.lemmas.Result.{on_ok_weaker}
-use Rattle.hs_lists.proofs.Places.{get_there, set_same}
-use Rattle.hs_lists.proofs.Lent.{lent_is, lent_from}
+use Rattle.hs_check_follow.proofs.Prelude.{on_ok_weaker, get_there, set_same, lent_is, lent_from}
 use Rattle.hs_check_follow.proofs.coordinator.send_if.Goals as goal
 
 pub returns-else-contains : goal.returns-else-contains

@@ -1,5 +1,5 @@
 use Rattle.std.proofs.Common.{◌+◌}
-use Rattle.hs_check_follow.specs.Gathering.{AtChunk, AreNumbers, chunks_at}
+use Rattle.hs_check_follow.proofs.Prelude.{AtChunk, AreNumbers, chunks_at}
 use Rattle.hs_check_follow.proofs.Queues.{begins, goes_on, ends, one_number}
 use Rattle.hs_check_follow.proofs.Taking.{chunks_fewer, chunks_ordered}
 use Rattle.hs_check_follow.proofs.gathering.count_chunks.Goals as goal

@@ -1,5 +1,5 @@
 use Rattle.std.proofs.Common.{length}
-use Rattle.hs_check_follow.specs.Gathering.{Where, AtChunk, WereChunks, AreNumbers, chunks_at}
+use Rattle.hs_check_follow.proofs.Prelude.{Where, AtChunk, WereChunks, AreNumbers, chunks_at}
 use Rattle.hs_check_follow.proofs.Queues.{Midway}
 use Rattle.hs_check_follow.proofs.gathering.count_chunks.Given as goal
 

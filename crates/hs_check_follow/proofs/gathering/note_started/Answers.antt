@@ -1,6 +1,5 @@
 use Rattle.std.proofs.Common.{◌≡◌, ℕ, zero, suc, ◌+◌, List, [], ◌∷◌, ◌++◌, refl, sym, ap, ◌∙◌, arith, append_assoc}
-use Rattle.std.proofs.lemmas.List.{append-nil}
-use Rattle.std.specs.Prelude.{replicate}
+use Rattle.hs_check_follow.proofs.Prelude.{append-nil, replicate}
 use Rattle.hs_check_follow.proofs.gathering.note_started.Goals as goal
 
 one_more : (n x : ℕ) → replicate n x ++ x ∷ [] ≡ replicate (n + 1) x

@@ -1,5 +1,5 @@
 use Rattle.std.proofs.Common.{◌≡◌, ◌++◌}
-use Rattle.std.specs.Prelude.{replicate}
+use Rattle.hs_check_follow.proofs.Prelude.{replicate}
 use Rattle.hs_check_follow.proofs.gathering.note_started.Given as goal
 
 abbrev pub invariant-loop-noted : goal.invariant-loop-noted

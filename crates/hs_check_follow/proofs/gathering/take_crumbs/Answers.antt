@@ -1,5 +1,5 @@
 use Rattle.std.proofs.Common.{◌+◌}
-use Rattle.hs_check_follow.specs.Gathering.{AtCrumb, HasItems, crumbs_at}
+use Rattle.hs_check_follow.proofs.Prelude.{AtCrumb, HasItems, crumbs_at}
 use Rattle.hs_check_follow.proofs.Queues.{begins, goes_on, ends, one_item}
 use Rattle.hs_check_follow.proofs.Taking.{crumbs_fewer}
 use Rattle.hs_check_follow.proofs.gathering.take_crumbs.Goals as goal

@@ -1,5 +1,5 @@
 use Rattle.std.proofs.Common.{length}
-use Rattle.hs_check_follow.specs.Gathering.{Where, AtCrumb, WereCrumbs, HasItems, crumbs_at}
+use Rattle.hs_check_follow.proofs.Prelude.{Where, AtCrumb, WereCrumbs, HasItems, crumbs_at}
 use Rattle.hs_check_follow.proofs.Queues.{Midway}
 use Rattle.hs_check_follow.proofs.gathering.take_crumbs.Given as goal
 

@@ -1,5 +1,5 @@
 use Rattle.std.proofs.Common.{◌+◌}
-use Rattle.hs_check_follow.specs.Gathering.{AtTrigger, HasItems, triggers_at}
+use Rattle.hs_check_follow.proofs.Prelude.{AtTrigger, HasItems, triggers_at}
 use Rattle.hs_check_follow.proofs.Queues.{begins, goes_on, ends, one_item}
 use Rattle.hs_check_follow.proofs.Taking.{triggers_fewer}
 use Rattle.hs_check_follow.proofs.gathering.take_triggers.Goals as goal

@@ -1,5 +1,5 @@
 use Rattle.std.proofs.Common.{length}
-use Rattle.hs_check_follow.specs.Gathering.{Where, AtTrigger, WereTriggers, HasItems, triggers_at}
+use Rattle.hs_check_follow.proofs.Prelude.{Where, AtTrigger, WereTriggers, HasItems, triggers_at}
 use Rattle.hs_check_follow.proofs.Queues.{Midway}
 use Rattle.hs_check_follow.proofs.gathering.take_triggers.Given as goal
 

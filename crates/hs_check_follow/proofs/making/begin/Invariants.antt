@@ -1,8 +1,4 @@
-use Rattle.hs_journal.specs.Views.{journal_of}
-use Rattle.hs_law_journal.specs.Following.{node_start}
-use Rattle.hs_workload.specs.Views.{workload_of}
-use Rattle.hs_check_follow.specs.Beginning.{AreFirst}
-use Rattle.hs_check_follow.specs.Whole.{NodeAt}
+use Rattle.hs_check_follow.proofs.Prelude.{journal_of, node_start, workload_of, AreFirst, NodeAt}
 use Rattle.hs_check_follow.proofs.making.begin.Given as goal
 
 abbrev pub invariant-loop-node : goal.invariant-loop-node

@@ -1,6 +1,4 @@
-use Rattle.hs_journal.specs.Views.{journal_of}
-use Rattle.hs_law_journal.specs.Following.{run_start}
-use Rattle.hs_workload.specs.Views.{workload_of}
+use Rattle.hs_check_follow.proofs.Prelude.{journal_of, run_start, workload_of}
 use Rattle.hs_check_follow.proofs.making.follow.Goals as goal
 
 pub follow-requires : goal.follow-requires

@@ -1,14 +1,6 @@
 use Rattle.std.proofs.Common.{◌≡◌, List, length, map, sym, refl, ap, subst, ◌∙◌, arith}
-use Rattle.std.proofs.lemmas.List.{length-map}
-use Rattle.hs_lists.proofs.Places.{row_is}
-use Rattle.hs_base.specs.Listing.{Listing}
-use Rattle.hs_journal.specs.Views.{journal_of}
-use Rattle.hs_journal.specs.declared.journal.Draw.{Draw}
+use Rattle.hs_check_follow.proofs.Prelude.{length-map, row_is, Listing, journal_of, Draw, pages_of, Operation, draws_at, place_of, workload_of, operation_of}
 use Rattle.hs_law_sends.specs.Playable.{IsPlayable}
-use Rattle.hs_records.specs.Pages.{pages_of}
-use Rattle.hs_records.specs.Plain.{Operation}
-use Rattle.hs_law_sends.specs.Sending.{draws_at, place_of}
-use Rattle.hs_workload.specs.Views.{workload_of, operation_of}
 use Rattle.hs_check_follow.proofs.Beginning.{place_below, draws_many, draws_each, client_begins}
 use Rattle.hs_check_follow.proofs.making.make_client.Goals as goal
 

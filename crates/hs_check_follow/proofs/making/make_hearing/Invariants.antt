@@ -1,7 +1,5 @@
 use Rattle.std.proofs.Common.{◌≡◌, ℕ, []}
-use Rattle.hs_base.specs.Listing.{Listing}
-use Rattle.hs_base.specs.declared.told.Ask.{Ask}
-use Rattle.hs_check_follow.specs.Beginning.{AreFirst}
+use Rattle.hs_check_follow.proofs.Prelude.{Listing, Ask, AreFirst}
 use Rattle.hs_check_follow.proofs.making.make_hearing.Given as goal
 
 abbrev pub invariant-loop-node : goal.invariant-loop-node

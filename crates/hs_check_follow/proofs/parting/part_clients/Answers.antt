@@ -1,8 +1,5 @@
 use Rattle.std.proofs.Common.{[], ◌++◌, List, map, refl, sym, ap, ◌∙◌}
-use Rattle.std.proofs.lemmas.Iterator.Adapters.{YieldsList-from_vec}
-use Rattle.std.proofs.lemmas.Iterator.Consumers.{YieldsList-end}
-use Rattle.hs_lists.proofs.Parts.{nil_behind, map_self}
-use Rattle.hs_check_follow.specs.declared.client.FollowedClient.{FollowedClient}
+use Rattle.hs_check_follow.proofs.Prelude.{YieldsList-from_vec, YieldsList-end, nil_behind, map_self, FollowedClient}
 use Rattle.hs_check_follow.proofs.FoundAll.{read_more}
 use Rattle.hs_check_follow.proofs.parting.part_clients.Goals as goal
 

@@ -1,5 +1,5 @@
 use Rattle.std.proofs.Common.{◌≡◌, ◌++◌, map}
-use Rattle.hs_check_follow.specs.declared.client.FollowedClient.{FollowedClient}
+use Rattle.hs_check_follow.proofs.Prelude.{FollowedClient}
 use Rattle.hs_check_follow.proofs.parting.part_clients.Given as goal
 
 abbrev pub invariant-loop-sending : goal.invariant-loop-sending

@@ -1,11 +1,5 @@
 use Rattle.std.proofs.Common.{[], ◌∷◌, ◌++◌, List, map, refl, sym, ap, ◌∙◌, subst}
-use Rattle.std.proofs.lemmas.Iterator.Adapters.{YieldsList-from_vec}
-use Rattle.std.proofs.lemmas.Iterator.Consumers.{YieldsList-end}
-use Rattle.std.specs.List.{flat_map}
-use Rattle.hs_lists.proofs.Parts.{nil_behind, map_self}
-use Rattle.hs_check_clauses.specs.Finding.{AreFound}
-use Rattle.hs_check_follow.specs.Parting.{books_left, IsFoundOf}
-use Rattle.hs_check_follow.specs.declared.node.FollowedNode.{FollowedNode}
+use Rattle.hs_check_follow.proofs.Prelude.{YieldsList-from_vec, YieldsList-end, flat_map, nil_behind, map_self, AreFound, books_left, IsFoundOf, FollowedNode}
 use Rattle.hs_check_follow.proofs.FoundAll.{read_more, flat_more, found_more}
 use Rattle.hs_check_follow.proofs.parting.part_nodes.Goals as goal
 

@@ -1,8 +1,5 @@
 use Rattle.std.proofs.Common.{◌≡◌, ◌++◌, map}
-use Rattle.std.specs.List.{flat_map}
-use Rattle.hs_check_clauses.specs.Finding.{AreFound}
-use Rattle.hs_check_follow.specs.Parting.{books_left, IsFoundOf}
-use Rattle.hs_check_follow.specs.declared.node.FollowedNode.{FollowedNode}
+use Rattle.hs_check_follow.proofs.Prelude.{flat_map, AreFound, books_left, IsFoundOf, FollowedNode}
 use Rattle.hs_check_follow.proofs.parting.part_nodes.Given as goal
 
 abbrev pub invariant-loop-tracked : goal.invariant-loop-tracked

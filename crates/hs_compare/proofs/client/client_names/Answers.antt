@@ -1,9 +1,5 @@
 use Rattle.std.proofs.Common.{map, ap₂, sym, ◌∙◌}
-use Rattle.std.proofs.lemmas.Result.{IfOk-weaker}
-use Rattle.hs_records.specs.Plain.{settings_of}
-use Rattle.hs_law_sends.specs.Sending.{sent_triggers}
-use Rattle.hs_workload.specs.Views.{operation_of}
-use Rattle.hs_compare.specs.Happens.{names_by}
+use Rattle.hs_compare.proofs.Prelude.{IfOk-weaker, settings_of, sent_triggers, operation_of, names_by}
 use Rattle.hs_compare.proofs.Named.{names_are}
 use Rattle.hs_compare.proofs.Quiet.{names_nothing}
 use Rattle.hs_compare.proofs.client.client_names.Goals as goal

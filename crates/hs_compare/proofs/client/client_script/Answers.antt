@@ -1,14 +1,5 @@
 use Rattle.std.proofs.Common.{List, map, sym, ◌∙◌, subst, arith}
-use Rattle.std.proofs.lemmas.List.{length-map}
-use Rattle.std.proofs.lemmas.Result.{IfOk-weaker}
-use Rattle.hs_records.specs.Plain.{settings_of}
-use Rattle.hs_law_sends.specs.Sending.{sent_triggers}
-use Rattle.hs_workload.specs.Views.{operation_of}
-use Rattle.hs_workload.proofs.Sizes.{operations_few}
-use Rattle.hs_compare.specs.Points.{IsScriptOf}
-use Rattle.hs_compare.specs.Scripts.{names_of}
-use Rattle.hs_compare.specs.Walking.{AreInTurn}
-use Rattle.hs_compare.specs.declared.happening.NumberedEvent.{NumberedEvent}
+use Rattle.hs_compare.proofs.Prelude.{length-map, IfOk-weaker, settings_of, sent_triggers, operation_of, operations_few, IsScriptOf, names_of, AreInTurn, NumberedEvent}
 use Rattle.hs_compare.proofs.Named.{names_turn}
 use Rattle.hs_compare.proofs.client.client_script.Goals as goal
 

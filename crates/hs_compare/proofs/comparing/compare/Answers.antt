@@ -1,12 +1,6 @@
 use Rattle.std.proofs.Common.{◌≡◌, map, ap, ap₂, ◌∙◌}
-use Rattle.std.proofs.lemmas.Result.{IfOk-weaker}
+use Rattle.hs_compare.proofs.Prelude.{IfOk-weaker, compared_by, SumsToTail, workload_of, Comparison, comparison_by, coming_of, plain_comparison}
 use Rattle.hs_law_lockstep.specs.Lockstep.{lockstep}
-use Rattle.hs_compare.specs.SamplerLaws.{compared_by, SumsToTail}
-use Rattle.hs_workload.specs.Views.{workload_of}
-use Rattle.hs_compare.specs.declared.comparison.Comparison.{Comparison}
-use Rattle.hs_compare.specs.Comparing.{comparison_by}
-use Rattle.hs_compare.specs.Happens.{coming_of}
-use Rattle.hs_compare.specs.Plain.{plain_comparison}
 use Rattle.hs_compare.proofs.Claiming.{traces_in}
 use Rattle.hs_compare.proofs.Few.{records_fit, bytes_fit, ring_fits, named_once}
 use Rattle.hs_compare.proofs.Outcomed.{outcome_beside, compared_is, sums_to_tail}

@@ -1,8 +1,5 @@
 use Rattle.std.proofs.Common.{sym, subst, ap₂, ◌∙◌}
-use Rattle.hs_workload.specs.Views.{workload_of}
-use Rattle.hs_compare.specs.Beginning.{AreScripts}
-use Rattle.hs_compare.specs.Rounds.{all_rounds}
-use Rattle.hs_compare.specs.Walking.{rings_after}
+use Rattle.hs_compare.proofs.Prelude.{workload_of, AreScripts, all_rounds, rings_after}
 use Rattle.hs_compare.proofs.Ordered.{scripts_sound}
 use Rattle.hs_compare.proofs.Outcomed.{walked_ring}
 use Rattle.hs_compare.proofs.comparing.ring_of.Goals as goal

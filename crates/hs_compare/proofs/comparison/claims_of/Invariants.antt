@@ -1,6 +1,5 @@
 use Rattle.std.proofs.Common.{◌≡◌, ◌&&◌, take}
-use Rattle.hs_base.specs.declared.ids.TraceId.{TraceId}
-use Rattle.hs_compare.specs.Counting.{is_counted}
+use Rattle.hs_compare.proofs.Prelude.{TraceId, is_counted}
 use Rattle.hs_compare.specs.Ringing.{is_among}
 use Rattle.hs_compare.proofs.comparison.claims_of.Given as goal
 

@@ -1,9 +1,5 @@
 use Rattle.std.proofs.Common.{length, filter, ap, ◌∙◌, arith}
-use Rattle.hs_lists.proofs.Parts.{length_map}
-use Rattle.hs_ledger.specs.declared.ledger.Entry.{Entry}
-use Rattle.hs_compare.specs.declared.coming.Coming.{Coming}
-use Rattle.hs_compare.specs.Counting.{is_counted}
-use Rattle.hs_compare.specs.Marked.{traces_of}
+use Rattle.hs_compare.proofs.Prelude.{length_map, Entry, Coming, is_counted, traces_of}
 use Rattle.hs_compare.proofs.Claiming.{each_counted}
 use Rattle.hs_compare.proofs.Together.{known_few, together}
 use Rattle.hs_compare.proofs.comparison.compared.Goals as goal

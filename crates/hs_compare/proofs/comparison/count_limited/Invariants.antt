@@ -1,6 +1,5 @@
 use Rattle.std.proofs.Common.{◌≡◌, take}
-use Rattle.std.specs.Prelude.{count_by}
-use Rattle.hs_compare.specs.Lines.{is_limited}
+use Rattle.hs_compare.proofs.Prelude.{count_by, is_limited}
 use Rattle.hs_compare.proofs.comparison.count_limited.Given as goal
 
 abbrev pub invariant-loop-entry : goal.invariant-loop-entry

@@ -1,7 +1,5 @@
 use Rattle.std.proofs.Common.{List, ◌∙◌, subst}
-use Rattle.std.proofs.lemmas.Result.{IfOk-weaker}
-use Rattle.hs_base.specs.declared.ids.TraceId.{TraceId}
-use Rattle.hs_compare.specs.Counting.{AreCounted}
+use Rattle.hs_compare.proofs.Prelude.{IfOk-weaker, TraceId, AreCounted}
 use Rattle.hs_compare.proofs.comparison.counts_of.Goals as goal
 
 pub returns : goal.returns

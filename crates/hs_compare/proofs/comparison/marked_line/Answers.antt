@@ -1,7 +1,5 @@
 use Rattle.std.proofs.Common.{length, ap, arith}
-use Rattle.hs_lists.proofs.Parts.{length_map}
-use Rattle.hs_compare.specs.declared.coming.Coming.{Coming}
-use Rattle.hs_compare.specs.Marked.{marked}
+use Rattle.hs_compare.proofs.Prelude.{length_map, Coming, marked}
 use Rattle.hs_compare.proofs.Marking.{marked_few}
 use Rattle.hs_compare.proofs.comparison.marked_line.Goals as goal
 

@@ -1,7 +1,5 @@
 use Rattle.std.proofs.Common.{◌≡◌, ◌+◌, cond, length, Some, is_some, sym, ap, ◌∙◌, arith}
-use Rattle.std.specs.Prelude.{unwrap_or}
-use Rattle.std.specs.Map.{lookup}
-use Rattle.hs_compare.specs.Counting.{times_in}
+use Rattle.hs_compare.proofs.Prelude.{unwrap_or, lookup, times_in}
 use Rattle.hs_compare.proofs.Queued.{is_key}
 use Rattle.hs_compare.proofs.Counted.{counted_more}
 use Rattle.hs_compare.proofs.lines.count_one.Goals as goal

@@ -1,6 +1,5 @@
 use Rattle.std.proofs.Common.{◌≡◌, take}
-use Rattle.std.specs.Prelude.{count_by}
-use Rattle.hs_compare.specs.Counting.{is_whole_by, times_in}
+use Rattle.hs_compare.proofs.Prelude.{count_by, is_whole_by, times_in}
 use Rattle.hs_compare.proofs.lines.count_whole.Given as goal
 
 abbrev pub invariant-loop-trace : goal.invariant-loop-trace

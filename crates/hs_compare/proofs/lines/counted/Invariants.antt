@@ -1,5 +1,5 @@
 use Rattle.std.proofs.Common.{take}
-use Rattle.hs_compare.specs.Counting.{AreCounted}
+use Rattle.hs_compare.proofs.Prelude.{AreCounted}
 use Rattle.hs_compare.proofs.lines.counted.Given as goal
 
 abbrev pub invariant-loop-place : goal.invariant-loop-place

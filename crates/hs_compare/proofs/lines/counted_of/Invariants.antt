@@ -1,5 +1,5 @@
 use Rattle.std.proofs.Common.{◌≡◌, filter, take}
-use Rattle.hs_compare.specs.Counting.{is_counted}
+use Rattle.hs_compare.proofs.Prelude.{is_counted}
 use Rattle.hs_compare.proofs.lines.counted_of.Given as goal
 
 abbrev pub invariant-loop-trace : goal.invariant-loop-trace

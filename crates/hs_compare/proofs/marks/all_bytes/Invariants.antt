@@ -1,5 +1,5 @@
 use Rattle.std.proofs.Common.{◌≡◌, take}
-use Rattle.hs_compare.specs.Marked.{bytes_in}
+use Rattle.hs_compare.proofs.Prelude.{bytes_in}
 use Rattle.hs_compare.proofs.marks.all_bytes.Given as goal
 
 abbrev pub invariant-loop-coming : goal.invariant-loop-coming

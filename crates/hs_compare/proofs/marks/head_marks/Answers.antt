@@ -1,7 +1,5 @@
 use Rattle.std.proofs.Common.{◌≤◌, length, map, ap, ◌∙◌, arith}
-use Rattle.std.proofs.lemmas.List.{take_all}
-use Rattle.hs_compare.specs.declared.coming.Coming.{Coming}
-use Rattle.hs_compare.specs.Ringing.{kept_by_rank}
+use Rattle.hs_compare.proofs.Prelude.{take_all, Coming, kept_by_rank}
 use Rattle.hs_compare.proofs.marks.head_marks.Goals as goal
 
 pub returns : goal.returns

@@ -1,6 +1,5 @@
 use Rattle.std.proofs.Common.{◌≡◌, map, take}
-use Rattle.hs_compare.specs.declared.coming.Coming.{Coming}
-use Rattle.hs_compare.specs.Ringing.{kept_by_rank}
+use Rattle.hs_compare.proofs.Prelude.{Coming, kept_by_rank}
 use Rattle.hs_compare.proofs.marks.head_marks.Given as goal
 
 abbrev pub invariant-loop-coming : goal.invariant-loop-coming

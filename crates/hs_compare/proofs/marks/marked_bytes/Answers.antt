@@ -1,5 +1,5 @@
 use Rattle.std.proofs.Common.{ℕ, ◌+◌, ◌<◌, length, get_or, false, sym, ap, ◌∙◌, arith}
-use Rattle.hs_compare.specs.Marked.{bytes_in}
+use Rattle.hs_compare.proofs.Prelude.{bytes_in}
 use Rattle.hs_compare.proofs.Marking.{nothing, bytes_fit, bytes_yes, marked_no}
 use Rattle.hs_compare.proofs.marks.marked_bytes.Goals as goal
 use Rattle.hs_compare.proofs.marks.marked_bytes.Goals.{then-marks-place, else-marks-place}

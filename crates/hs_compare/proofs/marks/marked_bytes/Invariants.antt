@@ -1,5 +1,5 @@
 use Rattle.std.proofs.Common.{◌≡◌, take}
-use Rattle.hs_compare.specs.Marked.{marked, bytes_in}
+use Rattle.hs_compare.proofs.Prelude.{marked, bytes_in}
 use Rattle.hs_compare.proofs.marks.marked_bytes.Given as goal
 
 abbrev pub invariant-loop-place : goal.invariant-loop-place

@@ -1,6 +1,5 @@
 use Rattle.std.proofs.Common.{◌<◌, List, [], ◌∷◌, ◌++◌, length, get_or, false, sym, ap, ◌∙◌, arith}
-use Rattle.hs_base.specs.declared.ids.TraceId.{TraceId}
-use Rattle.hs_compare.specs.Marked.{traces_of}
+use Rattle.hs_compare.proofs.Prelude.{TraceId, traces_of}
 use Rattle.hs_compare.proofs.Marking.{nothing, traces_yes, marked_no}
 use Rattle.hs_compare.proofs.marks.marked_traces.Goals as goal
 use Rattle.hs_compare.proofs.marks.marked_traces.Goals.{then-marks-place+in_ok-push, else-marks-place}

@@ -1,5 +1,5 @@
 use Rattle.std.proofs.Common.{◌≡◌, map, take}
-use Rattle.hs_compare.specs.declared.coming.Coming.{Coming}
+use Rattle.hs_compare.proofs.Prelude.{Coming}
 use Rattle.hs_compare.specs.Ringing.{is_among}
 use Rattle.hs_compare.proofs.marks.named_marks.Given as goal
 

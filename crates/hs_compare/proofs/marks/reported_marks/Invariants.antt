@@ -1,6 +1,5 @@
 use Rattle.std.proofs.Common.{◌≡◌, map, take}
-use Rattle.hs_ledger.specs.declared.ledger.Entry.{Entry}
-use Rattle.hs_ledger.specs.Totals.{is_reported}
+use Rattle.hs_compare.proofs.Prelude.{Entry, is_reported}
 use Rattle.hs_compare.proofs.marks.reported_marks.Given as goal
 
 abbrev pub invariant-loop-entry : goal.invariant-loop-entry

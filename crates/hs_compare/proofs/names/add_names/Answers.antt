@@ -1,6 +1,5 @@
 use Rattle.std.proofs.Common.{◌<◌, List, [], ◌∷◌, ◌++◌, length, map, take, sym, ap, ◌∙◌, arith, append_assoc}
-use Rattle.hs_compare.specs.declared.happening.NumberedEvent.{NumberedEvent}
-use Rattle.hs_compare.specs.Happens.{name_at}
+use Rattle.hs_compare.proofs.Prelude.{NumberedEvent, name_at}
 use Rattle.hs_compare.proofs.Named.{laterals_more, laterals_there}
 use Rattle.hs_compare.proofs.names.add_names.Goals as goal
 use Rattle.hs_compare.proofs.names.add_names.Goals.{in-Some+in_ok-append-2, in_default}

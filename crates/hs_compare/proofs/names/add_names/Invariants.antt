@@ -1,5 +1,5 @@
 use Rattle.std.proofs.Common.{◌≡◌, ◌∷◌, ◌++◌, map, take}
-use Rattle.hs_compare.specs.Happens.{name_at}
+use Rattle.hs_compare.proofs.Prelude.{name_at}
 use Rattle.hs_compare.proofs.names.add_names.Given as goal
 
 abbrev pub invariant-loop-place : goal.invariant-loop-place

@@ -1,5 +1,5 @@
 use Rattle.std.proofs.Common.{◌≡◌, ◌+◌, ◌++◌, length, drop}
-use Rattle.hs_compare.specs.Happens.{names_by}
+use Rattle.hs_compare.proofs.Prelude.{names_by}
 use Rattle.hs_compare.proofs.names.names_of.Given as goal
 
 abbrev pub invariant-loop-number : goal.invariant-loop-number

@@ -1,7 +1,6 @@
 use Rattle.std.proofs.Common.{◌∷◌, [], ◌++◌, Some, cond, sym, ap, ◌∙◌, is_some}
-use Rattle.std.specs.Prelude.{unwrap_or}
-use Rattle.std.specs.Map.{lookup}
-use Rattle.hs_lists.proofs.Options.{on_ok_map, on_err_map}
+use Rattle.hs_compare.proofs.Prelude.{unwrap_or, lookup, on_ok_map}
+use Rattle.hs_lists.proofs.Options.{on_err_map}
 use Rattle.hs_compare.proofs.Queued.{is_key, changed, unchanged}
 use Rattle.hs_compare.proofs.queue.add.Goals as goal
 

@@ -1,5 +1,5 @@
 use Rattle.std.proofs.Common.{[], Some, drop, sym, ap, ◌∙◌, is_some}
-use Rattle.std.specs.Prelude.{unwrap_or}
+use Rattle.hs_compare.proofs.Prelude.{unwrap_or}
 use Rattle.hs_compare.proofs.Queued.{changed}
 use Rattle.hs_compare.proofs.queue.leave.Goals as goal
 

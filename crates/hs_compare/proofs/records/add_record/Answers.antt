@@ -1,9 +1,5 @@
 use Rattle.std.proofs.Common.{◌++◌, ◌∷◌, [], Some, None, map, sym, ap, ◌∙◌}
-use Rattle.std.proofs.lemmas.List.{append-nil}
-use Rattle.hs_lists.proofs.Options.{on_ok_map}
-use Rattle.hs_compare.specs.Coming.{comings_of}
-use Rattle.hs_workload.specs.Views.{operation_of}
-use Rattle.hs_compare.specs.Happens.{coming_of}
+use Rattle.hs_compare.proofs.Prelude.{append-nil, on_ok_map, comings_of, operation_of, coming_of}
 use Rattle.hs_compare.proofs.Pointed.{joined_on}
 use Rattle.hs_compare.proofs.records.add_record.Goals as goal
 

@@ -1,6 +1,5 @@
 use Rattle.std.proofs.Common.{map, take, length-take, arith}
-use Rattle.std.proofs.lemmas.List.{length-map}
-use Rattle.hs_workload.specs.Views.{operation_of}
+use Rattle.hs_compare.proofs.Prelude.{length-map, operation_of}
 use Rattle.hs_compare.proofs.Pointed.{records_few}
 use Rattle.hs_compare.proofs.records.add_records.Goals as goal
 

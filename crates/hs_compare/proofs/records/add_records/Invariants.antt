@@ -1,5 +1,5 @@
 use Rattle.std.proofs.Common.{◌≡◌, map, take}
-use Rattle.hs_workload.specs.Views.{operation_of}
+use Rattle.hs_compare.proofs.Prelude.{operation_of}
 use Rattle.hs_compare.specs.Points.{HasJoined}
 use Rattle.hs_compare.proofs.records.add_records.Given as goal
 

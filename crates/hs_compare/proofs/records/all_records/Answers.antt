@@ -1,10 +1,5 @@
 use Rattle.std.proofs.Common.{◌≡◌, ◌++◌, length, sym, ap, ◌∙◌, arith}
-use Rattle.std.proofs.lemmas.List.{length-map}
-use Rattle.hs_law_outcome.specs.Outcomes.{client_at}
-use Rattle.hs_compare.specs.Coming.{comings_of}
-use Rattle.hs_law_sends.specs.Sending.{operations_at}
-use Rattle.hs_workload.specs.Views.{workload_of, operations_of}
-use Rattle.hs_compare.specs.Beginning.{first_comings}
+use Rattle.hs_compare.proofs.Prelude.{length-map, client_at, comings_of, operations_at, workload_of, operations_of, first_comings}
 use Rattle.hs_compare.proofs.Beginning.{comings_more}
 use Rattle.hs_compare.proofs.records.all_records.Goals as goal
 

@@ -1,7 +1,5 @@
 use Rattle.std.proofs.Common.{◌≡◌, map}
-use Rattle.hs_workload.specs.Views.{workload_of}
-use Rattle.hs_compare.specs.Beginning.{first_comings}
-use Rattle.hs_compare.specs.Happens.{coming_of}
+use Rattle.hs_compare.proofs.Prelude.{workload_of, first_comings, coming_of}
 use Rattle.hs_compare.proofs.records.all_records.Given as goal
 
 abbrev pub invariant-loop-place : goal.invariant-loop-place

@@ -1,15 +1,5 @@
 use Rattle.std.proofs.Common.{◌≡◌, ◌++◌, List, length, map, ap, ◌∙◌, arith}
-use Rattle.std.proofs.lemmas.List.{length-map}
-use Rattle.hs_lists.proofs.Places.{row_is}
-use Rattle.hs_lists.proofs.Options.{on_ok_map}
-use Rattle.hs_law_outcome.specs.Outcomes.{client_at}
-use Rattle.hs_records.specs.Plain.{Operation}
-use Rattle.hs_compare.specs.Coming.{comings_of}
-use Rattle.hs_law_sends.specs.Sending.{operations_at}
-use Rattle.hs_workload.specs.Views.{workload_of, operation_of, operations_of}
-use Rattle.hs_workload.specs.declared.word.Setting.TheVariants.{Nodes}
-use Rattle.hs_workload.proofs.Sizes.{operations_few}
-use Rattle.hs_compare.specs.Happens.{coming_of}
+use Rattle.hs_compare.proofs.Prelude.{length-map, row_is, on_ok_map, client_at, Operation, comings_of, operations_at, workload_of, operation_of, operations_of, Nodes, operations_few, coming_of}
 use Rattle.hs_compare.proofs.Beginning.{place_low}
 use Rattle.hs_compare.proofs.records.place_records.Goals as goal
 

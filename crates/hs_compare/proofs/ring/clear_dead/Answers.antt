@@ -1,6 +1,5 @@
 use Rattle.std.proofs.Common.{◌<◌, ◌++◌, List, length, take, drop, ap, ◌∙◌, arith}
-use Rattle.hs_compare.specs.declared.ring.Noted.{Noted}
-use Rattle.hs_compare.specs.Ringing.{alive}
+use Rattle.hs_compare.proofs.Prelude.{Noted, alive}
 use Rattle.hs_compare.proofs.Rings.{pass_more}
 use Rattle.hs_compare.proofs.ring.clear_dead.Goals as goal
 

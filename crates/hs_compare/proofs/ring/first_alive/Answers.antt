@@ -1,7 +1,5 @@
 use Rattle.std.proofs.Common.{◌≡◌, ◌≤◌, ◌∷◌, length, drop, sym, ap, ◌∙◌, arith}
-use Rattle.circular_buffer.specs.Buffer.{Buffer}
-use Rattle.hs_compare.specs.declared.ring.Noted.{Noted}
-use Rattle.hs_compare.specs.Ringing.{alive}
+use Rattle.hs_compare.proofs.Prelude.{Buffer, Noted, alive}
 use Rattle.hs_compare.proofs.Firsts.{drop-less}
 use Rattle.hs_compare.proofs.Rings.{alive_first, alive_at}
 use Rattle.hs_compare.proofs.ring.first_alive.Goals as goal

@@ -1,5 +1,5 @@
 use Rattle.std.proofs.Common.{◌≡◌, ◌≤◌, length}
-use Rattle.hs_compare.specs.Ringing.{alive}
+use Rattle.hs_compare.proofs.Prelude.{alive}
 use Rattle.hs_compare.proofs.ring.first_alive.Given as goal
 
 abbrev pub invariant-loop-noted : goal.invariant-loop-noted

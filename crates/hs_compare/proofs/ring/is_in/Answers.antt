@@ -1,5 +1,5 @@
 use Rattle.std.proofs.Common.{◌≡◌, false, List, [], ◌∷◌, length, refl, ◌∙◌, rules, arith}
-use Rattle.hs_base.specs.declared.ids.TraceId.{TraceId}
+use Rattle.hs_compare.proofs.Prelude.{TraceId}
 use Rattle.hs_compare.specs.Ringing.{is_among}
 use Rattle.hs_compare.proofs.Rings.{among_is}
 use Rattle.hs_compare.proofs.ring.is_in.Goals as goal

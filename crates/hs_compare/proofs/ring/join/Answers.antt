@@ -1,8 +1,5 @@
 use Rattle.std.proofs.Common.{◌≡◌, ◌≤◌, [], ◌∷◌, ◌++◌, length, ap, ◌∙◌, arith}
-use Rattle.std.proofs.lemmas.List.{length_push}
-use Rattle.circular_buffer.specs.Buffer.{Buffer}
-use Rattle.hs_compare.specs.declared.ring.Noted.{Noted}
-use Rattle.hs_compare.specs.Ringing.{alive}
+use Rattle.hs_compare.proofs.Prelude.{length_push, Buffer, Noted, alive}
 use Rattle.hs_compare.proofs.Firsts.{kept_whole}
 use Rattle.hs_compare.proofs.Rings.{alive_more}
 use Rattle.hs_compare.proofs.ring.join.Goals as goal

@@ -1,7 +1,5 @@
 use Rattle.std.proofs.Common.{List, ◌++◌, drop, sym, ap, ◌∙◌, subst}
-use Rattle.hs_compare.specs.declared.ring.Noted.{Noted}
-use Rattle.hs_compare.specs.Ringing.{alive}
-use Rattle.hs_compare.specs.Queues.{AreQueued}
+use Rattle.hs_compare.proofs.Prelude.{Noted, alive, AreQueued}
 use Rattle.hs_compare.proofs.Queued.{queued-less}
 use Rattle.hs_compare.proofs.ring.let_first_go.Goals as goal
 

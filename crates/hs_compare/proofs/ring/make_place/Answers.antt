@@ -1,5 +1,5 @@
 use Rattle.std.proofs.Common.{length, ap, ◌∙◌, arith}
-use Rattle.hs_compare.specs.Ringing.{alive}
+use Rattle.hs_compare.proofs.Prelude.{alive}
 use Rattle.hs_compare.proofs.Rings.{alive_twice}
 use Rattle.hs_compare.proofs.ring.make_place.Goals as goal
 

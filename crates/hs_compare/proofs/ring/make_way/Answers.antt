@@ -1,6 +1,5 @@
 use Rattle.std.proofs.Common.{◌≡◌, ℕ, ◌+◌, ◌-◌, length, drop, ap, ◌∙◌, arith}
-use Rattle.std.proofs.lemmas.List.{length-drop}
-use Rattle.hs_compare.specs.Ringing.{alive}
+use Rattle.hs_compare.proofs.Prelude.{length-drop, alive}
 use Rattle.hs_compare.proofs.ring.make_way.Goals as goal
 
 pub returns-then-waiting-room-clause-alive : goal.returns-then-waiting-room-clause-alive

@@ -1,7 +1,5 @@
 use Rattle.std.proofs.Common.{◌≤◌, [], ◌∷◌, ◌++◌, length, drop, sym, ap, ◌∙◌, arith}
-use Rattle.std.proofs.lemmas.List.{append-nil, length_push}
-use Rattle.circular_buffer.specs.Buffer.{Buffer}
-use Rattle.hs_compare.specs.declared.ring.Noted.{Noted}
+use Rattle.hs_compare.proofs.Prelude.{append-nil, length_push, Buffer, Noted}
 use Rattle.hs_compare.proofs.Firsts.{first_some, kept_whole}
 use Rattle.hs_compare.proofs.Rings.{passed, alive_at}
 use Rattle.hs_compare.proofs.ring.pass.Goals as goal

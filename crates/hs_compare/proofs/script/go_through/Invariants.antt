@@ -1,5 +1,5 @@
 use Rattle.std.proofs.Common.{◌≡◌, take}
-use Rattle.hs_compare.specs.Walking.{rings_after}
+use Rattle.hs_compare.proofs.Prelude.{rings_after}
 use Rattle.hs_compare.proofs.script.go_through.Given as goal
 
 abbrev pub invariant-loop-event : goal.invariant-loop-event

@@ -1,7 +1,5 @@
 use Rattle.std.proofs.Common.{◌++◌, sym, ap, ◌∙◌}
-use Rattle.std.proofs.lemmas.List.{append-nil}
-use Rattle.hs_lists.proofs.Options.{on_ok_map}
-use Rattle.hs_compare.specs.Points.{comes_in}
+use Rattle.hs_compare.proofs.Prelude.{append-nil, on_ok_map, comes_in}
 use Rattle.hs_compare.proofs.script.note_record.Goals as goal
 
 pub returns-in-Some-clause-comes : goal.returns-in-Some-clause-comes

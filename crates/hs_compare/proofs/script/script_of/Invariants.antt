@@ -1,7 +1,5 @@
 use Rattle.std.proofs.Common.{◌≡◌, drop, map, take}
-use Rattle.hs_workload.specs.Views.{operation_of}
-use Rattle.hs_compare.specs.Points.{HasScript}
-use Rattle.hs_compare.specs.Walking.{AreLeft}
+use Rattle.hs_compare.proofs.Prelude.{operation_of, HasScript, AreLeft}
 use Rattle.hs_compare.proofs.script.script_of.Given as goal
 
 abbrev pub invariant-loop-number : goal.invariant-loop-number

@@ -1,5 +1,5 @@
 use Rattle.std.proofs.Common.{◌≡◌, ◌-◌, ◌++◌, length, drop}
-use Rattle.hs_compare.specs.Walking.{events_in, run_of, rest_of}
+use Rattle.hs_compare.proofs.Prelude.{events_in, run_of, rest_of}
 use Rattle.hs_compare.proofs.script.take_at.Given as goal
 
 abbrev pub invariant-loop-next : goal.invariant-loop-next

@@ -1,8 +1,6 @@
 use Rattle.std.proofs.Common.{List, [], ◌∷◌, ◌++◌, length, drop, sym, ap, ◌∙◌}
-use Rattle.hs_workload.specs.Views.{operation_of}
+use Rattle.hs_compare.proofs.Prelude.{operation_of, Script, events_of}
 use Rattle.hs_compare.specs.declared.happening.ScriptEvent.{ScriptEvent}
-use Rattle.hs_compare.specs.declared.script.Script.{Script}
-use Rattle.hs_compare.specs.Walking.{events_of}
 use Rattle.hs_compare.proofs.Scripted.{script_on}
 use Rattle.hs_compare.proofs.Walked.{left_next, run_left}
 use Rattle.hs_compare.proofs.script.take_operation.Goals as goal

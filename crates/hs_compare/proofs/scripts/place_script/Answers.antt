@@ -1,18 +1,8 @@
 use Rattle.std.proofs.Common.{◌≡◌, List, length, map, sym, ap, subst, ◌∙◌, arith}
-use Rattle.std.proofs.lemmas.List.{length-map}
-use Rattle.std.proofs.lemmas.Result.{IfOk-weaker}
-use Rattle.hs_lists.proofs.Places.{row_is}
+use Rattle.hs_compare.proofs.Prelude.{length-map, IfOk-weaker, row_is, Draw, client_at, pages_of, Operation, draws_at, operations_at, workload_of, operation_of, operations_of, Nodes, IsClientScript}
 use Rattle.hs_base.specs.Listing.{Listing}
 use Rattle.hs_journal.specs.Views.{journal_of}
-use Rattle.hs_journal.specs.declared.journal.Draw.{Draw}
-use Rattle.hs_law_outcome.specs.Outcomes.{client_at}
 use Rattle.hs_law_sends.specs.Playable.{IsPlayable}
-use Rattle.hs_records.specs.Pages.{pages_of}
-use Rattle.hs_records.specs.Plain.{Operation}
-use Rattle.hs_law_sends.specs.Sending.{draws_at, operations_at}
-use Rattle.hs_workload.specs.Views.{workload_of, operation_of, operations_of}
-use Rattle.hs_workload.specs.declared.word.Setting.TheVariants.{Nodes}
-use Rattle.hs_compare.specs.Scripts.{IsClientScript}
 use Rattle.hs_compare.proofs.Beginning.{place_low, draws_many, draws_each}
 use Rattle.hs_compare.proofs.scripts.place_script.Goals as goal
 

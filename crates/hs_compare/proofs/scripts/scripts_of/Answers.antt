@@ -1,7 +1,5 @@
 use Rattle.std.proofs.Common.{◌+◌, List, sym, subst}
-use Rattle.hs_workload.specs.Views.{workload_of}
-use Rattle.hs_compare.specs.declared.script.Script.{Script}
-use Rattle.hs_compare.specs.Beginning.{AreFirstScripts}
+use Rattle.hs_compare.proofs.Prelude.{workload_of, Script, AreFirstScripts}
 use Rattle.hs_compare.proofs.Beginning.{script_more}
 use Rattle.hs_compare.proofs.scripts.scripts_of.Goals as goal
 

@@ -1,5 +1,4 @@
-use Rattle.hs_workload.specs.Views.{workload_of}
-use Rattle.hs_compare.specs.Beginning.{AreFirstScripts}
+use Rattle.hs_compare.proofs.Prelude.{workload_of, AreFirstScripts}
 use Rattle.hs_compare.proofs.scripts.scripts_of.Given as goal
 
 abbrev pub invariant-loop-place : goal.invariant-loop-place

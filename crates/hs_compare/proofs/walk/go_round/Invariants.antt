@@ -1,7 +1,5 @@
 use Rattle.std.proofs.Common.{◌≡◌, take}
-use Rattle.std.specs.List.{flat_map}
-use Rattle.hs_compare.specs.Walking.{rings_after}
-use Rattle.hs_compare.specs.Rounds.{part_of}
+use Rattle.hs_compare.proofs.Prelude.{flat_map, rings_after, part_of}
 use Rattle.hs_compare.proofs.walk.go_round.Given as goal
 
 abbrev pub invariant-loop-script : goal.invariant-loop-script

@@ -1,6 +1,5 @@
 use Rattle.std.proofs.Common.{◌≡◌}
-use Rattle.hs_compare.specs.Walking.{rings_after}
-use Rattle.hs_compare.specs.Rounds.{all_rounds}
+use Rattle.hs_compare.proofs.Prelude.{rings_after, all_rounds}
 use Rattle.hs_compare.proofs.walk.walk.Given as goal
 
 abbrev pub invariant-loop-round : goal.invariant-loop-round

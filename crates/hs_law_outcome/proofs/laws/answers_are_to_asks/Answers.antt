@@ -1,4 +1,4 @@
-use Rattle.hs_law_journal.specs.Following.{followed}
+use Rattle.hs_law_outcome.proofs.Prelude.{followed}
 use Rattle.hs_law_outcome.proofs.Orderly.{answered_as_told}
 use Rattle.hs_law_outcome.proofs.laws.answers_are_to_asks.Goals as goal
 

@@ -1,4 +1,4 @@
-use Rattle.hs_law_journal.specs.Following.{followed}
+use Rattle.hs_law_outcome.proofs.Prelude.{followed}
 use Rattle.hs_law_outcome.proofs.laws.asked_sets_are_least.Goals as goal
 
 pub returns : goal.returns

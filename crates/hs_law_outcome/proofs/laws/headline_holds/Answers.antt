@@ -1,4 +1,4 @@
-use Rattle.hs_law_journal.specs.Following.{followed}
+use Rattle.hs_law_outcome.proofs.Prelude.{followed}
 use Rattle.hs_law_outcome.proofs.Followed.{ends_its_traces, all_did_their_logs, have_one_writer}
 use Rattle.hs_law_outcome.proofs.Reporting.{reports_are_of_claimed, reports_rise}
 use Rattle.hs_law_outcome.proofs.laws.headline_holds.Goals as goal

@@ -1,8 +1,5 @@
 use Rattle.std.proofs.Common.{ap, ◌∙◌, map}
-use Rattle.hs_law_journal.specs.Following.{Run}
-use Rattle.hs_coord.specs.Messages.{Message}
-use Rattle.hs_law_run.specs.Laws.{agent_of}
-use Rattle.hs_law_run.specs.Stories.{doings_of}
+use Rattle.hs_law_run.proofs.Prelude.{Run, Message, agent_of, doings_of}
 use Rattle.hs_law_run.proofs.Doing.{draws_are, all_heard_are}
 use Rattle.hs_law_run.proofs.Lawful.{Known, fit, are_playable, are_lawful, are_pooled_unread, agents_are}
 use Rattle.hs_law_run.proofs.laws.stories_are_lawful.Goals as goal

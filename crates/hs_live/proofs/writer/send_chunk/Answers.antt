@@ -1,8 +1,5 @@
 use Rattle.std.proofs.Common.{◌++◌, sym, ap, ◌∙◌}
-use Rattle.std.specs.Option.{option_to_list}
-use Rattle.hs_words.specs.Buffers.{buffer_in}
-use Rattle.hs_link.specs.Contents.{sent}
-use Rattle.hs_live.specs.Live.{outgoing}
+use Rattle.hs_live.proofs.Prelude.{option_to_list, buffer_in, sent, outgoing}
 use Rattle.hs_live.proofs.Senders.{begins_buffers, sends_buffer}
 use Rattle.hs_live.proofs.writer.send_chunk.Goals as goal
 

@@ -1,7 +1,6 @@
 use Rattle.std.proofs.Common.{ap, length, arith}
+use Rattle.hs_locked.proofs.Prelude.{answers_length, GiverSeat}
 use Rattle.hs_ring.specs.Parts.{Giving}
-use Rattle.hs_ring.proofs.Closings.{answers_length}
-use Rattle.hs_locked.specs.Views.{GiverSeat}
 use Rattle.hs_locked.proofs.closing.close.Goals as goal
 
 pub take_tally-requires-clause-all : goal.take_tally-requires-clause-all

@@ -1,6 +1,5 @@
 use Rattle.std.proofs.Common.{◌++◌, List, sym, ap, ◌∙◌, arith}
-use Rattle.hs_ring.specs.Parts.{Drawing}
-use Rattle.hs_locked.specs.Views.{giver_seat_of}
+use Rattle.hs_locked.proofs.Prelude.{Drawing, giver_seat_of}
 use Rattle.hs_locked.proofs.Owed.{Mine}
 use Rattle.hs_locked.proofs.Closings.{is_last, closes_last}
 use Rattle.hs_locked.proofs.closing.close_drawers.Goals as goal

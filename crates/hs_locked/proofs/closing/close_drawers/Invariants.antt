@@ -1,9 +1,5 @@
 use Rattle.std.proofs.Common.{◌≡◌, ◌++◌, length, List}
-use Rattle.hs_ring.specs.Parts.{Drawing, answers_of_all}
-use Rattle.hs_ring.specs.Seats.{IsSameSeat}
-use Rattle.hs_locked.specs.Views.{giver_seat_of}
-use Rattle.hs_locked.specs.Seats.{IsFree}
-use Rattle.hs_locked.specs.Making.{closed_giver_seat}
+use Rattle.hs_locked.proofs.Prelude.{Drawing, answers_of_all, IsSameSeat, giver_seat_of, IsFree, closed_giver_seat}
 use Rattle.hs_locked.proofs.closing.close_drawers.Given as goal
 
 -- the last of the drawers were closed

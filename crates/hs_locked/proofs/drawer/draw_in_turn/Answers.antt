@@ -1,9 +1,5 @@
 use Rattle.std.proofs.Common.{◌≡◌, [], sym, ap, ◌∙◌}
-use Rattle.hs_words.specs.PoolHistory.{PoolEvent}
-use Rattle.hs_pool.specs.Pool.{waiting}
-use Rattle.hs_locked.specs.declared.store.Store.{Store}
-use Rattle.hs_locked.specs.Stored.{next_draw}
-use Rattle.hs_locked.specs.Views.{away, drawing, drawer_seat_of, drawer_seat_after, hand_after, without_lease}
+use Rattle.hs_locked.proofs.Prelude.{PoolEvent, waiting, Store, next_draw, away, drawing, drawer_seat_of, drawer_seat_after, hand_after, without_lease}
 use Rattle.hs_locked.proofs.Owed.{Mine}
 use Rattle.hs_locked.proofs.Seating.{same_seat, slot_is, drawer_inside, drawer_event, drawer_left, drawer_seat, floor_there}
 use Rattle.hs_locked.proofs.drawer.draw_in_turn.Goals as goal

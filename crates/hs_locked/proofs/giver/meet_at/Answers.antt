@@ -1,5 +1,5 @@
 use Rattle.std.proofs.Common.{ap, ◌∙◌, arith}
-use Rattle.hs_locked.specs.Views.{note_of}
+use Rattle.hs_locked.proofs.Prelude.{note_of}
 use Rattle.hs_locked.proofs.Owed.{Mine, drawer_notes, giver_notes, giver_is_told, drawer_is_told}
 use Rattle.hs_locked.proofs.giver.meet_at.Goals as goal
 

@@ -1,9 +1,6 @@
 use Rattle.std.proofs.Common.{◌≡◌, ℕ, ◌≤◌, List, [], ◌∷◌, ◌++◌, length, refl, sym, ap, ◌∙◌, arith}
-use Rattle.std.specs.Prelude.{sum}
-use Rattle.hs_base.specs.declared.limits.TheConstants.{MAX_OPERATIONS}
-use Rattle.hs_words.specs.Chunks.{Contents, clear_chunks}
+use Rattle.hs_locked.proofs.Prelude.{sum, MAX_OPERATIONS, Contents, clear_chunks, Store}
 use Rattle.hs_ring.proofs.Making.{first_size}
-use Rattle.hs_locked.specs.declared.store.Store.{Store}
 use Rattle.hs_locked.proofs.Making.{no_tally, new_locked}
 use Rattle.hs_locked.proofs.pool.lock_of.Goals as goal
 

@@ -1,9 +1,5 @@
 use Rattle.std.proofs.Common.{◌++◌, length, map, ap, ◌∙◌, arith, length-append}
-use Rattle.std.proofs.lemmas.List.{length-map}
-use Rattle.hs_words.specs.Buffers.{buffer_of}
-use Rattle.hs_pins.specs.Priorities.{mark_of}
-use Rattle.hs_pins.specs.Remembered.{pin_for, pin_of}
-use Rattle.hs_pins.specs.PinsLayout.{with_mark}
+use Rattle.hs_pins.proofs.Prelude.{length-map, buffer_of, mark_of, pin_for, pin_of, with_mark}
 use Rattle.hs_pins.proofs.Leaving.{group_goes}
 use Rattle.hs_pins.proofs.abandon.abandon_next.Goals as goal
 

@@ -1,5 +1,5 @@
 use Rattle.std.proofs.Common.{map, arith}
-use Rattle.hs_pins.specs.Remembered.{pin_of}
+use Rattle.hs_pins.proofs.Prelude.{pin_of}
 use Rattle.hs_pins.proofs.Leaving.{goes_on, ends_kept, ends_dropped}
 use Rattle.hs_pins.proofs.abandon.abandon_over.Goals as goal
 

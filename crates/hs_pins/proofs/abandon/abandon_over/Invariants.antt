@@ -1,8 +1,6 @@
 use Rattle.std.proofs.Common.{◌≡◌, ◌+◌, ◌≤◌, length, map}
+use Rattle.hs_pins.proofs.Prelude.{total_of, Remembered, pin_of, HasPinned}
 use Rattle.indexmap.specs.IndexSet.{spare}
-use Rattle.hs_pins.specs.Queues.{total_of}
-use Rattle.hs_pins.specs.Remembered.{Remembered, pin_of}
-use Rattle.hs_pins.specs.PinsLayout.{HasPinned}
 use Rattle.hs_pins.proofs.Leaving.{GoesOn}
 use Rattle.hs_pins.proofs.abandon.abandon_over.Given as goal
 

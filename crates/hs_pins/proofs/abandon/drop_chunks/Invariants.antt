@@ -1,6 +1,5 @@
 use Rattle.std.proofs.Common.{◌≡◌, ◌+◌, ◌≤◌, ◌++◌, length, map}
-use Rattle.hs_words.specs.Buffers.{buffer_of}
-use Rattle.hs_pins.specs.Remembered.{pin_for, pin_of}
+use Rattle.hs_pins.proofs.Prelude.{buffer_of, pin_for, pin_of}
 use Rattle.hs_pins.proofs.abandon.drop_chunks.Given as goal
 
 -- the chunks that were moved are dropped, and there is room for the others

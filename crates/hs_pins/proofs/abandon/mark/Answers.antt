@@ -1,5 +1,5 @@
 use Rattle.std.proofs.Common.{ap, ◌∙◌}
-use Rattle.hs_pins.specs.PinsLayout.{with_mark}
+use Rattle.hs_pins.proofs.Prelude.{with_mark}
 use Rattle.hs_pins.proofs.abandon.mark.Goals as goal
 
 pub returns-clause-marks : goal.returns-clause-marks

@@ -1,5 +1,5 @@
 use Rattle.std.proofs.Common.{sym}
-use Rattle.hs_pins.specs.Priorities.{same_priority}
+use Rattle.hs_pins.proofs.Prelude.{same_priority}
 use Rattle.hs_pins.proofs.GroupLemmas.{nothing-lost}
 use Rattle.hs_pins.proofs.pinned.add_chunks.Goals as goal
 

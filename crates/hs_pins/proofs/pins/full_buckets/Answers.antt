@@ -1,4 +1,4 @@
-use Rattle.hs_pins.specs.Buckets.{fresh_bucket}
+use Rattle.hs_pins.proofs.Prelude.{fresh_bucket}
 use Rattle.hs_pins.proofs.RuleLemmas.{one-rule-more}
 use Rattle.hs_pins.proofs.pins.full_buckets.Goals as goal
 

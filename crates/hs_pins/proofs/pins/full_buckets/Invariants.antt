@@ -1,5 +1,5 @@
 use Rattle.std.proofs.Common.{◌≡◌, take}
-use Rattle.hs_pins.specs.PinsLayout.{fresh_buckets_of}
+use Rattle.hs_pins.proofs.Prelude.{fresh_buckets_of}
 use Rattle.hs_pins.proofs.pins.full_buckets.Given as goal
 
 abbrev pub invariant-loop-rule : goal.invariant-loop-rule

@@ -1,5 +1,5 @@
 use Rattle.std.proofs.Common.{◌≡◌, take}
-use Rattle.hs_pins.specs.Queues.{fresh_queues}
+use Rattle.hs_pins.proofs.Prelude.{fresh_queues}
 use Rattle.hs_pins.proofs.queues.empty_queues.Given as goal
 
 abbrev pub invariant-loop-rule : goal.invariant-loop-rule

@@ -1,5 +1,5 @@
 use Rattle.std.proofs.Common.{sym, arith}
-use Rattle.hs_pins.specs.Queues.{same_id}
+use Rattle.hs_pins.proofs.Prelude.{same_id}
 use Rattle.hs_pins.proofs.QueueLemmas.{count-total, total-more}
 use Rattle.hs_pins.proofs.GroupLemmas.{nothing-lost}
 use Rattle.hs_pins.proofs.queues.pin_chunks.Goals as goal

@@ -1,5 +1,5 @@
 use Rattle.std.proofs.Common.{sym, ap, ◌∙◌}
-use Rattle.hs_pins.specs.Queues.{same_id}
+use Rattle.hs_pins.proofs.Prelude.{same_id}
 use Rattle.hs_pins.proofs.QueueLemmas.{total-less, nothing-taken, set_value-none}
 use Rattle.hs_pins.proofs.queues.take_from.Goals as goal
 

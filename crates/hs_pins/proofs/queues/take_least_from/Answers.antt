@@ -1,5 +1,5 @@
 use Rattle.std.proofs.Common.{sym, length}
-use Rattle.hs_pins.specs.Queues.{same_id}
+use Rattle.hs_pins.proofs.Prelude.{same_id}
 use Rattle.hs_pins.proofs.QueueLemmas.{total-least, nothing-taken}
 use Rattle.hs_pins.proofs.queues.take_least_from.Goals as goal
 

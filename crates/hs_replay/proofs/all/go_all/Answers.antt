@@ -1,7 +1,5 @@
 use Rattle.std.proofs.Common.{arith, subst, sym}
-use Rattle.hs_workload.specs.Views.{workload_of}
-use Rattle.hs_law_lockstep.specs.Lockstep.{Machine}
-use Rattle.hs_replay.specs.All.{NodesAt, clients_gone}
+use Rattle.hs_replay.proofs.Prelude.{workload_of, Machine, NodesAt, clients_gone}
 use Rattle.hs_replay.proofs.Others.{gone_next, gone_none, gone_all}
 use Rattle.hs_replay.proofs.all.go_all.Goals as goal
 

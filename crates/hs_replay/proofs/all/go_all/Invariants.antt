@@ -1,6 +1,4 @@
-use Rattle.hs_law_lockstep.specs.Lockstep.{Machine}
-use Rattle.hs_workload.specs.Views.{workload_of}
-use Rattle.hs_replay.specs.All.{NodesAt, clients_gone}
+use Rattle.hs_replay.proofs.Prelude.{Machine, workload_of, NodesAt, clients_gone}
 use Rattle.hs_replay.proofs.all.go_all.Given as goal
 
 abbrev pub invariant-loop-node : goal.invariant-loop-node

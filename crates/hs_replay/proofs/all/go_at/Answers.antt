@@ -1,7 +1,5 @@
 use Rattle.std.proofs.Common.{◌+◌, ◌-◌, ◌*◌, get_or, arith}
-use Rattle.std.proofs.lemmas.Result.{on_ok_weaker}
-use Rattle.hs_lists.proofs.Lent.{lent_is, lent_from}
-use Rattle.hs_workload.specs.Views.{workload_of}
+use Rattle.hs_replay.proofs.Prelude.{on_ok_weaker, lent_is, lent_from, workload_of}
 use Rattle.hs_replay.proofs.Others.{node_gone, first_few, clients_are}
 use Rattle.hs_replay.proofs.all.go_at.Goals as goal
 

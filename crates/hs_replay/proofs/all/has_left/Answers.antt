@@ -1,6 +1,5 @@
 use Rattle.std.proofs.Common.{arith, subst}
-use Rattle.hs_workload.specs.Views.{workload_of}
-use Rattle.hs_replay.specs.Left.{TellsNodeLeft}
+use Rattle.hs_replay.proofs.Prelude.{workload_of, TellsNodeLeft}
 use Rattle.hs_replay.proofs.Scheduled.{some_left, all_done}
 use Rattle.hs_replay.proofs.all.has_left.Goals as goal
 

@@ -1,8 +1,5 @@
 use Rattle.std.proofs.Common.{ℕ, ◌<◌}
-use Rattle.hs_law_lockstep.specs.Lockstep.{Machine}
-use Rattle.hs_workload.specs.Views.{workload_of}
-use Rattle.hs_replay.specs.All.{NodesAt}
-use Rattle.hs_replay.specs.Left.{IsNodeDone}
+use Rattle.hs_replay.proofs.Prelude.{Machine, workload_of, NodesAt, IsNodeDone}
 use Rattle.hs_replay.proofs.all.has_left.Given as goal
 
 abbrev pub invariant-loop-node : goal.invariant-loop-node

@@ -1,7 +1,5 @@
 use Rattle.std.proofs.Common.{◌+◌, ◌-◌, ◌*◌, get_or, arith, sym, ap, ◌∙◌, Some, List}
-use Rattle.std.proofs.lemmas.Option.{slice_get-get_or}
-use Rattle.hs_workload.specs.Views.{workload_of}
-use Rattle.hs_replay.specs.Parts.{PlainReplayNode}
+use Rattle.hs_replay.proofs.Prelude.{slice_get-get_or, workload_of, PlainReplayNode}
 use Rattle.hs_replay.proofs.Others.{first_few}
 use Rattle.hs_replay.proofs.Scheduled.{has_clients}
 use Rattle.hs_replay.proofs.all.has_left_at.Goals as goal

@@ -1,7 +1,5 @@
 use Rattle.std.proofs.Common.{List, get_or, arith, sym, ap, ◌∙◌, Some}
-use Rattle.std.proofs.lemmas.Option.{slice_get-get_or}
-use Rattle.hs_law_lockstep.specs.Parts.{node_at}
-use Rattle.hs_replay.specs.Parts.{PlainReplayNode}
+use Rattle.hs_replay.proofs.Prelude.{slice_get-get_or, node_at, PlainReplayNode}
 use Rattle.hs_replay.proofs.Scheduled.{node_done, bare_not, bare_all, same_or_less, still_at, node_low}
 use Rattle.hs_replay.proofs.all.is_bare.Goals as goal
 

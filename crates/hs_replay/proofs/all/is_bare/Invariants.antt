@@ -1,11 +1,5 @@
 use Rattle.std.proofs.Common.{◌≡◌, true, ℕ, ◌<◌, Some}
-use Rattle.hs_law_journal.specs.Ends.{is_left_bare}
-use Rattle.hs_law_journal.specs.Following.{NodeRun, followed}
-use Rattle.hs_law_lockstep.specs.Ending.{AllDone}
-use Rattle.hs_law_lockstep.specs.Lockstep.{Machine}
-use Rattle.hs_law_lockstep.specs.Parts.{node_at}
-use Rattle.hs_records.specs.Plain.{PlainWorkload}
-use Rattle.hs_replay.specs.All.{NodesAt}
+use Rattle.hs_replay.proofs.Prelude.{is_left_bare, NodeRun, followed, AllDone, Machine, node_at, PlainWorkload, NodesAt}
 use Rattle.hs_replay.proofs.all.is_bare.Given as goal
 
 abbrev pub invariant-loop-node : goal.invariant-loop-node

@@ -1,4 +1,4 @@
-use Rattle.hs_law_lockstep.specs.Lockstep.{agents_take, agents_give}
+use Rattle.hs_replay.proofs.Prelude.{agents_take, agents_give}
 use Rattle.hs_replay.proofs.Others.{all_passed, nodes_only}
 use Rattle.hs_replay.proofs.all.pass.Goals as goal
 

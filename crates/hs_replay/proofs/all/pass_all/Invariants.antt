@@ -1,6 +1,4 @@
-use Rattle.hs_law_lockstep.specs.Lockstep.{Machine, agents_take, agents_give}
-use Rattle.hs_records.specs.Plain.{PlainWorkload}
-use Rattle.hs_replay.specs.All.{NodesAt, NodesBetween}
+use Rattle.hs_replay.proofs.Prelude.{Machine, agents_take, agents_give, PlainWorkload, NodesAt, NodesBetween}
 use Rattle.hs_replay.proofs.all.pass_all.Given as goal
 
 abbrev pub invariant-loop-node : goal.invariant-loop-node

@@ -1,12 +1,5 @@
 use Rattle.std.proofs.Common.{◌≡◌, ◌∙◌, suc, ◌*◌, [], ◌∷◌, ◌++◌, length, map, take, sym, ap, arith, length-append}
-use Rattle.std.proofs.lemmas.Iterator.Adapters.{YieldsList-from_vec}
-use Rattle.std.proofs.lemmas.Iterator.Consumers.{YieldsList-turn, YieldsList-end}
-use Rattle.std.specs.List.{range_with_len}
-use Rattle.hs_lists.proofs.Places.{item_there}
-use Rattle.hs_journal.specs.Books.{agent_book_of, client_book_of}
-use Rattle.hs_law_journal.specs.Following.{NodeRun, followed}
-use Rattle.hs_law_agent.specs.Books.{book_of}
-use Rattle.hs_law_outcome.specs.Outcomes.{client_book}
+use Rattle.hs_replay.proofs.Prelude.{YieldsList-from_vec, YieldsList-turn, YieldsList-end, range_with_len, item_there, agent_book_of, client_book_of, NodeRun, followed, book_of, client_book}
 use Rattle.hs_replay.proofs.Booked.{has_ended, clients_more, agents_more, all_clients, all_agents}
 use Rattle.hs_replay.proofs.books.books_of.Goals as goal
 

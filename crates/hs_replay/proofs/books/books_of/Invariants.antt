@@ -1,13 +1,5 @@
 use Rattle.std.proofs.Common.{◌≡◌, ◌*◌, length, map, take}
-use Rattle.std.specs.List.{range_with_len}
-use Rattle.hs_coord.specs.Kept.{PlainCoordinator}
-use Rattle.hs_journal.specs.Books.{agent_book_of, client_book_of}
-use Rattle.hs_law_journal.specs.Following.{followed}
-use Rattle.hs_law_outcome.specs.Outcomes.{client_book}
-use Rattle.hs_records.specs.Plain.{PlainWorkload}
-use Rattle.hs_replay.specs.All.{AllClosed}
-use Rattle.hs_law_journal.specs.Following.{NodeRun}
-use Rattle.hs_law_agent.specs.Books.{book_of}
+use Rattle.hs_replay.proofs.Prelude.{range_with_len, PlainCoordinator, agent_book_of, client_book_of, followed, client_book, PlainWorkload, AllClosed, NodeRun, book_of}
 use Rattle.hs_replay.proofs.books.books_of.Given as goal
 
 abbrev pub invariant-loop-node : goal.invariant-loop-node

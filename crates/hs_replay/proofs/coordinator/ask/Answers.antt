@@ -1,6 +1,5 @@
 use Rattle.std.proofs.Common.{get_or}
-use Rattle.std.proofs.lemmas.Result.{on_ok_weaker}
-use Rattle.hs_lists.proofs.Lent.{lent_is, lent_from}
+use Rattle.hs_replay.proofs.Prelude.{on_ok_weaker, lent_is, lent_from}
 use Rattle.hs_replay.proofs.coordinator.ask.Goals as goal
 
 pub returns : goal.returns

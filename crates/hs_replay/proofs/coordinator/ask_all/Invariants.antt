@@ -1,4 +1,4 @@
-use Rattle.hs_replay.specs.Hearing.{AreAsked}
+use Rattle.hs_replay.proofs.Prelude.{AreAsked}
 use Rattle.hs_replay.proofs.coordinator.ask_all.Given as goal
 
 abbrev pub invariant-loop-node : goal.invariant-loop-node

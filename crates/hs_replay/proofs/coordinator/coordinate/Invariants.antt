@@ -1,7 +1,4 @@
-use Rattle.hs_records.specs.Plain.{PlainWorkload}
-use Rattle.hs_law_lockstep.specs.Lockstep.{Machine}
-use Rattle.hs_replay.specs.All.{AllAt}
-use Rattle.hs_replay.specs.Hearing.{HeardUpTo}
+use Rattle.hs_replay.proofs.Prelude.{PlainWorkload, Machine, AllAt, HeardUpTo}
 use Rattle.hs_replay.proofs.coordinator.coordinate.Given as goal
 
 abbrev pub invariant-loop-node : goal.invariant-loop-node

@@ -1,8 +1,4 @@
-use Rattle.hs_coord.specs.Following.{Messages}
-use Rattle.hs_records.specs.Plain.{PlainWorkload}
-use Rattle.hs_law_lockstep.specs.Lockstep.{Machine}
-use Rattle.hs_replay.specs.All.{AllHeard}
-use Rattle.hs_replay.specs.Hearing.{HeardOf}
+use Rattle.hs_replay.proofs.Prelude.{Messages, PlainWorkload, Machine, AllHeard, HeardOf}
 use Rattle.hs_replay.proofs.coordinator.hear_node.Given as goal
 
 abbrev pub invariant-loop-count : goal.invariant-loop-count

@@ -1,11 +1,5 @@
 use Rattle.std.proofs.Common.{◌≡◌, ◌∙◌, [], ◌∷◌, ◌++◌, List, length, map, sym, ap, subst}
-use Rattle.std.proofs.lemmas.Iterator.Adapters.{YieldsList-from_vec}
-use Rattle.std.proofs.lemmas.Iterator.Consumers.{YieldsList-turn, YieldsList-end}
-use Rattle.std.specs.List.{range_with_len}
-use Rattle.hs_lists.proofs.Places.{item_there}
-use Rattle.hs_journal.specs.Books.{client_book_of}
-use Rattle.hs_journal.specs.declared.books.ClientBook.{ClientBook}
-use Rattle.hs_replay.specs.Finishing.{client_noted}
+use Rattle.hs_replay.proofs.Prelude.{YieldsList-from_vec, YieldsList-turn, YieldsList-end, range_with_len, item_there, client_book_of, ClientBook, client_noted}
 use Rattle.hs_replay.proofs.Ended.{is_done, noted_more}
 use Rattle.hs_replay.proofs.finishing.note_players.Goals as goal
 

@@ -1,9 +1,5 @@
 use Rattle.std.proofs.Common.{◌≡◌, ℕ, ◌++◌, length, map}
-use Rattle.std.specs.List.{range_with_len}
-use Rattle.hs_journal.specs.Books.{client_book_of}
-use Rattle.hs_law_lockstep.specs.Lockstep.{Machine}
-use Rattle.hs_records.specs.Plain.{PlainWorkload}
-use Rattle.hs_replay.specs.Finishing.{HaveEnded, client_noted}
+use Rattle.hs_replay.proofs.Prelude.{range_with_len, client_book_of, Machine, PlainWorkload, HaveEnded, client_noted}
 use Rattle.hs_replay.proofs.finishing.note_players.Given as goal
 
 abbrev pub invariant-loop-player : goal.invariant-loop-player

@@ -1,6 +1,5 @@
 use Rattle.std.proofs.Common.{◌≡◌, ◌≤◌, length}
-use Rattle.hs_records.specs.Plain.{PlainWorkload}
-use Rattle.hs_replay.specs.Making.{IsNewNode, AreNew}
+use Rattle.hs_replay.proofs.Prelude.{PlainWorkload, IsNewNode, AreNew}
 use Rattle.hs_replay.proofs.making.players_of.Given as goal
 
 abbrev pub invariant-loop-client : goal.invariant-loop-client

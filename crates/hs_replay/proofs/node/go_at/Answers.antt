@@ -1,5 +1,5 @@
 use Rattle.std.proofs.Common.{get_or}
-use Rattle.hs_lists.proofs.Lent.{lent_is, lent_from}
+use Rattle.hs_replay.proofs.Prelude.{lent_is, lent_from}
 use Rattle.hs_replay.proofs.Lists.{on_ok}
 use Rattle.hs_replay.proofs.node.go_at.Goals as goal
 

@@ -1,5 +1,4 @@
-use Rattle.hs_law_lockstep.specs.Lockstep.{lockstep}
-use Rattle.hs_workload.specs.Views.{workload_of}
+use Rattle.hs_replay.proofs.Prelude.{lockstep, workload_of}
 use Rattle.hs_replay.proofs.Values.{on_ok_value}
 use Rattle.hs_replay.proofs.replaying.into_outcome.Goals as goal
 

@@ -1,6 +1,5 @@
 use Rattle.std.proofs.Common.{◌∙◌, ◌++◌, List, refl, ap}
-use Rattle.hs_base.specs.declared.ids.NodeId.{NodeId}
-use Rattle.hs_workload.specs.Views.{workload_of}
+use Rattle.hs_replay.proofs.Prelude.{NodeId, workload_of}
 use Rattle.hs_replay.proofs.Booked.{told_is}
 use Rattle.hs_replay.proofs.replaying.play.Goals as goal
 

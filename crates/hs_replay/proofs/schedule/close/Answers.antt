@@ -1,7 +1,5 @@
 use Rattle.std.proofs.Common.{arith, sym, ◌∙◌}
-use Rattle.hs_law_journal.specs.Ends.{rounds_of}
-use Rattle.hs_law_lockstep.specs.Ending.{behind_rounds, passed}
-use Rattle.hs_workload.specs.Views.{workload_of}
+use Rattle.hs_replay.proofs.Prelude.{rounds_of, behind_rounds, passed, workload_of}
 use Rattle.hs_replay.proofs.Others.{nodes_only}
 use Rattle.hs_replay.proofs.Scheduled.{closing_done, pass_left, pass_more, closed_at}
 use Rattle.hs_replay.proofs.schedule.close.Goals as goal

@@ -1,7 +1,5 @@
 use Rattle.std.proofs.Common.{arith, subst}
-use Rattle.hs_law_lockstep.specs.Lockstep.{Machine, machine_start, clients_go, rounds}
-use Rattle.hs_workload.specs.Views.{workload_of}
-use Rattle.hs_replay.specs.All.{AllAt, TellsLeft}
+use Rattle.hs_replay.proofs.Prelude.{Machine, machine_start, clients_go, rounds, workload_of, AllAt, TellsLeft}
 use Rattle.hs_replay.proofs.Others.{nodes_only}
 use Rattle.hs_replay.proofs.Scheduled.{round_gone, round_left, round_more, rounds_through}
 use Rattle.hs_replay.proofs.schedule.rounds.Goals as goal

@@ -1,8 +1,5 @@
 use Rattle.std.proofs.Common.{◌-◌, ◌≤◌}
-use Rattle.hs_law_journal.specs.Ends.{rounds_of}
-use Rattle.hs_law_lockstep.specs.Lockstep.{machine_start, rounds}
-use Rattle.hs_workload.specs.Views.{workload_of}
-use Rattle.hs_replay.specs.All.{AllAt}
+use Rattle.hs_replay.proofs.Prelude.{rounds_of, machine_start, rounds, workload_of, AllAt}
 use Rattle.hs_replay.proofs.schedule.rounds.Given as goal
 
 abbrev pub invariant-rounds : goal.invariant-rounds

@@ -1,5 +1,5 @@
 use Rattle.std.proofs.Common.{◌+◌, ◌-◌, ◌*◌, arith}
-use Rattle.hs_workload.specs.Views.{workload_of}
+use Rattle.hs_replay.proofs.Prelude.{workload_of}
 use Rattle.hs_replay.proofs.Others.{first_few, are_few, clients_are}
 use Rattle.hs_replay.proofs.start.make_at.Goals as goal
 

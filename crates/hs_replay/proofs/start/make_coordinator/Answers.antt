@@ -1,5 +1,5 @@
 use Rattle.std.proofs.Common.{arith}
-use Rattle.hs_workload.specs.Views.{workload_of}
+use Rattle.hs_replay.proofs.Prelude.{workload_of}
 use Rattle.hs_replay.proofs.Others.{are_few}
 use Rattle.hs_replay.proofs.Started.{coordinator_made}
 use Rattle.hs_replay.proofs.start.make_coordinator.Goals as goal

@@ -1,8 +1,6 @@
 use Rattle.std.proofs.Common.{◌+◌, arith, subst, sym, List}
 use Rattle.hs_law_lockstep.specs.Reaching as reaching
-use Rattle.hs_workload.specs.Views.{workload_of}
-use Rattle.hs_replay.specs.Making.{AreMade}
-use Rattle.hs_replay.specs.Parts.{PlainReplayNode}
+use Rattle.hs_replay.proofs.Prelude.{workload_of, AreMade, PlainReplayNode}
 use Rattle.hs_replay.proofs.Started.{one_more_made, none_made}
 use Rattle.hs_replay.proofs.start.make_nodes.Goals as goal
 

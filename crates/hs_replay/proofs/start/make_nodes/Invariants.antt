@@ -1,6 +1,5 @@
 use Rattle.std.proofs.Common.{◌≤◌}
-use Rattle.hs_workload.specs.Views.{workload_of}
-use Rattle.hs_replay.specs.Making.{AreMade}
+use Rattle.hs_replay.proofs.Prelude.{workload_of, AreMade}
 use Rattle.hs_replay.proofs.start.make_nodes.Given as goal
 
 abbrev pub invariant-loop-node : goal.invariant-loop-node

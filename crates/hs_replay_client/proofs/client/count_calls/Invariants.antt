@@ -1,6 +1,5 @@
 use Rattle.std.proofs.Common.{◌≡◌, ◌+◌, map, drop}
-use Rattle.hs_workload.specs.Views.{operation_of}
-use Rattle.hs_workload.specs.Validity.{client_pieces}
+use Rattle.hs_replay_client.proofs.Prelude.{operation_of, client_pieces}
 use Rattle.hs_replay_client.proofs.client.count_calls.Given as goal
 
 abbrev pub invariant-loop-operation : goal.invariant-loop-operation

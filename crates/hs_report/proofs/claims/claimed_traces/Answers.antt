@@ -1,8 +1,7 @@
 use Rattle.std.proofs.Common.{eqb, ap, ◌∙◌}
+use Rattle.hs_report.proofs.Prelude.{TraceId, rising_traces}
 use Rattle.std.proofs.lemmas.List.Filters.{dedup_is}
 use Rattle.std.proofs.lemmas.List.Sorted.{IsNonDecreasingBy-from_sort}
-use Rattle.hs_base.specs.declared.ids.TraceId.{TraceId}
-use Rattle.hs_law_outcome.specs.Outcomes.{rising_traces}
 use Rattle.hs_report.proofs.Claimed.{sorted_once}
 use Rattle.hs_report.proofs.claims.claimed_traces.Goals as goal
 

@@ -1,5 +1,5 @@
 use Rattle.std.proofs.Common.{[], arith}
-use Rattle.hs_report.specs.Claims.{all_claimed}
+use Rattle.hs_report.proofs.Prelude.{all_claimed}
 use Rattle.hs_report.proofs.Claimed.{all_claimed_join, one_claimed}
 use Rattle.hs_report.proofs.Loops.{loop_more}
 use Rattle.hs_report.proofs.claims.claims.Goals as goal

@@ -1,5 +1,5 @@
 use Rattle.std.proofs.Common.{◌≡◌, take}
-use Rattle.hs_report.specs.Claims.{all_claimed}
+use Rattle.hs_report.proofs.Prelude.{all_claimed}
 use Rattle.hs_report.proofs.claims.claims.Given as goal
 
 abbrev pub invariant-loop-book : goal.invariant-loop-book

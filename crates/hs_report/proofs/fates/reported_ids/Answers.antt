@@ -1,6 +1,5 @@
 use Rattle.std.proofs.Common.{ap, ◌∙◌, sym}
-use Rattle.std.specs.HashSet.{contains}
-use Rattle.hs_collect.specs.Collected.{is_same}
+use Rattle.hs_report.proofs.Prelude.{contains, is_same}
 use Rattle.hs_report.proofs.Ids.{was_more, put_one, left_out}
 use Rattle.hs_report.proofs.fates.reported_ids.Goals as goal
 use Rattle.hs_report.proofs.fates.reported_ids.Goals.{then-is_reported+in_ok-insert, else-is_reported}

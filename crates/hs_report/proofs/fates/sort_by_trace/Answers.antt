@@ -1,9 +1,6 @@
 use Rattle.std.proofs.Common.{ap, ◌∙◌, rules}
-use Rattle.std.specs.List.{filter}
+use Rattle.hs_report.proofs.Prelude.{filter, always_returns_same, Entry, is_of}
 use Rattle.std.proofs.lemmas.List.Sorted.{IsNonDecreasingBy-from_sort_by_key}
-use Rattle.std.proofs.lemmas.Fn.{always_returns_same}
-use Rattle.hs_ledger.specs.declared.ledger.Entry.{Entry}
-use Rattle.hs_law_outcome.specs.Reports.{is_of}
 use Rattle.hs_report.proofs.ByTrace.{same_of_trace}
 use Rattle.hs_report.proofs.fates.sort_by_trace.Goals as goal
 

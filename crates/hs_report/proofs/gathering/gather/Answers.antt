@@ -1,12 +1,9 @@
 use Rattle.std.proofs.Common.{◌≤◌, ◌^◌, List, length, map, ap, sym, ◌∙◌, refl, subst, arith}
-use Rattle.hs_journal.specs.Books.{PlainClientBook, PlainAgentBook, agent_book_of}
+use Rattle.hs_report.proofs.Prelude.{PlainClientBook, PlainAgentBook, agent_book_of, rising_traces, outcome_of, all_records, all_claimed, SpellAll, all_sent}
 use Rattle.hs_ledger.specs.Books.{BooksFit}
 use Rattle.hs_ledger.specs.Fates.{entries_of}
 use Rattle.hs_ledger.specs.Totals.{totals_of}
-use Rattle.hs_law_outcome.specs.Outcomes.{rising_traces, outcome_of, client_books}
-use Rattle.hs_law_outcome.specs.Records.{all_records}
-use Rattle.hs_report.specs.Claims.{all_claimed}
-use Rattle.hs_report.specs.Pages.{SpellAll, all_sent}
+use Rattle.hs_law_outcome.specs.Outcomes.{client_books}
 use Rattle.hs_report.proofs.Journals.{journal_is, claimed_are, sent_are}
 use Rattle.hs_report.proofs.Shapes.{ends_its_traces}
 use Rattle.hs_report.proofs.gathering.gather.Goals as goal

@@ -1,8 +1,5 @@
 use Rattle.std.proofs.Common.{◌≡◌, take}
-use Rattle.std.specs.HashSet.{contains}
-use Rattle.std.specs.List.{filter}
-use Rattle.hs_base.specs.Ids.{same_trace}
-use Rattle.hs_report.specs.Kept.{is_kept}
+use Rattle.hs_report.proofs.Prelude.{contains, filter, same_trace, is_kept}
 use Rattle.hs_report.proofs.kept.kept_entries.Given as goal
 
 abbrev pub invariant-loop-entry : goal.invariant-loop-entry

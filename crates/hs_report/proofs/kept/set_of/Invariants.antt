@@ -1,7 +1,5 @@
 use Rattle.std.proofs.Common.{◌≡◌, take}
-use Rattle.std.specs.HashSet.{contains}
-use Rattle.hs_base.specs.declared.ids.TraceId.{TraceId}
-use Rattle.hs_base.specs.Ids.{same_trace, is_among}
+use Rattle.hs_report.proofs.Prelude.{contains, TraceId, same_trace, is_among}
 use Rattle.hs_report.proofs.kept.set_of.Given as goal
 
 abbrev pub invariant-loop-trace : goal.invariant-loop-trace

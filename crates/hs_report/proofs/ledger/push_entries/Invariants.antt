@@ -1,6 +1,5 @@
 use Rattle.std.proofs.Common.{◌≡◌, ◌++◌, take, map}
-use Rattle.hs_text.specs.Text.{text_of}
-use Rattle.hs_law_outcome.specs.OutcomeText.{entry_line}
+use Rattle.hs_report.proofs.Prelude.{text_of, entry_line}
 use Rattle.hs_report.proofs.ledger.push_entries.Given as goal
 
 abbrev pub invariant-loop-entry : goal.invariant-loop-entry

@@ -1,8 +1,5 @@
 use Rattle.std.proofs.Common.{◌≡◌, List, ℕ, ◌++◌, ◌∷◌, OnOk, decimal, refl, sym, ap, ◌∙◌, subst}
-use Rattle.hs_base.specs.declared.told.Fate.{Fate}
-use Rattle.hs_text.specs.Text.{hex_text, line_of}
-use Rattle.hs_text.specs.Writing.{trace_word}
-use Rattle.hs_law_outcome.specs.OutcomeText.{fate_words}
+use Rattle.hs_report.proofs.Prelude.{Fate, hex_text, line_of, trace_word, fate_words}
 use Rattle.hs_report.proofs.LedgerLines.{abandoned_written}
 use Rattle.hs_report.proofs.ledger.push_fate.Goals as goal
 

@@ -1,6 +1,5 @@
 use Rattle.std.proofs.Common.{take, suc, sym, ap, ◌∙◌, subst, add-one}
-use Rattle.hs_collect.specs.Collected.{AreCollected, CanBeAdded}
-use Rattle.hs_report.specs.declared.pages.Reported.{Reported}
+use Rattle.hs_report.proofs.Prelude.{AreCollected, CanBeAdded, Reported}
 use Rattle.hs_report.proofs.Adding.{page_at, can_front}
 use Rattle.hs_report.proofs.Sent.{all_beside}
 use Rattle.hs_report.proofs.pages.collect.Goals as goal

@@ -1,7 +1,5 @@
 use Rattle.std.proofs.Common.{take}
-use Rattle.hs_collect.specs.Collected.{AreCollected, CanBeAdded}
-use Rattle.hs_collect.specs.Views.{Sheets}
-use Rattle.hs_report.specs.Pages.{SpellAll, bytes_of}
+use Rattle.hs_report.proofs.Prelude.{AreCollected, CanBeAdded, Sheets, SpellAll, bytes_of}
 use Rattle.hs_report.proofs.pages.collect.Given as goal
 
 abbrev pub invariant-loop-page : goal.invariant-loop-page

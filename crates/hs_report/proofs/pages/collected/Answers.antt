@@ -1,6 +1,5 @@
 use Rattle.std.proofs.Common.{sym, subst}
-use Rattle.std.proofs.lemmas.Result.{IfOk-weaker}
-use Rattle.hs_report.specs.Pages.{SpellAll, bytes_of}
+use Rattle.hs_report.proofs.Prelude.{IfOk-weaker, SpellAll, bytes_of}
 use Rattle.hs_report.proofs.pages.collected.Goals as goal
 
 pub collect-requires : goal.collect-requires

@@ -1,8 +1,6 @@
 use Rattle.std.proofs.Common.{ℕ, [], ◌∷◌, ◌++◌, take, sym, ap, ◌∙◌, subst, append_assoc, add-one, arith}
+use Rattle.hs_report.proofs.Prelude.{Sheets, Spells, AreRead}
 use Rattle.hs_base.specs.Listing.{Listing}
-use Rattle.hs_collect.specs.Views.{Sheets}
-use Rattle.hs_words.specs.Reading.{Spells}
-use Rattle.hs_report.specs.Pages.{AreRead}
 use Rattle.hs_report.proofs.Sent.{sheet_at, all_beside, read_more}
 use Rattle.hs_report.proofs.pages.push_reported.Goals as goal
 

@@ -1,6 +1,5 @@
 use Rattle.std.proofs.Common.{◌++◌, take, map}
-use Rattle.hs_collect.specs.Views.{Sheets}
-use Rattle.hs_report.specs.Pages.{SpellAll, AreRead}
+use Rattle.hs_report.proofs.Prelude.{Sheets, SpellAll, AreRead}
 use Rattle.hs_report.proofs.pages.push_reported.Given as goal
 
 abbrev pub invariant-loop-bytes : goal.invariant-loop-bytes

@@ -1,9 +1,6 @@
 use Rattle.std.proofs.Common.{◌≡◌, ◌==◌, true, Some, ap, ◌∙◌, arith}
-use Rattle.std.proofs.lemmas.Bool.Decides.{nat_tests}
-use Rattle.hs_base.specs.declared.ids.TraceId.{TraceId}
+use Rattle.hs_report.proofs.Prelude.{nat_tests, TraceId, Sheet, with_trace}
 use Rattle.hs_words.specs.declared.page.Header.{Header}
-use Rattle.hs_words.specs.Pages.{Sheet}
-use Rattle.hs_report.specs.Pages.{with_trace}
 use Rattle.hs_report.proofs.pages.read_reported.Goals as goal
 
 same_trace : (a b : TraceId) → (a.0 == b.0) ≡ true → b ≡ a

@@ -1,7 +1,5 @@
 use Rattle.std.proofs.Common.{◌≡◌, ◌+◌, take, drop, map, sym, subst}
-use Rattle.std.proofs.lemmas.List.{take_all}
-use Rattle.hs_collect.specs.Views.{Sheets}
-use Rattle.hs_report.specs.Pages.{SpellAll, AreRead, all_sent, noted, note_of}
+use Rattle.hs_report.proofs.Prelude.{take_all, Sheets, SpellAll, AreRead, all_sent, noted, note_of}
 use Rattle.hs_report.proofs.Sent.{split, sent_more, sent_split, none_sent, none_read}
 use Rattle.hs_report.proofs.pages.reported_pages.Goals as goal
 

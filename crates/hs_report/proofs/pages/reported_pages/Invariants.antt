@@ -1,6 +1,5 @@
 use Rattle.std.proofs.Common.{take}
-use Rattle.hs_collect.specs.Views.{Sheets}
-use Rattle.hs_report.specs.Pages.{SpellAll, AreRead, all_sent}
+use Rattle.hs_report.proofs.Prelude.{Sheets, SpellAll, AreRead, all_sent}
 use Rattle.hs_report.proofs.pages.reported_pages.Given as goal
 
 abbrev pub invariant-loop-book : goal.invariant-loop-book

@@ -1,8 +1,5 @@
 use Rattle.std.proofs.Common.{ℕ, rules, arith}
-use Rattle.std.proofs.lemmas.Fn.{always_returns_same}
-use Rattle.std.proofs.lemmas.Bool.Decides.{nat_tests}
-use Rattle.hs_base.specs.declared.ids.ClientId.{ClientId}
-use Rattle.hs_report.specs.declared.pages.Reported.{Reported}
+use Rattle.hs_report.proofs.Prelude.{always_returns_same, nat_tests, ClientId, Reported}
 use Rattle.hs_report.proofs.Runs.{sorted_reordered}
 use Rattle.hs_report.proofs.pages.sort_pages.Goals as goal
 

@@ -1,9 +1,5 @@
 use Rattle.std.proofs.Common.{◌++◌, map, ap, sym, ◌∙◌, append-nil}
-use Rattle.std.proofs.lemmas.Result.{on_ok_weaker}
-use Rattle.hs_collect.specs.Views.{placed_of}
-use Rattle.hs_law_outcome.specs.CollectedReports.{reported_wholes}
-use Rattle.hs_law_outcome.specs.OutcomeText.{placed_line}
-use Rattle.hs_text.specs.Text.{text_of}
+use Rattle.hs_report.proofs.Prelude.{on_ok_weaker, placed_of, reported_wholes, placed_line, text_of}
 use Rattle.hs_report.proofs.Reports.{none_shown}
 use Rattle.hs_report.proofs.text.push_collected.Goals as goal
 

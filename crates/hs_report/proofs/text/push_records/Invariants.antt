@@ -1,6 +1,5 @@
 use Rattle.std.proofs.Common.{◌≡◌, ◌++◌, List, take}
-use Rattle.hs_ledger.specs.declared.ledger.Entry.{Entry}
-use Rattle.hs_report.specs.Fates.{AreFatesOf}
+use Rattle.hs_report.proofs.Prelude.{Entry, AreFatesOf}
 use Rattle.hs_report.proofs.Loops.{record_lines}
 use Rattle.hs_report.proofs.text.push_records.Given as goal
 

@@ -1,4 +1,4 @@
-use Rattle.std.proofs.lemmas.Result.{on_ok_weaker}
+use Rattle.hs_report.proofs.Prelude.{on_ok_weaker}
 use Rattle.hs_report.proofs.Reports.{report_written}
 use Rattle.hs_report.proofs.text.push_report.Goals as goal
 

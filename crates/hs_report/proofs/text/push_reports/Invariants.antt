@@ -1,8 +1,5 @@
 use Rattle.std.proofs.Common.{◌≡◌, ◌++◌, List, take}
-use Rattle.hs_base.specs.declared.ids.TraceId.{TraceId}
-use Rattle.hs_collect.specs.Collected.{Placed}
-use Rattle.hs_ledger.specs.declared.ledger.Entry.{Entry}
-use Rattle.hs_report.specs.Sources.{Hold}
+use Rattle.hs_report.proofs.Prelude.{TraceId, Placed, Entry, Hold}
 use Rattle.hs_report.proofs.Loops.{trace_lines}
 use Rattle.hs_report.proofs.text.push_reports.Given as goal
 

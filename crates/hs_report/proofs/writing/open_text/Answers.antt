@@ -1,5 +1,5 @@
 use Rattle.std.proofs.Common.{sym, subst}
-use Rattle.hs_journal.specs.Grammar.{HasItsLists}
+use Rattle.hs_report.proofs.Prelude.{HasItsLists}
 use Rattle.hs_report.proofs.Shapes.{has_its_lists}
 use Rattle.hs_report.proofs.writing.open_text.Goals as goal
 

@@ -1,7 +1,5 @@
 use Rattle.std.proofs.Common.{[], arith}
-use Rattle.std.specs.List.{filter}
-use Rattle.std.proofs.lemmas.List.Elements.{filter-append}
-use Rattle.hs_report.specs.Fates.{has_entry}
+use Rattle.hs_report.proofs.Prelude.{filter, filter-append, has_entry}
 use Rattle.hs_report.proofs.Loops.{loop_more_at}
 use Rattle.hs_report.proofs.writing.reported_traces.Goals as goal
 

@@ -1,7 +1,5 @@
 use Rattle.std.proofs.Common.{◌≡◌, List, take}
-use Rattle.std.specs.List.{filter}
-use Rattle.hs_ledger.specs.declared.ledger.Entry.{Entry}
-use Rattle.hs_report.specs.Fates.{AreFatesOf, has_entry}
+use Rattle.hs_report.proofs.Prelude.{filter, Entry, AreFatesOf, has_entry}
 use Rattle.hs_report.proofs.writing.reported_traces.Given as goal
 
 abbrev pub invariant-loop-trace : goal.invariant-loop-trace

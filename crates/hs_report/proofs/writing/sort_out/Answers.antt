@@ -1,7 +1,5 @@
 use Rattle.std.proofs.Common.{◌≡◌, ap, ◌∙◌, subst}
-use Rattle.std.specs.List.{filter}
-use Rattle.hs_report.specs.Fates.{AreFatesOf, has_entry}
-use Rattle.hs_report.specs.Kept.{is_kept, kept_of}
+use Rattle.hs_report.proofs.Prelude.{filter, AreFatesOf, has_entry, is_kept, kept_of}
 use Rattle.hs_report.proofs.KeptLemmas.{sorted_kept}
 use Rattle.hs_report.proofs.writing.sort_out.Goals as goal
 

@@ -1,15 +1,6 @@
 use Rattle.std.proofs.Common.{[], ◌∷◌, ◌++◌, length, map, ap, ◌∙◌}
-use Rattle.std.specs.List.{flat_map}
-use Rattle.std.proofs.lemmas.Result.{IfOk-weaker}
-use Rattle.hs_journal.specs.Grammar.{journal_text}
-use Rattle.hs_journal.specs.Views.{journal_of}
-use Rattle.hs_law_outcome.specs.OutcomeText.{report_lines}
-use Rattle.hs_law_outcome.specs.declared.form.Form.TheVariants.{Text}
-use Rattle.hs_report.specs.Kept.{kept_of}
-use Rattle.hs_report.specs.Sorted.{count_line, records_by}
-use Rattle.hs_report.specs.Sources.{report_by}
+use Rattle.hs_report.proofs.Prelude.{flat_map, IfOk-weaker, journal_text, journal_of, report_lines, Text, kept_of, count_line, records_by, report_by, text_of}
 use Rattle.hs_report.proofs.Written.{counted_lines, text_written}
-use Rattle.hs_text.specs.Text.{text_of}
 use Rattle.hs_report.proofs.writing.write_lines.Goals as goal
 
 pub returns : goal.returns

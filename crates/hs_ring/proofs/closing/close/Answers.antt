@@ -1,6 +1,6 @@
 use Rattle.std.proofs.Common.{ap, length, arith}
+use Rattle.hs_ring.proofs.Prelude.{GiverSeat}
 use Rattle.hs_ring.specs.Parts.{Giving}
-use Rattle.hs_ring.specs.Views.{GiverSeat}
 use Rattle.hs_ring.proofs.Closings.{answers_length}
 use Rattle.hs_ring.proofs.closing.close.Goals as goal
 

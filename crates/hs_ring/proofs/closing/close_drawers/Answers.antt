@@ -1,6 +1,5 @@
 use Rattle.std.proofs.Common.{◌++◌, List, sym, ap, ◌∙◌, arith}
-use Rattle.hs_ring.specs.Parts.{Drawing}
-use Rattle.hs_ring.specs.Views.{giver_seat_of}
+use Rattle.hs_ring.proofs.Prelude.{Drawing, giver_seat_of}
 use Rattle.hs_ring.proofs.Owed.{Mine}
 use Rattle.hs_ring.proofs.Closings.{is_last, closes_last}
 use Rattle.hs_ring.proofs.closing.close_drawers.Goals as goal

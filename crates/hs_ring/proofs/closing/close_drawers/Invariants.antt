@@ -1,8 +1,5 @@
 use Rattle.std.proofs.Common.{◌≡◌, ◌++◌, length, List}
-use Rattle.hs_ring.specs.Parts.{Drawing, answers_of_all}
-use Rattle.hs_ring.specs.Views.{giver_seat_of}
-use Rattle.hs_ring.specs.Seats.{IsSameSeat, IsFree}
-use Rattle.hs_ring.specs.Making.{closed_giver_seat}
+use Rattle.hs_ring.proofs.Prelude.{Drawing, answers_of_all, giver_seat_of, IsSameSeat, IsFree, closed_giver_seat}
 use Rattle.hs_ring.proofs.closing.close_drawers.Given as goal
 
 -- the last of the drawers were closed

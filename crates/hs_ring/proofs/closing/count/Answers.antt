@@ -1,5 +1,5 @@
 use Rattle.std.proofs.Common.{ap, arith}
-use Rattle.hs_ring.specs.Views.{giver_seat_of}
+use Rattle.hs_ring.proofs.Prelude.{giver_seat_of}
 use Rattle.hs_ring.proofs.Owed.{Mine, looks_at}
 use Rattle.hs_ring.proofs.Closings.{ends}
 use Rattle.hs_ring.proofs.closing.count.Goals as goal

@@ -1,8 +1,5 @@
 use Rattle.std.proofs.Common.{◌≡◌, ℕ, ◌%◌, ◌<◌, List, [], ◌∷◌, Some, sym, ap, ap₂, ◌∙◌, arith}
-use Rattle.std.specs.Prelude.{Option}
-use Rattle.hs_words.specs.Chunks.{Contents, clear_chunk}
-use Rattle.hs_ring.specs.Views.{drawer_seat_of}
-use Rattle.hs_ring.specs.Steps.{drawn_of, published_of}
+use Rattle.hs_ring.proofs.Prelude.{Option, Contents, clear_chunk, drawer_seat_of, drawn_of, published_of}
 use Rattle.hs_ring.proofs.Owed.{Mine}
 use Rattle.hs_ring.proofs.drawer.draw_from.Goals as goal
 

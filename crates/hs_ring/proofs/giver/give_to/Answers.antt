@@ -1,6 +1,5 @@
 use Rattle.std.proofs.Common.{◌≡◌, length, ap, ◌∙◌, arith}
-use Rattle.hs_words.specs.Ends.{answers_in}
-use Rattle.hs_ring.specs.Views.{GiverSeat, giver_seat_of}
+use Rattle.hs_ring.proofs.Prelude.{answers_in, GiverSeat, giver_seat_of}
 use Rattle.hs_ring.specs.Seats.{IsNext}
 use Rattle.hs_ring.proofs.Owed.{Mine}
 use Rattle.hs_ring.proofs.Givers.{at_there, still_giver, post_laid, post_taken}

@@ -1,11 +1,6 @@
 use Rattle.std.proofs.Common.{◌≡◌, ℕ, ◌+◌, ◌∷◌, [], ◌++◌, List, length, get_or, take, drop, sym, ap, ap₂, ◌∙◌, subst, arith, length-take}
+use Rattle.hs_ring.proofs.Prelude.{TableId, arc_value, Drawing, new_drawers, name_of, giver_seat_of, IsMaking}
 use Rattle.std.proofs.lemmas.List.{drop_more, take_more}
-use Rattle.atomic_table.specs.Seated.{TableId}
-use Rattle.std.specs.Arc.{arc_value}
-use Rattle.hs_ring.specs.Parts.{Drawing, new_drawers}
-use Rattle.hs_ring.specs.Seats.{name_of}
-use Rattle.hs_ring.specs.Views.{giver_seat_of}
-use Rattle.hs_ring.specs.Making.{IsMaking}
 use Rattle.hs_ring.proofs.Making.{new_drawer_of, new_drawers_and, new_drawers_length, makes_one, made_one}
 use Rattle.hs_ring.proofs.pool.drawers_of.Goals as goal
 

@@ -1,9 +1,5 @@
 use Rattle.std.proofs.Common.{◌≡◌, ◌≤◌, length, take, drop}
-use Rattle.std.specs.Arc.{arc_value}
-use Rattle.hs_ring.specs.Views.{giver_seat_of}
-use Rattle.hs_ring.specs.Parts.{new_drawers}
-use Rattle.hs_ring.specs.Seats.{name_of}
-use Rattle.hs_ring.specs.Making.{IsMaking}
+use Rattle.hs_ring.proofs.Prelude.{arc_value, giver_seat_of, new_drawers, name_of, IsMaking}
 use Rattle.hs_ring.proofs.pool.drawers_of.Given as goal
 
 -- so many drawers were made

@@ -1,6 +1,5 @@
 use Rattle.std.proofs.Common.{◌≡◌, ◌*◌, ◌++◌, length, map, replicate, Some, None}
-use Rattle.std.specs.Prelude.{vec_capacity}
-use Rattle.hs_words.specs.Chunks.{Contents}
+use Rattle.hs_ring.proofs.Prelude.{vec_capacity, Contents}
 use Rattle.hs_ring.proofs.pool.slots_of.Given as goal
 
 abbrev pub invariant-loop-chunk : goal.invariant-loop-chunk

@@ -1,7 +1,5 @@
 use Rattle.std.proofs.Common.{◌≡◌, ℕ, ◌≤◌, List, length, sym, ap, ◌∙◌, arith}
-use Rattle.std.specs.Prelude.{sum}
-use Rattle.hs_base.specs.declared.limits.TheConstants.{MAX_OPERATIONS}
-use Rattle.hs_words.specs.Chunks.{Contents, clear_chunks}
+use Rattle.hs_ring.proofs.Prelude.{sum, MAX_OPERATIONS, Contents, clear_chunks}
 use Rattle.hs_ring.proofs.Making.{new_ring, first_size, new_making}
 use Rattle.hs_ring.proofs.pool.table_of.Goals as goal
 

@@ -1,8 +1,5 @@
 use Rattle.std.proofs.Common.{ℕ, ◌*◌, List, ◌∷◌, ◌++◌, length, sym, ap, ap₂, ◌∙◌, [], arith, replicate, length-append}
-use lib.ListN.{length-replicate}
-use Rattle.std.specs.List.{range_with_len}
-use Rattle.std.proofs.lemmas.List.FromFn.{length-range_with_len}
-use Rattle.hs_ring.specs.declared.board.TheConstants.{PUBLISHED}
+use Rattle.hs_ring.proofs.Prelude.{length-replicate, range_with_len, length-range_with_len, PUBLISHED}
 use Rattle.hs_ring.proofs.Making.{range_and}
 use Rattle.hs_ring.proofs.pool.words_of.Goals as goal
 

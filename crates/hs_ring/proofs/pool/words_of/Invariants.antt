@@ -1,7 +1,5 @@
 use Rattle.std.proofs.Common.{◌≡◌, ◌+◌, ◌*◌, ◌∷◌, ◌++◌, replicate}
-use Rattle.std.specs.Prelude.{vec_capacity}
-use Rattle.std.specs.List.{range_with_len}
-use Rattle.hs_ring.specs.declared.board.TheConstants.{PUBLISHED}
+use Rattle.hs_ring.proofs.Prelude.{vec_capacity, range_with_len, PUBLISHED}
 use Rattle.hs_ring.proofs.pool.words_of.Given as goal
 
 abbrev pub invariant-loop-number : goal.invariant-loop-number

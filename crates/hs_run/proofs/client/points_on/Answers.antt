@@ -1,6 +1,5 @@
 use Rattle.std.proofs.Common.{sym, ◌∙◌, arith}
-use Rattle.hs_run.specs.Progress.{is_point}
-use Rattle.hs_workload.specs.Views.{operation_of}
+use Rattle.hs_run.proofs.Prelude.{is_point, operation_of}
 use Rattle.hs_run.proofs.Sums.{counts_it, leaves_it}
 use Rattle.hs_run.proofs.client.points_on.Goals.{then-is_record, else-is_record}
 use Rattle.hs_run.proofs.client.points_on.Goals as goal

@@ -1,6 +1,5 @@
 use Rattle.std.proofs.Common.{◌≡◌, map, take, count_by}
-use Rattle.hs_run.specs.Progress.{is_point}
-use Rattle.hs_workload.specs.Views.{operation_of}
+use Rattle.hs_run.proofs.Prelude.{is_point, operation_of}
 use Rattle.hs_run.proofs.client.points_on.Given as goal
 
 abbrev pub invariant-loop-place : goal.invariant-loop-place

@@ -1,7 +1,5 @@
 use Rattle.std.proofs.Common.{◌<◌, ◌+◌, get_or, length, List, sym, subst, arith}
-use Rattle.hs_lists.proofs.Lent.{lent_is, lent_from}
-use Rattle.hs_run_agent.specs.ClosedAgents.{PlainClosedAgent}
-use Rattle.hs_run.specs.Shutting.{Passing}
+use Rattle.hs_run.proofs.Prelude.{lent_is, lent_from, PlainClosedAgent, Passing}
 use Rattle.hs_run.proofs.Passed.{passing_none, passing_more, can_pass, passing_so}
 use Rattle.hs_run.proofs.closing.agents_pass.Goals as goal
 

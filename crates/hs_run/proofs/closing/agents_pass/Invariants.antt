@@ -1,8 +1,5 @@
 use Rattle.std.proofs.Common.{ℕ}
-use Rattle.hs_coord.specs.Messages.{Messages}
-use Rattle.hs_run_agent.specs.Work.{NodeWork}
-use Rattle.hs_records.specs.Plain.{PlainWorkload}
-use Rattle.hs_run.specs.Shutting.{AllSents, ClosingStands, Passing}
+use Rattle.hs_run.proofs.Prelude.{Messages, NodeWork, PlainWorkload, AllSents, ClosingStands, Passing}
 use Rattle.hs_run.proofs.closing.agents_pass.Given as goal
 
 abbrev pub invariant-loop-number : goal.invariant-loop-number

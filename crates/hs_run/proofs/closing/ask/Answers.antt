@@ -1,7 +1,5 @@
 use Rattle.std.proofs.Common.{◌<◌, ◌+◌, get_or, length, length-set, List, refl, sym, ap, subst, ◌∙◌, arith}
-use Rattle.hs_lists.proofs.Lent.{lent_is, lent_from}
-use Rattle.hs_run_agent.specs.ClosedAgents.{PlainClosedAgent}
-use Rattle.hs_run.specs.Shutting.{ClosingAskedFirst}
+use Rattle.hs_run.proofs.Prelude.{lent_is, lent_from, PlainClosedAgent, ClosingAskedFirst}
 use Rattle.hs_run.proofs.Asking.{asked_none, asked_more, asked_to_all}
 use Rattle.hs_run.proofs.closing.ask.Goals as goal
 

@@ -1,7 +1,5 @@
 use Rattle.std.proofs.Common.{◌<◌, length, refl, sym, ap, subst, ◌∙◌, arith}
-use Rattle.hs_run_agent.specs.Coordinators.{PlainCoordinatorActor, asked_all}
-use Rattle.hs_run_story.specs.RunStates.{moved_by, asked_by}
-use Rattle.hs_run.specs.Shutting.{Asked}
+use Rattle.hs_run.proofs.Prelude.{PlainCoordinatorActor, asked_all, moved_by, asked_by, Asked}
 use Rattle.hs_run.proofs.Asking.{asking_more}
 use Rattle.hs_run.proofs.closing.ask_all.Goals as goal
 

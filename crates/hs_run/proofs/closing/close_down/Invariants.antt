@@ -1,7 +1,6 @@
 use Rattle.std.proofs.Common.{ℕ}
-use Rattle.hs_records.specs.Plain.{PlainWorkload}
-use Rattle.hs_run_story.specs.RunStates.{RunState}
-use Rattle.hs_run.specs.Shutting.{AllSents, ClosingAt, MayClose}
+use Rattle.hs_run.proofs.Prelude.{PlainWorkload, RunState, AllSents, ClosingAt}
+use Rattle.hs_run.specs.Shutting.{MayClose}
 use Rattle.hs_run.proofs.closing.close_down.Given as goal
 
 abbrev pub invariant-passes : goal.invariant-passes

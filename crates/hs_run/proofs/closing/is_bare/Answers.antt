@@ -1,8 +1,5 @@
 use Rattle.std.proofs.Common.{◌≡◌, Some, sym, ap, subst, ◌∙◌, inl, inr, arith, slice_get}
-use Rattle.std.proofs.lemmas.Option.{slice_get_within}
-use Rattle.hs_lists.proofs.Numbers.{same_or_less}
-use Rattle.hs_lists.proofs.Lent.{indexed}
-use Rattle.hs_run_agent.specs.ClosedAgents.{IsClosedAgent, IsClosedAgentBare}
+use Rattle.hs_run.proofs.Prelude.{slice_get_within, same_or_less, indexed, IsClosedAgent, IsClosedAgentBare}
 use Rattle.hs_run.proofs.closing.is_bare.Goals as goal
 
 pub loop-number-preserved : goal.loop-number-preserved

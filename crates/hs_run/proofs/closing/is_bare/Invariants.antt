@@ -1,8 +1,5 @@
 use Rattle.std.proofs.Common.{◌≡◌, ◌<◌, ℕ, Some, slice_get}
-use Rattle.hs_run_agent.specs.ClosedAgents.{PlainClosedAgent, IsClosedAgentBare}
-use Rattle.hs_run_agent.specs.Work.{NodeWork}
-use Rattle.hs_records.specs.Plain.{PlainWorkload}
-use Rattle.hs_run.specs.Shutting.{AllSents, ClosedAgentsStand}
+use Rattle.hs_run.proofs.Prelude.{PlainClosedAgent, IsClosedAgentBare, NodeWork, PlainWorkload, AllSents, ClosedAgentsStand}
 use Rattle.hs_run.proofs.closing.is_bare.Given as goal
 
 abbrev pub invariant-loop-number : goal.invariant-loop-number

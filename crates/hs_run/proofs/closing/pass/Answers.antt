@@ -1,4 +1,4 @@
-use Rattle.hs_run_agent.specs.Work.{with_events}
+use Rattle.hs_run.proofs.Prelude.{with_events}
 use Rattle.hs_run.proofs.Passed.{may_tell, told_behind, passed_one}
 use Rattle.hs_run.proofs.closing.pass.Goals as goal
 

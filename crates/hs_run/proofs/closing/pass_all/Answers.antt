@@ -1,6 +1,5 @@
 use Rattle.std.proofs.Common.{ℕ, ◌++◌}
-use Rattle.std.proofs.lemmas.Result.{on_ok_weaker}
-use Rattle.hs_run_story.specs.RunStates.{moved_by, asked_by}
+use Rattle.hs_run.proofs.Prelude.{on_ok_weaker, moved_by, asked_by}
 use Rattle.hs_run.proofs.Closed.{asked_begins, closing_more}
 use Rattle.hs_run.proofs.closing.pass_all.Goals as goal
 

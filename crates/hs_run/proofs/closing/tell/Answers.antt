@@ -1,8 +1,5 @@
 use Rattle.std.proofs.Common.{◌<◌, length, ap, ◌∙◌, sym, subst, arith}
-use Rattle.hs_base.proofs.Updates.{put}
-use Rattle.hs_run_agent.specs.ClosedAgents.{PlainClosedAgent}
-use Rattle.hs_run_story.specs.RunStates.{moved_by, asked_by}
-use Rattle.hs_run.specs.Shutting.{ClosingHasTold}
+use Rattle.hs_run.proofs.Prelude.{put, PlainClosedAgent, moved_by, asked_by, ClosingHasTold}
 use Rattle.hs_run.proofs.ToldBehind.{told_none, told_one, told_coordinates}
 use Rattle.hs_run.proofs.closing.tell.Goals as goal
 

@@ -1,14 +1,5 @@
 use Rattle.std.proofs.Common.{◌≡◌, ℕ, map, List, Ok, refl, sym, ap, ◌∙◌, subst}
-use Rattle.std.specs.Prelude.{Result, IfOk}
-use Rattle.std.proofs.lemmas.Result.{IfOk-weaker}
-use Rattle.hs_journal.specs.Books.{client_book_of, agent_book_of}
-use Rattle.hs_report.specs.declared.outcome.Books.{Books}
-use Rattle.hs_workload.specs.Views.{workload_of}
-use Rattle.hs_run_story.specs.RunStates.{moved_by, asked_by}
-use Rattle.hs_run.specs.Ended.{HaveFinished, items_of}
-use Rattle.hs_run.specs.Finished.{AreBooksBehind, AreGathered}
-use Rattle.hs_run.specs.Over.{RoundsOver}
-use Rattle.hs_run.specs.Shutting.{sents_at}
+use Rattle.hs_run.proofs.Prelude.{Result, IfOk, IfOk-weaker, client_book_of, agent_book_of, Books, workload_of, moved_by, asked_by, HaveFinished, items_of, AreBooksBehind, AreGathered, RoundsOver, sents_at}
 use Rattle.hs_run.proofs.Gathered.{ended, starts, may, comes, behind_gathered}
 use Rattle.hs_run.proofs.finishing.finish.Goals as goal
 

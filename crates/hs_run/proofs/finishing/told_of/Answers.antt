@@ -1,5 +1,5 @@
 use Rattle.std.proofs.Common.{List, ◌++◌, ap, ◌∙◌}
-use Rattle.hs_base.specs.declared.ids.NodeId.{NodeId}
+use Rattle.hs_run.proofs.Prelude.{NodeId}
 use Rattle.hs_run.proofs.finishing.told_of.Goals as goal
 
 pub returns : goal.returns

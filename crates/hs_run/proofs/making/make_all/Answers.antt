@@ -1,4 +1,4 @@
-use Rattle.hs_workload.specs.Views.{workload_of}
+use Rattle.hs_run.proofs.Prelude.{workload_of}
 use Rattle.hs_run.proofs.Begun.{can_begin}
 use Rattle.hs_run.proofs.making.make_all.Goals as goal
 

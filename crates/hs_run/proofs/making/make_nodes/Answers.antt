@@ -1,7 +1,5 @@
 use Rattle.std.proofs.Common.{◌+◌, false, List, sym, subst, arith}
-use Rattle.hs_workload.specs.Views.{workload_of}
-use Rattle.hs_run.specs.declared.node.ActingNode.{ActingNode}
-use Rattle.hs_run.specs.Making.{AreMade}
+use Rattle.hs_run.proofs.Prelude.{workload_of, ActingNode, AreMade}
 use Rattle.hs_run.proofs.Begun.{one_more_made}
 use Rattle.hs_run.proofs.making.make_nodes.Goals as goal
 

@@ -1,6 +1,5 @@
 use Rattle.std.proofs.Common.{◌≤◌}
-use Rattle.hs_workload.specs.Views.{workload_of}
-use Rattle.hs_run.specs.Making.{AreMade}
+use Rattle.hs_run.proofs.Prelude.{workload_of, AreMade}
 use Rattle.hs_run.proofs.making.make_nodes.Given as goal
 
 abbrev pub invariant-loop-number : goal.invariant-loop-number

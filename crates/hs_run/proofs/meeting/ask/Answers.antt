@@ -1,7 +1,5 @@
 use Rattle.std.proofs.Common.{◌+◌, get_or, length, length-set, refl, sym, ap, subst, ◌∙◌, arith}
-use Rattle.hs_lists.proofs.Lent.{lent_is, lent_from}
-use Rattle.hs_run.specs.declared.node.ActingNode.{ActingNode}
-use Rattle.hs_run.specs.Movings.{AskedFirst}
+use Rattle.hs_run.proofs.Prelude.{lent_is, lent_from, ActingNode, AskedFirst}
 use Rattle.hs_run.proofs.Moved.{asked_none, asked_more, asked_to_all}
 use Rattle.hs_run.proofs.meeting.ask.Goals as goal
 

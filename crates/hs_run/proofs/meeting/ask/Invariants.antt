@@ -1,9 +1,5 @@
 use Rattle.std.proofs.Common.{◌≡◌, ℕ, length, true}
-use Rattle.hs_base.specs.NodeSets.{has_node}
-use Rattle.hs_run_agent.specs.Agents.{IsAskable}
-use Rattle.hs_run_agent.specs.Work.{NodeWork}
-use Rattle.hs_records.specs.Plain.{PlainWorkload}
-use Rattle.hs_run.specs.Movings.{AskedFirst, SitesStand}
+use Rattle.hs_run.proofs.Prelude.{has_node, IsAskable, NodeWork, PlainWorkload, AskedFirst, SitesStand}
 use Rattle.hs_run.proofs.meeting.ask.Given as goal
 
 abbrev pub invariant-loop-number : goal.invariant-loop-number

@@ -1,8 +1,5 @@
 use Rattle.std.proofs.Common.{◌<◌, length, refl, sym, ap, subst, ◌∙◌, arith}
-use Rattle.hs_run_agent.specs.Coordinators.{PlainCoordinatorActor, asked_all}
-use Rattle.hs_run_story.specs.RunStates.{moved_by, asked_by}
-use Rattle.hs_workload.proofs.Sizes.{few_nodes}
-use Rattle.hs_run.specs.Movings.{Moving}
+use Rattle.hs_run.proofs.Prelude.{PlainCoordinatorActor, asked_all, moved_by, asked_by, few_nodes, Moving}
 use Rattle.hs_run.proofs.Moved.{moving_more}
 use Rattle.hs_run.proofs.meeting.ask_all.Goals as goal
 

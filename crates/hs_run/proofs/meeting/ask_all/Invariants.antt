@@ -1,8 +1,5 @@
 use Rattle.std.proofs.Common.{length, List}
-use Rattle.hs_records.specs.Plain.{PlainWorkload}
-use Rattle.hs_run_story.specs.RunStates.{RunState}
-use Rattle.hs_run.specs.declared.node.ActingNode.{ActingNode}
-use Rattle.hs_run.specs.Movings.{Moving}
+use Rattle.hs_run.proofs.Prelude.{PlainWorkload, RunState, ActingNode, Moving}
 use Rattle.hs_run.proofs.meeting.ask_all.Given as goal
 
 abbrev pub invariant-asks : goal.invariant-asks

@@ -1,8 +1,5 @@
 use Rattle.std.proofs.Common.{◌+◌, get_or, sym, subst, ◌∙◌, arith}
-use Rattle.hs_lists.proofs.Lent.{lent_is, lent_from}
-use Rattle.hs_run.specs.declared.node.ActingNode.{ActingNode}
-use Rattle.hs_run.specs.Changing.{FirstChanged}
-use Rattle.hs_run.specs.Movings.{HasMet}
+use Rattle.hs_run.proofs.Prelude.{lent_is, lent_from, ActingNode, FirstChanged, HasMet}
 use Rattle.hs_run.proofs.Changed.{first_none, first_more, first_all}
 use Rattle.hs_run.proofs.meeting.meet_all.Goals as goal
 

@@ -1,5 +1,4 @@
-use Rattle.hs_run.specs.Changing.{FirstChanged}
-use Rattle.hs_run.specs.Movings.{HasMet}
+use Rattle.hs_run.proofs.Prelude.{FirstChanged, HasMet}
 use Rattle.hs_run.proofs.meeting.meet_all.Given as goal
 
 abbrev pub invariant-loop-number : goal.invariant-loop-number

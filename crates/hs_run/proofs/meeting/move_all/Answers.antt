@@ -1,4 +1,4 @@
-use Rattle.std.proofs.lemmas.Result.{on_ok_weaker}
+use Rattle.hs_run.proofs.Prelude.{on_ok_weaker}
 use Rattle.hs_run.proofs.Moved.{moved_to}
 use Rattle.hs_run.proofs.meeting.move_all.Goals as goal
 

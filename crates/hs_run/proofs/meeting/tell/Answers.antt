@@ -1,8 +1,5 @@
 use Rattle.std.proofs.Common.{◌<◌, length, ap, ◌∙◌, sym, subst, arith}
-use Rattle.hs_base.proofs.Updates.{put}
-use Rattle.hs_run_agent.specs.AgentActors.{PlainAgentActor}
-use Rattle.hs_run_story.specs.RunStates.{moved_by, asked_by}
-use Rattle.hs_run.specs.Movings.{HasTold}
+use Rattle.hs_run.proofs.Prelude.{put, PlainAgentActor, moved_by, asked_by, HasTold}
 use Rattle.hs_run.proofs.Telling.{told_none, told_one, told_coordinates}
 use Rattle.hs_run.proofs.meeting.tell.Goals as goal
 

@@ -1,8 +1,5 @@
 use Rattle.std.proofs.Common.{ℕ, length}
-use Rattle.hs_coord.specs.Messages.{Messages}
-use Rattle.hs_run_agent.specs.Work.{NodeWork}
-use Rattle.hs_records.specs.Plain.{PlainWorkload}
-use Rattle.hs_run.specs.Movings.{Tells, HasTold}
+use Rattle.hs_run.proofs.Prelude.{Messages, NodeWork, PlainWorkload, Tells, HasTold}
 use Rattle.hs_run.proofs.meeting.tell.Given as goal
 
 abbrev pub invariant-messages : goal.invariant-messages

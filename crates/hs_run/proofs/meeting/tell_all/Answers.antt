@@ -1,7 +1,5 @@
 use Rattle.std.proofs.Common.{◌<◌, ◌+◌, get_or, length, List, sym, subst, arith}
-use Rattle.hs_lists.proofs.Lent.{lent_is, lent_from}
-use Rattle.hs_run.specs.declared.node.ActingNode.{ActingNode}
-use Rattle.hs_run.specs.Movings.{Telling}
+use Rattle.hs_run.proofs.Prelude.{lent_is, lent_from, ActingNode, Telling}
 use Rattle.hs_run.proofs.Moments.{node_count}
 use Rattle.hs_run.proofs.Moved.{telling_none, telling_more, telling_all, tells_at}
 use Rattle.hs_run.proofs.meeting.tell_all.Goals as goal

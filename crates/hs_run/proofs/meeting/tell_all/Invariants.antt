@@ -1,7 +1,4 @@
-use Rattle.hs_records.specs.Plain.{PlainWorkload}
-use Rattle.hs_run_story.specs.RunStates.{RunState}
-use Rattle.hs_run.specs.Moments.{IsHere}
-use Rattle.hs_run.specs.Movings.{Telling}
+use Rattle.hs_run.proofs.Prelude.{PlainWorkload, RunState, IsHere, Telling}
 use Rattle.hs_run.proofs.meeting.tell_all.Given as goal
 
 abbrev pub invariant-loop-number : goal.invariant-loop-number

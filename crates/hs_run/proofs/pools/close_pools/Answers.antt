@@ -1,13 +1,7 @@
 use Rattle.std.proofs.Common.{◌≡◌, ◌∷◌, [], ◌++◌, List, length, map, sym, ap, ◌∙◌, subst}
+use Rattle.hs_run.proofs.Prelude.{YieldsList-from_vec, YieldsList-turn, YieldsList-end, map-append, Listing, PlainAgentBook, agent_book_of, Drawing, PlainClosedAgent, HasFinished, HaveFinished}
 use Rattle.std.proofs.lemmas.Iterator.{YieldsList-from_zip}
-use Rattle.std.proofs.lemmas.Iterator.Adapters.{YieldsList-from_vec}
-use Rattle.std.proofs.lemmas.Iterator.Consumers.{YieldsList-at, YieldsList-turn, YieldsList-end}
-use Rattle.std.proofs.lemmas.List.{map-append}
-use Rattle.hs_base.specs.Listing.{Listing}
-use Rattle.hs_journal.specs.Books.{PlainAgentBook, agent_book_of}
-use Rattle.hs_ring.specs.Parts.{Drawing}
-use Rattle.hs_run_agent.specs.ClosedAgents.{PlainClosedAgent}
-use Rattle.hs_run.specs.Ended.{HasFinished, HaveFinished}
+use Rattle.std.proofs.lemmas.Iterator.Consumers.{YieldsList-at}
 use Rattle.hs_run.proofs.Taken.{can_finish, finished_more, all_finished}
 use Rattle.hs_run.proofs.pools.close_pools.Goals as goal
 

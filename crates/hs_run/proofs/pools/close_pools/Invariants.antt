@@ -1,6 +1,5 @@
 use Rattle.std.proofs.Common.{map}
-use Rattle.hs_journal.specs.Books.{agent_book_of}
-use Rattle.hs_run.specs.Ended.{HaveFinished}
+use Rattle.hs_run.proofs.Prelude.{agent_book_of, HaveFinished}
 use Rattle.hs_run.proofs.pools.close_pools.Given as goal
 
 abbrev pub invariant-loop-node : goal.invariant-loop-node

@@ -1,9 +1,6 @@
 use Rattle.std.proofs.Common.{◌≡◌, List, sym, subst}
-use Rattle.hs_lists.proofs.Lent.{lent_whole, lent_whole_is}
-use Rattle.hs_workload.specs.Views.{workload_of}
-use Rattle.hs_run.specs.declared.node.ActingNode.{ActingNode}
-use Rattle.hs_run.specs.Moments.{ActedTo}
-use Rattle.hs_run.specs.Nodes.{AllMayAct, AllHaveActed, NoneFailed}
+use Rattle.hs_run.proofs.Prelude.{lent_whole, lent_whole_is, workload_of, ActingNode, ActedTo, AllHaveActed, NoneFailed}
+use Rattle.hs_run.specs.Nodes.{AllMayAct}
 use Rattle.hs_run.proofs.Moments.{node_stands, node_low, coordinates, acted_to}
 use Rattle.hs_run.proofs.rounds.act.Goals as goal
 

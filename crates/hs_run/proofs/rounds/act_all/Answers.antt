@@ -1,7 +1,6 @@
 use Rattle.std.proofs.Common.{◌≡◌, Some, sym, ap, subst, ◌∙◌, arith, rules}
-use Rattle.std.proofs.lemmas.Option.{slice_get-get_or, get_or_from_slice_get, slice_get_within}
-use Rattle.std.proofs.iter.Serving.{serving}
-use Rattle.hs_run.specs.declared.node.ActingNode.{ActingNode}
+use Rattle.hs_run.proofs.Prelude.{slice_get-get_or, slice_get_within, serving, ActingNode}
+use Rattle.std.proofs.lemmas.Option.{get_or_from_slice_get}
 use Rattle.hs_run.specs.Nodes.{HasActedAt}
 use Rattle.hs_run.proofs.rounds.act_all.Goals as goal
 

@@ -1,6 +1,5 @@
 use Rattle.std.proofs.Common.{sym, ap, ◌∙◌, inl, inr, arith, slice_get}
-use Rattle.std.proofs.lemmas.Option.{slice_get_within}
-use Rattle.hs_lists.proofs.Numbers.{same_or_less}
+use Rattle.hs_run.proofs.Prelude.{slice_get_within, same_or_less}
 use Rattle.hs_run.proofs.rounds.has_failed.Goals as goal
 
 pub loop-number-preserved : goal.loop-number-preserved

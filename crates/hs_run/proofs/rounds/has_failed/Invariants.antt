@@ -1,6 +1,6 @@
 use Rattle.std.proofs.Common.{◌≡◌, ℕ, ◌<◌, Some}
-use Rattle.std.specs.Prelude.{slice_get, false}
-use Rattle.hs_run.specs.declared.node.ActingNode.{ActingNode}
+use Rattle.hs_run.proofs.Prelude.{slice_get, ActingNode}
+use Rattle.std.specs.Prelude.{false}
 use Rattle.hs_run.proofs.rounds.has_failed.Given as goal
 
 abbrev pub invariant-loop-number : goal.invariant-loop-number

@@ -1,7 +1,5 @@
 use Rattle.std.proofs.Common.{get_or, sym, ap, ◌∙◌}
-use Rattle.std.proofs.lemmas.Option.{same_Some}
-use Rattle.hs_lists.proofs.Lent.{lent_from}
-use Rattle.hs_run.specs.declared.node.ActingNode.{ActingNode}
+use Rattle.hs_run.proofs.Prelude.{same_Some, lent_from, ActingNode}
 use Rattle.hs_run.proofs.rounds.has_failed_at.Goals as goal
 
 pub returns : goal.returns

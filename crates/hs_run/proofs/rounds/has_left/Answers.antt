@@ -1,10 +1,5 @@
 use Rattle.std.proofs.Common.{ℕ, get_or, false, sym, ap, subst, ◌∙◌, inl, inr, arith, slice_get}
-use Rattle.std.proofs.lemmas.Option.{same_Some, slice_get_within}
-use Rattle.hs_lists.proofs.Numbers.{same_or_less}
-use Rattle.hs_lists.proofs.Lent.{lent_from}
-use Rattle.hs_workload.specs.Views.{workload_of}
-use Rattle.hs_run.specs.declared.node.ActingNode.{ActingNode}
-use Rattle.hs_run.specs.Nodes.{TellsNodeLeft}
+use Rattle.hs_run.proofs.Prelude.{same_Some, slice_get_within, same_or_less, lent_from, workload_of, ActingNode, TellsNodeLeft}
 use Rattle.hs_run.proofs.rounds.has_left.Goals as goal
 
 pub has_left_at-requires : goal.has_left_at-requires

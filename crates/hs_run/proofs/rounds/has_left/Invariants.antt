@@ -1,8 +1,5 @@
 use Rattle.std.proofs.Common.{◌≡◌, ℕ, ◌<◌, Some, false}
-use Rattle.std.specs.Prelude.{slice_get}
-use Rattle.hs_workload.specs.Views.{workload_of}
-use Rattle.hs_run.specs.declared.node.ActingNode.{ActingNode}
-use Rattle.hs_run.specs.Nodes.{TellsNodeLeft}
+use Rattle.hs_run.proofs.Prelude.{slice_get, workload_of, ActingNode, TellsNodeLeft}
 use Rattle.hs_run.proofs.rounds.has_left.Given as goal
 
 abbrev pub invariant-loop-number : goal.invariant-loop-number

@@ -1,19 +1,7 @@
 use Rattle.std.proofs.Common.{◌≡◌, ◌+◌, ◌-◌, ◌*◌, ℕ, Bool, true, false, List, Some, length, take, drop, sym, ap, ◌∙◌, arith, slice_get}
-use Rattle.std.proofs.lemmas.List.{length-map}
-use Rattle.std.proofs.lemmas.Option.{slice_get_within}
-use Rattle.hs_lists.proofs.Places.{get_there}
-use Rattle.hs_base.specs.Listing.{Listing}
-use Rattle.hs_base.specs.declared.settings.Settings.{Settings}
-use Rattle.hs_records.specs.Plain.{PlainWorkload}
-use Rattle.hs_run_story.specs.RunStates.{PlainNodeActors}
-use Rattle.hs_law_sends.specs.Sending.{operations_at, place_of}
-use Rattle.hs_workload.specs.Views.{workload_of, operation_of}
-use Rattle.hs_workload.specs.declared.operation.Op.{Op}
-use Rattle.hs_workload.proofs.Sizes.{product_few, few_nodes}
-use Rattle.hs_run.specs.Nodes.{TellsNodeLeft}
-use Rattle.hs_run.specs.Sites.{AreClients, TellsSiteLeft}
+use Rattle.hs_run.proofs.Prelude.{length-map, slice_get_within, get_there, Listing, Settings, PlainWorkload, PlainNodeActors, operations_at, place_of, workload_of, operation_of, Op, product_few, few_nodes, TellsNodeLeft, AreClients, few_clients}
+use Rattle.hs_run.specs.Sites.{TellsSiteLeft}
 use Rattle.hs_run.proofs.Clients.{clients_are}
-use Rattle.hs_run_agent.proofs.Few.{few_clients}
 use Rattle.hs_run.proofs.rounds.has_left_at.Goals as goal
 
 -- as many operations

@@ -1,8 +1,5 @@
 use Rattle.std.proofs.Common.{◌<◌, ◌-◌, ◌+◌, subst, arith, rules}
-use Rattle.std.proofs.iter.Serving.{serving}
-use Rattle.hs_base.specs.declared.limits.TheConstants.{MAX_OPERATIONS}
-use Rattle.hs_workload.specs.Views.{workload_of}
-use Rattle.hs_run.specs.Nodes.{TellsLeft}
+use Rattle.hs_run.proofs.Prelude.{serving, MAX_OPERATIONS, workload_of, TellsLeft}
 use Rattle.hs_run.proofs.Moments.{met_to}
 use Rattle.hs_run.proofs.Rounded.{begin_made, whole_of, stand_of, left_low, made_more, all_rounds}
 use Rattle.hs_run.proofs.rounds.make_rounds.Goals as goal

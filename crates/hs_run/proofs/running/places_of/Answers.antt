@@ -1,13 +1,5 @@
 use Rattle.std.proofs.Common.{◌≡◌, ◌∙◌, [], ◌∷◌, ◌++◌, List, map, sym, ap}
-use Rattle.std.proofs.lemmas.Iterator.Adapters.{YieldsList-from_vec}
-use Rattle.std.proofs.lemmas.Iterator.Consumers.{YieldsList-end}
-use Rattle.std.proofs.lemmas.List.{map-append}
-use Rattle.hs_lists.proofs.Parts.{map_self}
-use Rattle.hs_run.specs.Over.{done_node_actors}
-use Rattle.hs_run.specs.declared.done_node.DoneNode.{DoneNode}
-use Rattle.hs_run_story.specs.RunStates.{PlainNodeActors}
-use Rattle.hs_run.specs.declared.node.ActingNode.{ActingNode}
-use Rattle.hs_run.specs.Nodes.{sites_of}
+use Rattle.hs_run.proofs.Prelude.{YieldsList-from_vec, YieldsList-end, map-append, map_self, done_node_actors, DoneNode, PlainNodeActors, ActingNode, sites_of}
 use Rattle.hs_run.proofs.running.places_of.Goals as goal
 
 site_in : ActingNode → PlainNodeActors

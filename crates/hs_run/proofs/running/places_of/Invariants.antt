@@ -1,6 +1,5 @@
 use Rattle.std.proofs.Common.{◌≡◌, map}
-use Rattle.hs_run.specs.Over.{done_node_actors}
-use Rattle.hs_run.specs.Nodes.{sites_of}
+use Rattle.hs_run.proofs.Prelude.{done_node_actors, sites_of}
 use Rattle.hs_run.proofs.running.places_of.Given as goal
 
 abbrev pub invariant-loop-node : goal.invariant-loop-node

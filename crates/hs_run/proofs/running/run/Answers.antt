@@ -1,5 +1,4 @@
-use Rattle.std.proofs.lemmas.Result.{IfOk-weaker}
-use Rattle.hs_workload.specs.Views.{workload_of}
+use Rattle.hs_run.proofs.Prelude.{IfOk-weaker, workload_of}
 use Rattle.hs_run.proofs.running.run.Goals as goal
 
 pub gather-requires : goal.gather-requires

@@ -1,5 +1,5 @@
 use Rattle.std.proofs.Common.{◌≡◌, ◌++◌, map}
-use Rattle.hs_journal.specs.Books.{client_book_of}
+use Rattle.hs_run.proofs.Prelude.{client_book_of}
 use Rattle.hs_run.proofs.shutting.add_all.Given as goal
 
 abbrev pub invariant-loop-book : goal.invariant-loop-book

@@ -1,7 +1,7 @@
 use Rattle.std.proofs.Common.{map, subst}
+use Rattle.hs_run.proofs.Prelude.{AllSent, IsClosedAgent, done_node_actors}
 use Rattle.hs_live.specs.Live.{outgoing}
-use Rattle.hs_run_agent.specs.ClosedAgents.{AllSent, IsClosedAgent, all_sent}
-use Rattle.hs_run.specs.Over.{done_node_actors}
+use Rattle.hs_run_agent.specs.ClosedAgents.{all_sent}
 use Rattle.hs_run.proofs.Shut.{all_done, chunk_mates, crumb_mates, trigger_mates}
 use Rattle.hs_run.proofs.shutting.shut.Goals as goal
 

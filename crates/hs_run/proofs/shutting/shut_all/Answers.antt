@@ -1,15 +1,5 @@
 use Rattle.std.proofs.Common.{◌≡◌, [], ◌∷◌, ◌++◌, List, length, map, sym, ap, ◌∙◌, subst}
-use Rattle.std.proofs.lemmas.Iterator.Adapters.{YieldsList-from_vec}
-use Rattle.std.proofs.lemmas.Iterator.Consumers.{YieldsList-turn, YieldsList-end}
-use Rattle.std.proofs.lemmas.List.{map-append}
-use Rattle.hs_lists.proofs.Parts.{map_self}
-use Rattle.hs_journal.specs.Books.{PlainClientBook, client_book_of}
-use Rattle.hs_ring.specs.Parts.{Drawing}
-use Rattle.hs_run_agent.specs.ClosedAgents.{PlainClosedAgent}
-use Rattle.hs_run_story.specs.RunStates.{PlainNodeActors}
-use Rattle.hs_run.specs.declared.done_node.DoneNode.{DoneNode}
-use Rattle.hs_run.specs.Ended.{HaveClosedLinks, items_of}
-use Rattle.hs_run.specs.Over.{done_node_actors}
+use Rattle.hs_run.proofs.Prelude.{YieldsList-from_vec, YieldsList-turn, YieldsList-end, map-append, map_self, PlainClientBook, client_book_of, Drawing, PlainClosedAgent, PlainNodeActors, DoneNode, HaveClosedLinks, items_of, done_node_actors}
 use Rattle.hs_run.proofs.Shut.{there, shut_more}
 use Rattle.hs_run.proofs.shutting.shut_all.Goals as goal
 

@@ -1,7 +1,5 @@
 use Rattle.std.proofs.Common.{map}
-use Rattle.hs_journal.specs.Books.{client_book_of}
-use Rattle.hs_run.specs.Ended.{HaveClosedLinks, items_of}
-use Rattle.hs_run.specs.Over.{done_node_actors}
+use Rattle.hs_run.proofs.Prelude.{client_book_of, HaveClosedLinks, items_of, done_node_actors}
 use Rattle.hs_run.proofs.shutting.shut_all.Given as goal
 
 abbrev pub invariant-loop-place : goal.invariant-loop-place

@@ -1,16 +1,5 @@
 use Rattle.std.proofs.Common.{◌≡◌, ℕ, ◌<◌, List, Some, get_or, length, map, set, sym, ap, subst, ◌∙◌, arith, slice_get}
-use Rattle.std.proofs.lemmas.List.{length-map}
-use Rattle.hs_lists.proofs.Lent.{lent_is, lent_from, indexed}
-use Rattle.hs_base.specs.Listing.{Listing}
-use Rattle.hs_run_client.specs.ClientActors.{PlainClientActor}
-use Rattle.hs_run.specs.declared.client.ClientCount.{ClientCount}
-use Rattle.hs_run.specs.Counts.{client_count}
-use Rattle.hs_records.specs.Plain.{Operation}
-use Rattle.hs_law_sends.specs.Sending.{operations_at}
-use Rattle.hs_workload.specs.declared.operation.Op.{Op}
-use Rattle.hs_workload.specs.declared.operation.Workload.{Workload}
-use Rattle.hs_workload.specs.Views.{operation_of, operations_of, workload_of}
-use Rattle.hs_run.specs.TallyingNodes.{no_operations, MayCountClient}
+use Rattle.hs_run.proofs.Prelude.{length-map, lent_is, lent_from, indexed, Listing, PlainClientActor, ClientCount, client_count, Operation, operations_at, Op, Workload, operation_of, operations_of, workload_of, no_operations, MayCountClient}
 use Rattle.hs_run.proofs.TallyCounting.{operations_here}
 use Rattle.hs_run.proofs.tallying.count_client.Goals as goal
 

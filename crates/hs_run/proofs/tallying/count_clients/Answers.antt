@@ -1,7 +1,5 @@
 use Rattle.std.proofs.Common.{◌≡◌, ℕ, length, get_or, subst, arith}
-use Rattle.hs_lists.proofs.Lent.{lent_from}
-use Rattle.hs_workload.specs.Views.{workload_of}
-use Rattle.hs_run.specs.TallyingNodes.{CountedNodes}
+use Rattle.hs_run.proofs.Prelude.{lent_from, workload_of, CountedNodes}
 use Rattle.hs_run.proofs.TallyCounting.{none_of_nodes, may_next, one_of_nodes}
 use Rattle.hs_run.proofs.tallying.count_clients.Goals as goal
 

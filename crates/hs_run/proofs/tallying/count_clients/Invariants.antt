@@ -1,5 +1,4 @@
-use Rattle.hs_workload.specs.Views.{workload_of}
-use Rattle.hs_run.specs.TallyingNodes.{CountedNodes}
+use Rattle.hs_run.proofs.Prelude.{workload_of, CountedNodes}
 use Rattle.hs_run.proofs.tallying.count_clients.Given as goal
 
 abbrev pub invariant-loop-number : goal.invariant-loop-number

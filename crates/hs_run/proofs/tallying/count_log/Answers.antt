@@ -1,9 +1,5 @@
 use Rattle.std.proofs.Common.{◌≡◌, ℕ, ◌<◌, List, Some, get_or, length, sym, ap, subst, ◌∙◌, slice_get}
-use Rattle.hs_lists.proofs.Lent.{lent_from}
-use Rattle.hs_run.specs.declared.log.LogCount.{LogCount}
-use Rattle.hs_journal.specs.declared.journal.Step.{Step}
-use Rattle.hs_run_story.specs.RunStates.{PlainNodeActors}
-use Rattle.hs_run.specs.TallyingNodes.{no_steps, MayCountLog}
+use Rattle.hs_run.proofs.Prelude.{lent_from, LogCount, Step, PlainNodeActors, no_steps, MayCountLog}
 use Rattle.hs_run.proofs.tallying.count_log.Goals as goal
 
 -- the count that is read can be counted on over the log that is read

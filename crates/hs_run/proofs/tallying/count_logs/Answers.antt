@@ -1,11 +1,5 @@
 use Rattle.std.proofs.Common.{◌+◌, get_or, sym, ap, subst, ◌∙◌, arith}
-use Rattle.std.proofs.lemmas.Option.{same_Some}
-use Rattle.hs_lists.proofs.Lent.{lent_from}
-use Rattle.hs_lists.proofs.Places.{get_there}
-use Rattle.hs_run.specs.Counts.{log_count}
-use Rattle.hs_run.specs.declared.node.ActingNode.{ActingNode}
-use Rattle.hs_run.specs.Changing.{FirstChanged}
-use Rattle.hs_run.specs.TallyingNodes.{LogCounted}
+use Rattle.hs_run.proofs.Prelude.{same_Some, lent_from, get_there, log_count, ActingNode, FirstChanged, LogCounted}
 use Rattle.hs_run.proofs.Changed.{first_none, first_more, first_all}
 use Rattle.hs_run.proofs.tallying.count_logs.Goals as goal
 

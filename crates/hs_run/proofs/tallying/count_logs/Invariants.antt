@@ -1,5 +1,4 @@
-use Rattle.hs_run.specs.Changing.{FirstChanged}
-use Rattle.hs_run.specs.TallyingNodes.{LogCounted}
+use Rattle.hs_run.proofs.Prelude.{FirstChanged, LogCounted}
 use Rattle.hs_run.proofs.tallying.count_logs.Given as goal
 
 abbrev pub invariant-loop-number : goal.invariant-loop-number

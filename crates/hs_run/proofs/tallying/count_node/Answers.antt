@@ -1,12 +1,5 @@
 use Rattle.std.proofs.Common.{◌≡◌, ℕ, length, Some, sym, ap, subst, ◌∙◌, arith, slice_get}
-use Rattle.hs_lists.proofs.Lent.{indexed}
-use Rattle.hs_lists.proofs.Places.{get_there}
-use Rattle.hs_run_agent.proofs.Few.{few_clients}
-use Rattle.hs_run_story.specs.RunStates.{PlainNodeActors}
-use Rattle.hs_law_sends.specs.Sending.{place_of}
-use Rattle.hs_workload.specs.Views.{workload_of}
-use Rattle.hs_workload.proofs.Sizes.{product_few, few_nodes, last_low}
-use Rattle.hs_run.specs.TallyingNodes.{CountedFirst}
+use Rattle.hs_run.proofs.Prelude.{indexed, get_there, few_clients, PlainNodeActors, place_of, workload_of, product_few, few_nodes, last_low, CountedFirst}
 use Rattle.hs_run.proofs.TallyCounting.{none_first, one_first}
 use Rattle.hs_run.proofs.tallying.count_node.Goals as goal
 

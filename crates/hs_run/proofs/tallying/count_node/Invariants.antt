@@ -1,5 +1,4 @@
-use Rattle.hs_workload.specs.Views.{workload_of}
-use Rattle.hs_run.specs.TallyingNodes.{CountedFirst}
+use Rattle.hs_run.proofs.Prelude.{workload_of, CountedFirst}
 use Rattle.hs_run.proofs.tallying.count_node.Given as goal
 
 abbrev pub invariant-loop-number : goal.invariant-loop-number

@@ -1,5 +1,5 @@
 use Rattle.std.proofs.Common.{◌≡◌, ◌≤◌, replicate}
-use Rattle.hs_run.specs.TallyingNodes.{no_operations}
+use Rattle.hs_run.proofs.Prelude.{no_operations}
 use Rattle.hs_run.proofs.tallying.no_clients.Given as goal
 
 abbrev pub invariant-loop-number : goal.invariant-loop-number

@@ -1,5 +1,5 @@
 use Rattle.std.proofs.Common.{◌≡◌, ◌≤◌, replicate}
-use Rattle.hs_run.specs.TallyingNodes.{no_steps}
+use Rattle.hs_run.proofs.Prelude.{no_steps}
 use Rattle.hs_run.proofs.tallying.no_logs.Given as goal
 
 abbrev pub invariant-loop-number : goal.invariant-loop-number

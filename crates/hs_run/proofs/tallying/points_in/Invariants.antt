@@ -1,5 +1,5 @@
 use Rattle.std.proofs.Common.{◌≡◌, take, sum_by}
-use Rattle.hs_run.specs.declared.client.ClientCount.{ClientCount}
+use Rattle.hs_run.proofs.Prelude.{ClientCount}
 use Rattle.hs_run.proofs.tallying.points_in.Given as goal
 
 abbrev pub invariant-loop-count : goal.invariant-loop-count

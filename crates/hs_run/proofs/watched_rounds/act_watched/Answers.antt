@@ -1,6 +1,5 @@
 use Rattle.std.proofs.Common.{sym, subst, arith}
-use Rattle.hs_board.specs.declared.progress.Progress.{Progress}
-use Rattle.hs_board.specs.Watching.{IsLater}
+use Rattle.hs_run.proofs.Prelude.{Progress, IsLater}
 use Rattle.hs_run.proofs.watched_rounds.act_watched.Goals as goal
 
 pub act_and_publish-requires-clause-later : goal.act_and_publish-requires-clause-later

@@ -1,6 +1,5 @@
 use Rattle.std.proofs.Common.{ap, ◌∙◌}
-use Rattle.hs_workload.specs.Views.{workload_of}
-use Rattle.hs_run.specs.Watched.{shown_on}
+use Rattle.hs_run.proofs.Prelude.{workload_of, shown_on}
 use Rattle.hs_run.proofs.Moments.{met_to}
 use Rattle.hs_run.proofs.Rounded.{stand_of}
 use Rattle.hs_run.proofs.WatchedRounds.{follows, may_count, next_watched}

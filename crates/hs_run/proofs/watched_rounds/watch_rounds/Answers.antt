@@ -1,7 +1,5 @@
 use Rattle.std.proofs.Common.{◌<◌, ◌-◌, ◌+◌, subst, arith}
-use Rattle.hs_base.specs.declared.limits.TheConstants.{MAX_OPERATIONS}
-use Rattle.hs_workload.specs.Views.{workload_of}
-use Rattle.hs_run.specs.Nodes.{TellsLeft}
+use Rattle.hs_run.proofs.Prelude.{MAX_OPERATIONS, workload_of, TellsLeft}
 use Rattle.hs_run.proofs.Rounded.{whole_of, left_low}
 use Rattle.hs_run.proofs.WatchedRounds.{begin_watched, may_show, all_watched, on_both}
 use Rattle.hs_run.proofs.watched_rounds.watch_rounds.Goals as goal

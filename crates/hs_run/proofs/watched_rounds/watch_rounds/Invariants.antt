@@ -1,7 +1,5 @@
 use Rattle.std.proofs.Common.{◌-◌}
-use Rattle.hs_base.specs.declared.limits.TheConstants.{MAX_OPERATIONS}
-use Rattle.hs_workload.specs.Views.{workload_of}
-use Rattle.hs_run.specs.Watched.{RoundsWatched}
+use Rattle.hs_run.proofs.Prelude.{MAX_OPERATIONS, workload_of, RoundsWatched}
 use Rattle.hs_run.proofs.watched_rounds.watch_rounds.Given as goal
 
 abbrev pub invariant-rounds : goal.invariant-rounds

@@ -1,5 +1,4 @@
-use Rattle.std.proofs.lemmas.Result.{IfOk-weaker}
-use Rattle.hs_workload.specs.Views.{workload_of}
+use Rattle.hs_run.proofs.Prelude.{IfOk-weaker, workload_of}
 use Rattle.hs_run.proofs.WatchedEnd.{over_of, have_shown}
 use Rattle.hs_run.proofs.watching.play_watched.Goals as goal
 

@@ -1,4 +1,4 @@
-use Rattle.hs_workload.specs.Views.{workload_of}
+use Rattle.hs_run.proofs.Prelude.{workload_of}
 use Rattle.hs_run.proofs.WatchedEnd.{all_seen}
 use Rattle.hs_run.proofs.watching.run_watched.Goals as goal
 

@@ -1,8 +1,6 @@
 use Rattle.std.proofs.Common.{List, get_or, ap, ◌∙◌}
+use Rattle.hs_run_agent.proofs.Prelude.{slice_set, lent_is, lent_from, Told}
 use Rattle.std.proofs.lemmas.Result.{on_ok_weaker}
-use Rattle.std.specs.Prelude.{slice_set}
-use Rattle.hs_lists.proofs.Lent.{lent_is, lent_from}
-use Rattle.hs_base.specs.declared.told.Told.{Told}
 use Rattle.hs_run_agent.proofs.coordinator.bring.Goals as goal
 
 pub returns-clause-put : goal.returns-clause-put

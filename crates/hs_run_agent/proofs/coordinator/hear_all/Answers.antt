@@ -1,5 +1,5 @@
 use Rattle.std.proofs.Common.{◌++◌, arith}
-use Rattle.hs_run_agent.specs.Coordinators.{coordinator_actor_of}
+use Rattle.hs_run_agent.proofs.Prelude.{coordinator_actor_of}
 use Rattle.hs_run_agent.proofs.Hearing.{none_first, first_more, first_all}
 use Rattle.hs_run_agent.proofs.coordinator.hear_all.Goals as goal
 

@@ -1,6 +1,5 @@
 use Rattle.std.proofs.Common.{List, arith, sym, subst}
-use Rattle.hs_base.specs.declared.told.Told.{Told}
-use Rattle.hs_run_agent.specs.Coordinators.{HearsNode, coordinator_actor_of}
+use Rattle.hs_run_agent.proofs.Prelude.{Told, HearsNode, coordinator_actor_of}
 use Rattle.hs_run_agent.proofs.Hearing.{heard_none, heard_now, heard_one, heard_out, heard_full, next_hearable, hears_so}
 use Rattle.hs_run_agent.proofs.coordinator.hear_node.Goals as goal
 

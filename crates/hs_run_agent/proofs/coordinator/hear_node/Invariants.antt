@@ -1,6 +1,4 @@
-use Rattle.hs_coord.specs.Messages.{Messages}
-use Rattle.hs_records.specs.Plain.{PlainWorkload}
-use Rattle.hs_run_agent.specs.Coordinators.{Tellings, Askings, IsCoordinatorActor, coordinator_actor_of}
+use Rattle.hs_run_agent.proofs.Prelude.{Messages, PlainWorkload, Tellings, Askings, IsCoordinatorActor, coordinator_actor_of}
 use Rattle.hs_run_agent.proofs.Hearing.{HeardSome}
 use Rattle.hs_run_agent.proofs.coordinator.hear_node.Given as goal
 

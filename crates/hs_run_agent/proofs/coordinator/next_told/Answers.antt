@@ -1,7 +1,5 @@
 use Rattle.std.proofs.Common.{List, get_or, sym, subst}
-use Rattle.hs_lists.proofs.Lent.{lent_is, lent_from}
-use Rattle.hs_base.specs.declared.told.Told.{Told}
-use Rattle.hs_run_agent.specs.Coordinators.{IsTakenOut}
+use Rattle.hs_run_agent.proofs.Prelude.{lent_is, lent_from, Told, IsTakenOut}
 use Rattle.hs_run_agent.proofs.Inboxes.{taken_out}
 use Rattle.hs_run_agent.proofs.coordinator.next_told.Goals as goal
 

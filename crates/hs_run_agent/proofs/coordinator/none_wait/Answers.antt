@@ -1,5 +1,5 @@
 use Rattle.std.proofs.Common.{◌<◌, ◌∙◌, sym, ap, arith, length}
-use Rattle.hs_lists.proofs.Lent.{indexed}
+use Rattle.hs_run_agent.proofs.Prelude.{indexed}
 use Rattle.hs_run_agent.proofs.Inboxes.{none_waits, one_waits, below_more}
 use Rattle.hs_run_agent.proofs.coordinator.none_wait.Goals as goal
 

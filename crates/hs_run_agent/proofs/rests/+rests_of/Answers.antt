@@ -1,6 +1,5 @@
 use Rattle.std.proofs.Common.{◌∷◌, [], ◌++◌, arith, rules, sym, ap, subst, ◌∙◌, length, length-append}
-use Rattle.hs_link.specs.Contents.{sent}
-use Rattle.hs_run_agent.specs.Resting.{AreEndsOf, AreRests}
+use Rattle.hs_run_agent.proofs.Prelude.{sent, AreEndsOf, AreRests}
 use Rattle.hs_run_agent.proofs.Resting.{last_ends, no_starts, not_nil, rests_more}
 use Rattle.hs_run_agent.proofs.rests.+rests_of.Goals as goal
 

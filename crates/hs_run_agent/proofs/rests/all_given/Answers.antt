@@ -1,5 +1,5 @@
 use Rattle.std.proofs.Common.{◌≡◌, ◌<◌, sym, ap, arith, length}
-use Rattle.hs_lists.proofs.Lent.{indexed}
+use Rattle.hs_run_agent.proofs.Prelude.{indexed}
 use Rattle.hs_run_agent.proofs.Resting.{all_were, one_was_not, given_more}
 use Rattle.hs_run_agent.proofs.rests.all_given.Goals as goal
 

@@ -1,6 +1,5 @@
 use Rattle.std.proofs.Common.{get_or}
-use Rattle.std.proofs.lemmas.Option.{IfSome_then}
-use Rattle.hs_lists.proofs.Lent.{lent_from}
+use Rattle.hs_run_agent.proofs.Prelude.{IfSome_then, lent_from}
 use Rattle.hs_run_agent.proofs.Resting.{given_at}
 use Rattle.hs_run_agent.proofs.rests.next_at.Goals as goal
 

@@ -1,8 +1,6 @@
 use Rattle.std.proofs.Common.{◌≡◌, ◌+◌, List, map, drop, ap, arith}
+use Rattle.hs_run_client.proofs.Prelude.{Op, operation_of, crumbs_of, triggers_of, crumbs_in, triggers_in}
 use Rattle.hs_lists.proofs.Parts.{drop_next}
-use Rattle.hs_workload.specs.declared.operation.Op.{Op}
-use Rattle.hs_workload.specs.Views.{operation_of}
-use Rattle.hs_run_client.specs.Counting.{crumbs_of, triggers_of, crumbs_in, triggers_in}
 use Rattle.hs_run_client.proofs.Operations.{fewer_crumbs, fewer_triggers}
 use Rattle.hs_run_client.proofs.amounts.amounts_of.Goals as goal
 

@@ -1,6 +1,5 @@
 use Rattle.std.proofs.Common.{◌≡◌, ◌+◌, map, drop}
-use Rattle.hs_workload.specs.Validity.{client_pieces}
-use Rattle.hs_workload.specs.Views.{operation_of}
+use Rattle.hs_run_client.proofs.Prelude.{client_pieces, operation_of}
 use Rattle.hs_run_client.proofs.amounts.calls_of.Given as goal
 
 abbrev pub invariant-loop-operation : goal.invariant-loop-operation

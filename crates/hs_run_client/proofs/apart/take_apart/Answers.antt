@@ -1,13 +1,6 @@
 use Rattle.std.proofs.Common.{[], ◌∷◌, ◌++◌, List, length, map, refl, sym, ap, ◌∙◌, subst}
-use Rattle.std.proofs.lemmas.Iterator.Adapters.{YieldsList-from_vec}
-use Rattle.std.proofs.lemmas.Iterator.Consumers.{YieldsList-turn, YieldsList-end}
-use Rattle.std.proofs.lemmas.List.{map-append}
+use Rattle.hs_run_client.proofs.Prelude.{YieldsList-from_vec, YieldsList-turn, YieldsList-end, map-append, PlainClientBook, client_book_of, outgoing, PlainClientActor, AreNotes, IsDone}
 use Rattle.hs_lists.proofs.Parts.{map_self}
-use Rattle.hs_journal.specs.Books.{PlainClientBook, client_book_of}
-use Rattle.hs_live.specs.Live.{outgoing}
-use Rattle.hs_run_client.specs.ClientActors.{PlainClientActor}
-use Rattle.hs_run_client.specs.Nodes.{AreNotes}
-use Rattle.hs_run_client.specs.Standing.{IsDone}
 use Rattle.hs_run_client.proofs.Parting.{all_at, one_noted, one_more}
 use Rattle.hs_run_client.proofs.apart.take_apart.Goals as goal
 

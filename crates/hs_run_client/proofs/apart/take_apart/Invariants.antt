@@ -1,8 +1,5 @@
 use Rattle.std.proofs.Common.{◌≡◌, map}
-use Rattle.hs_journal.specs.Books.{client_book_of}
-use Rattle.hs_live.specs.Live.{outgoing}
-use Rattle.hs_run_client.specs.ClientActors.{PlainClientActor}
-use Rattle.hs_run_client.specs.Nodes.{AreNotes}
+use Rattle.hs_run_client.proofs.Prelude.{client_book_of, outgoing, PlainClientActor, AreNotes}
 use Rattle.hs_run_client.proofs.apart.take_apart.Given as goal
 
 abbrev pub invariant-loop-caller : goal.invariant-loop-caller

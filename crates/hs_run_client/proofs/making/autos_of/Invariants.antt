@@ -1,6 +1,6 @@
 use Rattle.std.proofs.Common.{◌≡◌, ◌≤◌, [], length, map, take}
-use Rattle.std.specs.List.{AllByRecursion}
-use Rattle.hs_auto.specs.Watching.{Watch, HasSampled}
+use Rattle.hs_run_client.proofs.Prelude.{AllByRecursion, Watch}
+use Rattle.hs_auto.specs.Watching.{HasSampled}
 use Rattle.hs_run_client.proofs.making.autos_of.Given as goal
 
 abbrev pub invariant-loop-rule : goal.invariant-loop-rule

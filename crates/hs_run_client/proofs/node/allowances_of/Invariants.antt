@@ -1,5 +1,5 @@
 use Rattle.std.proofs.Common.{◌≡◌, ◌≤◌, length, take}
-use Rattle.hs_run_client.specs.Nodes.{lefts_of}
+use Rattle.hs_run_client.proofs.Prelude.{lefts_of}
 use Rattle.hs_run_client.proofs.node.allowances_of.Given as goal
 
 abbrev pub invariant-loop-operations : goal.invariant-loop-operations

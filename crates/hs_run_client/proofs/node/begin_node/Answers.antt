@@ -1,12 +1,7 @@
 use Rattle.std.proofs.Common.{◌≡◌, ◌+◌, ◌-◌, ◌*◌, length, map, take, drop, sym, ap, ap₂, ◌∙◌, subst, arith}
-use Rattle.std.proofs.lemmas.List.{length-map}
-use Rattle.hs_live.specs.Live.{Port, incoming}
-use Rattle.hs_ring.specs.Parts.{new_drawers}
+use Rattle.hs_run_client.proofs.Prelude.{length-map, Port, incoming, new_drawers, client_pieces, operations_of, workload_of, NodeBegins, Receiving, lefts_of}
 use Rattle.hs_words.specs.Chunks.{clear_chunks}
 use Rattle.hs_words.proofs.Chunks.{length_clear}
-use Rattle.hs_workload.specs.Validity.{client_pieces}
-use Rattle.hs_workload.specs.Views.{operations_of, workload_of}
-use Rattle.hs_run_client.specs.Nodes.{NodeBegins, Receiving, lefts_of}
 use Rattle.hs_run_client.proofs.Clients.{is_sized, are_few, clients_sliced, sum_few, each_few, count_of}
 use Rattle.hs_run_client.proofs.Connecting.{is_port, node_begins}
 use Rattle.hs_run_client.proofs.node.begin_node.Goals as goal

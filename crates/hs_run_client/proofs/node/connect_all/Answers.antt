@@ -1,18 +1,5 @@
 use Rattle.std.proofs.Common.{◌≡◌, ◌+◌, [], ◌∷◌, ◌++◌, List, length, map, sym, ap, ◌∙◌, subst, arith, length-append}
-use Rattle.std.proofs.lemmas.Iterator.Adapters.{YieldsList-from_vec}
-use Rattle.std.proofs.lemmas.Iterator.Consumers.{YieldsList-turn, YieldsList-end}
-use Rattle.std.proofs.lemmas.List.{length-map, map-append}
-use Rattle.hs_base.specs.Ids.{client_of}
-use Rattle.hs_live.specs.Live.{incoming}
-use Rattle.hs_law_sends.specs.Playable.{IsPlayable}
-use Rattle.hs_records.specs.Plain.{Operation}
-use Rattle.hs_law_sends.specs.Sending.{place_of, ops_of}
-use Rattle.hs_workload.specs.Views.{operation_of, workload_of}
-use Rattle.hs_ring.proofs.Making.{new_drawers_length}
-use Rattle.hs_run_client.specs.ClientActors.{PlainClientActor}
-use Rattle.hs_run_client.specs.Making.{IsConnected}
-use Rattle.hs_run_client.specs.Nodes.{AreBegun, Receiving, lefts_of}
-use Rattle.hs_run_client.specs.Standing.{IsDrawerFor}
+use Rattle.hs_run_client.proofs.Prelude.{YieldsList-from_vec, YieldsList-turn, YieldsList-end, length-map, map-append, client_of, incoming, IsPlayable, Operation, place_of, ops_of, operation_of, workload_of, new_drawers_length, PlainClientActor, IsConnected, AreBegun, Receiving, lefts_of, IsDrawerFor}
 use Rattle.hs_run_client.proofs.Clients.{next_is, can_draw, are_few, place_low, count_of}
 use Rattle.hs_run_client.proofs.Connecting.{begun_more}
 use Rattle.hs_run_client.proofs.node.connect_all.Goals as goal

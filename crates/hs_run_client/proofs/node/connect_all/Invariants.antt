@@ -1,7 +1,5 @@
 use Rattle.std.proofs.Common.{◌≡◌, ◌≤◌, length, map}
-use Rattle.hs_live.specs.Live.{incoming}
-use Rattle.hs_workload.specs.Views.{workload_of}
-use Rattle.hs_run_client.specs.Nodes.{AreBegun}
+use Rattle.hs_run_client.proofs.Prelude.{incoming, workload_of, AreBegun}
 use Rattle.hs_run_client.proofs.node.connect_all.Given as goal
 
 abbrev pub invariant-loop-drawer : goal.invariant-loop-drawer

@@ -1,11 +1,5 @@
 use Rattle.std.proofs.Common.{◌++◌, sym, ap, subst, ◌∙◌, append-nil, map}
-use Rattle.std.specs.List.{AllByRecursion}
-use Rattle.hs_law_journal.specs.LoopPasses.{HandsReady}
-use Rattle.hs_law_journal.specs.Turns.{AreTurns}
-use Rattle.hs_run_agent.specs.Agents.{IsPageThere, IsWithin}
-use Rattle.hs_run_agent.specs.Turns.{lent_of}
-use Rattle.hs_law_agent.specs.State.{start}
-use Rattle.hs_law_agent.specs.Stepping.{after}
+use Rattle.hs_run_story.proofs.Prelude.{AllByRecursion, HandsReady, AreTurns, IsPageThere, IsWithin, lent_of, start, after}
 use Rattle.hs_run_story.proofs.laws.agents_are_between_passes.Goals as goal
 
 pub returns : goal.returns

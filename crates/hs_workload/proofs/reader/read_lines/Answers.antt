@@ -1,14 +1,10 @@
 -- The reader stands where the lines so far say that it does.
 use Rattle.std.proofs.Common.{◌+◌, ℕ, sym, subst, ◌∙◌}
+use Rattle.hs_workload.proofs.Prelude.{PlainWorkload, ReadError, first_fault, Refuses, Reads, Draft, fresh, IsSound, draft_of, error_at}
 use Rattle.hs_text.specs.JudgingLaws.{reading_starts, text_cut_off, text_read}
 use Rattle.hs_text.proofs.TidyLines.{tidy_line}
 use Rattle.hs_text.specs.declared.stop.Stop.TheVariants.{Fault}
-use Rattle.hs_records.specs.Plain.{PlainWorkload}
-use Rattle.hs_workload.specs.declared.refusal.ReadError.{ReadError}
 use Rattle.hs_workload.specs.declared.refusal.Reason.TheVariants.{Truncated}
-use Rattle.hs_workload.specs.Faults.{first_fault, Refuses}
-use Rattle.hs_workload.specs.Validity.{Reads}
-use Rattle.hs_workload.specs.Forward.{Draft, fresh, IsSound, draft_of, error_at}
 use Rattle.hs_workload.proofs.Seen.{workload_reader}
 use Rattle.hs_workload.proofs.Keeps.{keeps_fresh, sound}
 use Rattle.hs_workload.proofs.Whole.{first_fault-judged, made_reads}

@@ -1,5 +1,5 @@
 use Rattle.std.proofs.Common.{◌≡◌, ◌++◌, drop}
-use Rattle.hs_workload.specs.Grammar.{statements_text, auto_statements}
+use Rattle.hs_workload.proofs.Prelude.{statements_text, auto_statements}
 use Rattle.hs_workload.proofs.writer.push_autos.Given as goal
 
 abbrev pub invariant-loop-rule : goal.invariant-loop-rule

@@ -1,6 +1,5 @@
 use Rattle.std.proofs.Common.{◌≡◌, ◌++◌, drop, map}
-use Rattle.hs_workload.specs.Views.{operations_of}
-use Rattle.hs_workload.specs.Grammar.{statements_text, client_statements}
+use Rattle.hs_workload.proofs.Prelude.{operations_of, statements_text, client_statements}
 use Rattle.hs_workload.proofs.writer.push_clients.Given as goal
 
 abbrev pub invariant-loop-operations : goal.invariant-loop-operations

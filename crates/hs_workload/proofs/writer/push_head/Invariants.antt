@@ -1,8 +1,5 @@
 use Rattle.std.proofs.Common.{◌≡◌, ◌++◌, take, map}
-use Rattle.hs_workload.specs.Views.{workload_of}
-use Rattle.hs_workload.specs.Settings.{all_settings, setting_of}
-use Rattle.hs_workload.specs.Statements.{Put}
-use Rattle.hs_workload.specs.Grammar.{statements_text}
+use Rattle.hs_workload.proofs.Prelude.{workload_of, all_settings, setting_of, Put, statements_text}
 use Rattle.hs_workload.proofs.writer.push_head.Given as goal
 
 abbrev pub invariant-loop-name : goal.invariant-loop-name

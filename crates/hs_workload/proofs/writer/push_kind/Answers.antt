@@ -1,7 +1,6 @@
 use Rattle.std.proofs.Common.{◌++◌, ◌∷◌, [], ℕ, List, map, decimal, ap, ◌∙◌}
-use Rattle.hs_text.specs.Writing.{line_written, spaced_more, spaced_one}
+use Rattle.hs_workload.proofs.Prelude.{line_written, spaced_more, spaced_one, keyword_text, kind_text}
 use Rattle.hs_workload.specs.declared.word.Keyword.TheVariants.{Auto}
-use Rattle.hs_workload.specs.Statements.{keyword_text, kind_text}
 use Rattle.hs_workload.proofs.writer.push_kind.Goals as goal
 
 pub returns : goal.returns

@@ -1,8 +1,7 @@
 use Rattle.std.proofs.Common.{◌≡◌, ◌+◌, ◌++◌, ◌∷◌, [], ℕ, List, map, take, sym, ap, ◌∙◌}
-use Rattle.std.proofs.lemmas.List.{take_more, map_push}
+use Rattle.hs_workload.proofs.Prelude.{map_push, TraceId, spaced, trace_word, spaced_more, spaced_one}
+use Rattle.std.proofs.lemmas.List.{take_more}
 use Rattle.std.proofs.lemmas.Option.{slice_get_within, get_or_from_slice_get}
-use Rattle.hs_base.specs.declared.ids.TraceId.{TraceId}
-use Rattle.hs_text.specs.Writing.{spaced, trace_word, spaced_more, spaced_one}
 use Rattle.hs_workload.proofs.writer.push_laterals.Goals as goal
 
 pub loop-place-preserved : goal.loop-place-preserved

@@ -1,5 +1,5 @@
 use Rattle.std.proofs.Common.{◌≡◌, ◌++◌, length, take, map}
-use Rattle.hs_text.specs.Writing.{spaced, trace_word}
+use Rattle.hs_workload.proofs.Prelude.{spaced, trace_word}
 use Rattle.hs_workload.proofs.writer.push_laterals.Given as goal
 
 abbrev pub invariant-loop-place : goal.invariant-loop-place

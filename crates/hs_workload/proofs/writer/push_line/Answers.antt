@@ -1,6 +1,5 @@
 use Rattle.std.proofs.Common.{◌++◌, map, decimal, ap, ◌∙◌}
-use Rattle.hs_text.specs.Writing.{line_written}
-use Rattle.hs_workload.specs.Statements.{keyword_text}
+use Rattle.hs_workload.proofs.Prelude.{line_written, keyword_text}
 use Rattle.hs_workload.proofs.writer.push_line.Goals as goal
 
 pub returns : goal.returns

@@ -1,7 +1,5 @@
 use Rattle.std.proofs.Common.{◌≡◌, ◌++◌, take, map}
-use Rattle.hs_workload.specs.Views.{operation_of}
-use Rattle.hs_workload.specs.Statements.{Operate}
-use Rattle.hs_workload.specs.Grammar.{statements_text}
+use Rattle.hs_workload.proofs.Prelude.{operation_of, Operate, statements_text}
 use Rattle.hs_workload.proofs.writer.push_operations.Given as goal
 
 abbrev pub invariant-loop-operation : goal.invariant-loop-operation

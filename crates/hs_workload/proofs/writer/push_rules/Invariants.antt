@@ -1,6 +1,5 @@
 use Rattle.std.proofs.Common.{◌≡◌, ◌++◌, take, map}
-use Rattle.hs_workload.specs.Statements.{Declare}
-use Rattle.hs_workload.specs.Grammar.{statements_text}
+use Rattle.hs_workload.proofs.Prelude.{Declare, statements_text}
 use Rattle.hs_workload.proofs.writer.push_rules.Given as goal
 
 abbrev pub invariant-loop-rule : goal.invariant-loop-rule

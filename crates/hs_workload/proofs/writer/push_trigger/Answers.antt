@@ -1,7 +1,6 @@
 use Rattle.std.proofs.Common.{◌++◌, ◌∷◌, [], ℕ, List, map, decimal, ap, ◌∙◌}
-use Rattle.hs_text.specs.Writing.{line_written, spaced_more, spaced_one, trace_word}
+use Rattle.hs_workload.proofs.Prelude.{line_written, spaced_more, spaced_one, trace_word, keyword_text}
 use Rattle.hs_workload.specs.declared.word.Keyword.TheVariants.{Trigger}
-use Rattle.hs_workload.specs.Statements.{keyword_text}
 use Rattle.hs_workload.proofs.writer.push_trigger.Goals as goal
 
 pub returns : goal.returns

@@ -1,8 +1,6 @@
 use Rattle.std.proofs.Common.{◌++◌, length, map, ap, ◌∙◌, arith}
+use Rattle.hs_workload.proofs.Prelude.{workload_of, operations_of, Declare, auto_statements, client_statements, statements_text}
 use Rattle.std.proofs.lemmas.List.{length-map}
-use Rattle.hs_workload.specs.Views.{workload_of, operations_of}
-use Rattle.hs_workload.specs.Statements.{Declare}
-use Rattle.hs_workload.specs.Grammar.{auto_statements, client_statements, statements_text}
 use Rattle.hs_workload.proofs.Writing.{written, few_clients}
 use Rattle.hs_workload.specs.declared.word.Setting.TheVariants as settings
 use Rattle.hs_workload.proofs.writer.write_workload.Goals as goal

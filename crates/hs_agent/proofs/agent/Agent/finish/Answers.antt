@@ -1,11 +1,6 @@
 use Rattle.std.proofs.Common.{◌≡◌, ℕ, List, None, map, sym, ap, subst, ◌∙◌}
-use Rattle.std.specs.Prelude.{IfOk}
-use Rattle.hs_journal.specs.Books.{PlainAgentBook, agent_book_of}
-use Rattle.hs_journal.specs.declared.journal.Step.{Step}
-use Rattle.hs_law_agent.specs.Books.{book_of}
+use Rattle.hs_agent.proofs.Prelude.{IfOk, PlainAgentBook, agent_book_of, Step, book_of, Kept, PlainAgent, Holds, Point, Run, Follows, point_of, state_of}
 use Rattle.hs_agent.specs.declared.input.Finished.{Finished}
-use Rattle.hs_agent.specs.Keeping.{Kept, PlainAgent, Holds, Point}
-use Rattle.hs_agent.specs.Runs.{Run, Follows, point_of, state_of}
 use Rattle.hs_agent.proofs.agent.Agent.finish.Goals as goal
 
 pub finish-requires : goal.finish-requires

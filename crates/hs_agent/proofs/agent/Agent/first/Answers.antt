@@ -1,10 +1,5 @@
 use Rattle.std.proofs.Common.{◌≡◌, ℕ, [], ◌∷◌, List, Option, Some, None, refl, sym, ap, subst, ◌∙◌}
-use Rattle.std.specs.List.{AllByRecursion}
-use Rattle.std.proofs.lemmas.Result.{on_ok_weaker}
-use Rattle.hs_lists.proofs.Alls.{all_weaker, all_back}
-use Rattle.hs_agent.specs.Placing.{Placed, IsPledged}
-use Rattle.hs_agent.specs.Keeping.{Kept, PlainAgent, Holds, Point, IsKept, waiting_chunks}
-use Rattle.hs_agent.specs.Runs.{Run, Follows, point_of, state_of, after_offer}
+use Rattle.hs_agent.proofs.Prelude.{AllByRecursion, on_ok_weaker, all_weaker, all_back, Placed, IsPledged, Kept, PlainAgent, Holds, Point, IsKept, waiting_chunks, Run, Follows, point_of, state_of, after_offer}
 use Rattle.hs_agent.proofs.Offered.{offers-first, offers-empty, offers-holds}
 use Rattle.hs_agent.proofs.Following.{follows-offered}
 use Rattle.hs_agent.proofs.agent.Agent.first.Goals as goal

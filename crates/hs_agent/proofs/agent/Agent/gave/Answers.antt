@@ -1,8 +1,5 @@
 use Rattle.std.proofs.Common.{◌≡◌, ◌<◌, [], ◌∷◌, ◌++◌, List, length, Option, IsSome, refl, sym, ap, subst, ◌∙◌}
-use Rattle.std.specs.Prelude.{IfSome}
-use Rattle.hs_agent.specs.Keeping.{Kept, PlainAgent, Holds}
-use Rattle.hs_agent.specs.Offering.{answered}
-use Rattle.hs_agent.specs.Runs.{Run, Follows, point_of, state_of}
+use Rattle.hs_agent.proofs.Prelude.{IfSome, Kept, PlainAgent, Holds, answered, Run, Follows, point_of, state_of}
 use Rattle.hs_agent.proofs.Following.{offered-within, follows-answered}
 use Rattle.hs_agent.proofs.agent.Agent.gave.Goals as goal
 

@@ -1,7 +1,6 @@
 use Rattle.std.proofs.Common.{◌≡◌, length, ap, sym, ◌∙◌}
-use Rattle.hs_agent.specs.Keeping.{PlainAgent}
+use Rattle.hs_agent.proofs.Prelude.{PlainAgent, point_of}
 use Rattle.hs_agent.proofs.Offered.{hand_counts}
-use Rattle.hs_agent.specs.Runs.{point_of}
 use Rattle.hs_agent.proofs.agent.Agent.in_hand.Goals as goal
 
 pub returns : goal.returns

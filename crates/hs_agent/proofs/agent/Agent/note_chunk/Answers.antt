@@ -1,12 +1,7 @@
 use Rattle.std.proofs.Common.{◌≡◌, [], ◌∷◌, ◌++◌, List, refl, sym, ap, subst, ◌∙◌}
 use Rattle.hs_journal.specs.declared.journal.Step.TheVariants as steps
-use Rattle.hs_sched.specs.Turns.{Schedule}
-use Rattle.hs_words.specs.Buffers.{buffer_of}
-use Rattle.hs_agent.specs.declared.input.Input.{Input}
+use Rattle.hs_agent.proofs.Prelude.{Schedule, buffer_of, Input, PlainAgent, sheet_in, chunk_taken, Run, Follows, StandsAt, point_of, state_of}
 use Rattle.hs_agent.specs.declared.input.Input.TheVariants as inputs
-use Rattle.hs_agent.specs.Keeping.{PlainAgent}
-use Rattle.hs_agent.specs.Points.{sheet_in, chunk_taken}
-use Rattle.hs_agent.specs.Runs.{Run, Follows, StandsAt, point_of, state_of}
 use Rattle.hs_agent.proofs.Following.{follows-taken, stands-then}
 use Rattle.hs_agent.proofs.Unchanged.{chunk-shares}
 use Rattle.hs_agent.proofs.agent.Agent.note_chunk.Goals as goal

@@ -1,10 +1,9 @@
 use Rattle.std.proofs.Common.{◌≡◌, [], ◌∷◌, ◌++◌, List, sym, ap, subst, ◌∙◌, append-nil}
 use Rattle.hs_journal.specs.declared.journal.Step.TheVariants as steps
 use Rattle.hs_law_agent.specs.Turning as model
-use Rattle.hs_agent.specs.declared.input.Input.{Input}
+use Rattle.hs_agent.proofs.Prelude.{Input, PlainAgent, with_state, Run, Follows, StandsAt, point_of, state_of}
 use Rattle.hs_agent.specs.declared.input.Input.TheVariants as inputs
-use Rattle.hs_agent.specs.Keeping.{PlainAgent, with_state}
-use Rattle.hs_agent.specs.Runs.{Run, Follows, StandsAt, after_turn, point_of, state_of}
+use Rattle.hs_agent.specs.Runs.{after_turn}
 use Rattle.hs_agent.proofs.Following.{follows-taken, nothing-came}
 use Rattle.hs_agent.proofs.agent.Agent.note_turn.Goals as goal
 

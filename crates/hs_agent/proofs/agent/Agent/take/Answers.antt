@@ -1,7 +1,5 @@
 use Rattle.std.proofs.Common.{◌≡◌, [], ◌∷◌, ◌++◌, List, sym, ap, subst, ◌∙◌}
-use Rattle.hs_law_agent.specs.Laws.{PlacesMatch}
-use Rattle.hs_agent.specs.Keeping.{Kept, PlainAgent, Holds, Point}
-use Rattle.hs_agent.specs.Runs.{Run, Follows, StandsAt, IsTakable, point_of, state_of, taken_in}
+use Rattle.hs_agent.proofs.Prelude.{PlacesMatch, Kept, PlainAgent, Holds, Point, Run, Follows, StandsAt, IsTakable, point_of, state_of, taken_in}
 use Rattle.hs_agent.proofs.Following.{follows-taken}
 use Rattle.hs_agent.proofs.agent.Agent.take.Goals as goal
 

@@ -1,15 +1,8 @@
 use Rattle.std.proofs.Common.{◌≡◌, ◌≤◌, length, map, sym, ap, ◌∙◌, subst, arith}
+use Rattle.hs_agent.proofs.Prelude.{Remembered, pin_of, leaving, relieved, drops, Remembers, staying_few, ArrivalPlace, Kept, kept_in, let_go_all, abandoned_going}
 use Rattle.std.proofs.lemmas.List.{map-id}
 use Rattle.std.proofs.lemmas.Iterator.Adapters.{YieldsList-from_vec}
 use Rattle.std.proofs.lemmas.Iterator.Consumers.{YieldsList-end}
-use Rattle.hs_pins.specs.Remembered.{Remembered, pin_of}
-use Rattle.hs_pins.specs.Abandoning.{leaving, relieved, drops}
-use Rattle.hs_pins.specs.PinsLayout.{Remembers}
-use Rattle.hs_pins.proofs.Sound.{staying_few}
-use Rattle.hs_agent.specs.declared.placed.ArrivalPlace.{ArrivalPlace}
-use Rattle.hs_agent.specs.Keeping.{Kept}
-use Rattle.hs_agent.specs.KeptLayout.{kept_in}
-use Rattle.hs_agent.specs.LettingGo.{let_go_all, abandoned_going}
 use Rattle.hs_agent.proofs.Going.{pins-let_go_all}
 use Rattle.hs_agent.proofs.holdings.Holdings.abandon.Goals as goal
 

@@ -1,6 +1,5 @@
 use Rattle.std.proofs.Common.{◌≡◌, map}
-use Rattle.hs_pins.specs.Remembered.{pin_of}
-use Rattle.hs_agent.specs.LettingGo.{let_go_all, abandoned_going}
+use Rattle.hs_agent.proofs.Prelude.{pin_of, let_go_all, abandoned_going}
 use Rattle.hs_agent.proofs.holdings.Holdings.abandon.Given as goal
 
 -- the chunks so far were let go

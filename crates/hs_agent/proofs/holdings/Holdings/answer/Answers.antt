@@ -1,11 +1,5 @@
 use Rattle.std.proofs.Common.{◌≡◌, ◌∷◌, Some, List, Option, ℕ, map, sym, ap, ◌∙◌}
-use Rattle.std.specs.Option.{option_map, option_map_or}
-use Rattle.hs_words.specs.Buffers.{buffer_of, buffer_in}
-use Rattle.hs_agent.specs.declared.placed.ArrivalPlace.{ArrivalPlace}
-use Rattle.hs_agent.specs.Placing.{Placed, Pledged, placed_at}
-use Rattle.hs_agent.specs.Keeping.{Kept}
-use Rattle.hs_agent.specs.KeptLayout.{kept_in}
-use Rattle.hs_agent.specs.Offering.{answered, back_at}
+use Rattle.hs_agent.proofs.Prelude.{option_map, option_map_or, buffer_of, buffer_in, ArrivalPlace, Placed, Pledged, placed_at, Kept, kept_in, answered, back_at}
 use Rattle.hs_agent.proofs.holdings.Holdings.answer.Goals as goal
 
 pub returns : goal.returns

@@ -1,15 +1,6 @@
 use Rattle.std.proofs.Common.{◌≡◌, ◌+◌, ◌<◌, ◌≤◌, ◌++◌, ◌∷◌, [], None, Some, length, map, refl, sym, ap, subst, ◌∙◌, arith}
-use Rattle.std.proofs.lemmas.List.{length-append, length-map}
+use Rattle.hs_agent.proofs.Prelude.{length-append, length-map, Group, Claim, Pin, Remembered, claim_of, claimed, pin_for, pin_of, Pinning, Remembers, Index, noted_of, buffer_of, claim_trace, claim_unclaimed, ArrivalPlace, Kept, Point, Holds, with_state, kept_in}
 use Rattle.hs_lists.proofs.Options.{on_ok_always}
-use Rattle.hs_base.specs.declared.told.Group.{Group}
-use Rattle.hs_pins.specs.Remembered.{Claim, Pin, Remembered, claim_of, claimed, pin_for, pin_of}
-use Rattle.hs_pins.specs.PinsLayout.{Pinning, Remembers}
-use Rattle.hs_index.specs.Index.{Index, noted_of}
-use Rattle.hs_words.specs.Buffers.{buffer_of}
-use Rattle.hs_law_agent.specs.Claiming.{claim_trace, claim_unclaimed}
-use Rattle.hs_agent.specs.declared.placed.ArrivalPlace.{ArrivalPlace}
-use Rattle.hs_agent.specs.Keeping.{Kept, Point, Holds, with_state}
-use Rattle.hs_agent.specs.KeptLayout.{kept_in}
 use Rattle.hs_agent.proofs.Outcomes.{none_mapped, some_mapped}
 use Rattle.hs_agent.proofs.Claimed.{left, holds-claimed, stays-claimed, is_unclaimed}
 use Rattle.hs_agent.proofs.holdings.Holdings.claim.Goals as goal

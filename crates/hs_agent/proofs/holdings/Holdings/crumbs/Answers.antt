@@ -1,17 +1,9 @@
 use Rattle.std.proofs.Common.{◌≡◌, ◌+◌, ◌||◌, ◌∷◌, ◌++◌, [], ℕ, List, length, take, refl, sym, ap, subst, ◌∙◌, arith, All}
-use Rattle.std.specs.List.{list_any}
-use Rattle.std.specs.Option.{IsSome}
+use Rattle.hs_agent.proofs.Prelude.{list_any, IsSome, All-tail, recursion_from_All, slice_get_within, TraceId, has_node, Claim, Remembered, claim_of, Remembers, traces_of, crumb_nodes, Kept}
 use Rattle.std.proofs.lemmas.List.{take_more, take_all}
-use Rattle.std.proofs.lemmas.List.Elements.{All-tail, recursion_from_All}
-use Rattle.std.proofs.lemmas.Option.{slice_get_within, get_or_from_slice_get}
-use Rattle.hs_base.specs.declared.ids.TraceId.{TraceId}
-use Rattle.hs_base.specs.NodeSets.{has_node}
+use Rattle.std.proofs.lemmas.Option.{get_or_from_slice_get}
 use Rattle.hs_base.specs.NodeSetLaws.{same_nodes}
-use Rattle.hs_pins.specs.Remembered.{Claim, Remembered, claim_of, has_crumb}
-use Rattle.hs_pins.specs.PinsLayout.{Remembers}
-use Rattle.hs_law_agent.specs.Claiming.{traces_of}
-use Rattle.hs_law_agent.specs.Messages.{crumb_nodes}
-use Rattle.hs_agent.specs.Keeping.{Kept}
+use Rattle.hs_pins.specs.Remembered.{has_crumb}
 use Rattle.hs_agent.proofs.CrumbSets.{crumb_in, has-crumbs_claimed}
 use Rattle.hs_agent.proofs.Indexing.{any-append}
 use Rattle.hs_agent.proofs.holdings.Holdings.crumbs.Goals as goal

@@ -1,6 +1,5 @@
 use Rattle.std.proofs.Common.{◌≡◌, ◌∷◌, ℕ, length, take}
-use Rattle.std.specs.List.{list_any}
-use Rattle.hs_base.specs.NodeSets.{has_node}
+use Rattle.hs_agent.proofs.Prelude.{list_any, has_node}
 use Rattle.hs_pins.specs.Remembered.{has_crumb}
 use Rattle.hs_agent.proofs.holdings.Holdings.crumbs.Given as goal
 

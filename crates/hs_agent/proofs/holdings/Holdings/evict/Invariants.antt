@@ -1,6 +1,5 @@
 use Rattle.std.proofs.Common.{◌≡◌, map}
-use Rattle.hs_index.specs.Index.{leaving_of}
-use Rattle.hs_agent.specs.LettingGo.{let_go_all, evicted_going}
+use Rattle.hs_agent.proofs.Prelude.{leaving_of, let_go_all, evicted_going}
 use Rattle.hs_agent.proofs.holdings.Holdings.evict.Given as goal
 
 -- the chunks so far were let go

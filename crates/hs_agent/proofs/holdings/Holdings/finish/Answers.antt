@@ -1,12 +1,5 @@
 use Rattle.std.proofs.Common.{◌≡◌, ◌++◌, map, sym, ap, subst, ◌∙◌}
-use Rattle.std.specs.Prelude.{Result, IfOk, filter_map}
-use Rattle.std.specs.List.{AllByRecursion}
-use Rattle.hs_words.specs.Buffers.{buffer_of}
-use Rattle.hs_journal.specs.Books.{agent_book_of}
-use Rattle.hs_index.specs.Index.{chunks_left}
-use Rattle.hs_agent.specs.Placing.{IsPledged, HaveOwnPlaces, lent}
-use Rattle.hs_agent.specs.Keeping.{Kept}
-use Rattle.hs_agent.specs.KeptLayout.{kept_in}
+use Rattle.hs_agent.proofs.Prelude.{Result, IfOk, filter_map, AllByRecursion, buffer_of, agent_book_of, chunks_left, IsPledged, HaveOwnPlaces, lent, Kept, kept_in}
 use Rattle.hs_agent.proofs.OwnPlaces.{own_left}
 use Rattle.hs_agent.proofs.Left.{if_ok-then, book_in, book_left, pledged_left, lent_left}
 use Rattle.hs_agent.proofs.holdings.Holdings.finish.Goals as goal

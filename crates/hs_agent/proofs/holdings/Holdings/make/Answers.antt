@@ -1,9 +1,6 @@
 use Rattle.std.proofs.Common.{◌≡◌, [], None, map, sym, ap, subst}
+use Rattle.hs_agent.proofs.Prelude.{pin_of, buffer_of, Kept, Holds, pledges_in}
 use Rattle.hs_records.specs.Plain.{settings_of}
-use Rattle.hs_pins.specs.Remembered.{pin_of}
-use Rattle.hs_words.specs.Buffers.{buffer_of}
-use Rattle.hs_agent.specs.Keeping.{Kept, Holds}
-use Rattle.hs_agent.specs.Placing.{pledges_in}
 use Rattle.hs_agent.proofs.Started.{holds-start, first_point}
 use Rattle.hs_agent.proofs.holdings.Holdings.make.Goals as goal
 

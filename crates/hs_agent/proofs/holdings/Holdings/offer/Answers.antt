@@ -1,11 +1,5 @@
 use Rattle.std.proofs.Common.{◌≡◌, ◌∷◌, List, length, map, sym, ap, subst, ◌∙◌, arith}
-use Rattle.std.specs.Option.{option_map}
-use Rattle.std.proofs.lemmas.List.{length-map}
-use Rattle.std.specs.List.{AllByRecursion}
-use Rattle.std.proofs.lemmas.Option.{slice_get_within}
-use Rattle.hs_words.specs.Buffers.{buffer_of}
-use Rattle.hs_agent.specs.Placing.{IsPledged, pledged_of, pledges_in}
-use Rattle.hs_agent.specs.Keeping.{Kept}
+use Rattle.hs_agent.proofs.Prelude.{option_map, length-map, AllByRecursion, slice_get_within, buffer_of, IsPledged, pledged_of, pledges_in, Kept}
 use Rattle.hs_agent.proofs.holdings.Holdings.offer.Goals as goal
 
 pub with_lease-requires-clause-pledged : goal.with_lease-requires-clause-pledged

@@ -1,16 +1,6 @@
 use Rattle.std.proofs.Common.{◌≡◌, ◌+◌, ◌≤◌, ◌<◌, true, false, cond, [], ◌∷◌, Some, None, length, map, refl, sym, ap, subst, ◌∙◌, arith}
-use Rattle.std.specs.Option.{option_map}
-use Rattle.std.proofs.lemmas.Result.{on_ok_weaker}
-use Rattle.hs_words.specs.Buffers.{buffer_of}
-use Rattle.hs_pins.specs.Remembered.{Remembered, arrived, comes_back, pin_of}
-use Rattle.hs_pins.specs.PinsLayout.{Remembers}
-use Rattle.hs_pins.specs.Abandoning.{drops, relieved}
+use Rattle.hs_agent.proofs.Prelude.{option_map, on_ok_weaker, buffer_of, Remembered, arrived, comes_back, pin_of, Remembers, drops, relieved, ArrivalPlace, Kept, kept_in, Going, let_go, let_go_all, abandoned_going, abandoned_fate, ArrivesAtPins}
 use Rattle.hs_pins.proofs.Remembering.{arrived-back}
-use Rattle.hs_agent.specs.declared.placed.ArrivalPlace.{ArrivalPlace}
-use Rattle.hs_agent.specs.Keeping.{Kept}
-use Rattle.hs_agent.specs.KeptLayout.{kept_in}
-use Rattle.hs_agent.specs.LettingGo.{Going, let_go, let_go_all, abandoned_going, abandoned_fate}
-use Rattle.hs_agent.specs.Arriving.{ArrivesAtPins}
 use Rattle.hs_agent.proofs.Outcomes.{on_ok_both}
 use Rattle.hs_agent.proofs.Returning.{length-arrived, none-back, some-back}
 use Rattle.hs_agent.proofs.holdings.Holdings.pin.Goals as goal

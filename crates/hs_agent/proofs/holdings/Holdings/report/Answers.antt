@@ -1,11 +1,6 @@
 use Rattle.std.proofs.Common.{◌≡◌, ◌∷◌, ◌++◌, [], List, ℕ, map, All, IsSome, sym, ap, ◌∙◌, subst}
-use Rattle.std.proofs.lemmas.List.{map-append}
-use Rattle.std.proofs.lemmas.List.Elements.{All-head, All-tail}
-use Rattle.hs_pins.specs.Remembered.{Pin, pin_of}
-use Rattle.hs_agent.specs.declared.placed.ArrivalPlace.{ArrivalPlace}
-use Rattle.hs_agent.specs.Keeping.{Kept}
-use Rattle.hs_agent.specs.KeptLayout.{kept_in}
-use Rattle.hs_agent.specs.LettingGo.{let_go, page_in, reported_going}
+use Rattle.hs_agent.proofs.Prelude.{map-append, All-tail, Pin, pin_of, ArrivalPlace, Kept, kept_in, let_go, page_in, reported_going}
+use Rattle.std.proofs.lemmas.List.Elements.{All-head}
 use Rattle.hs_agent.proofs.Going.{reported_first}
 use Rattle.hs_agent.proofs.holdings.Holdings.report.Goals as goal
 

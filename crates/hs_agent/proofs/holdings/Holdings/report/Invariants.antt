@@ -1,7 +1,5 @@
 use Rattle.std.proofs.Common.{◌≡◌, length, All, IsSome}
-use Rattle.hs_pins.specs.Remembered.{Pin}
-use Rattle.hs_agent.specs.declared.placed.ArrivalPlace.{ArrivalPlace}
-use Rattle.hs_agent.specs.LettingGo.{reported}
+use Rattle.hs_agent.proofs.Prelude.{Pin, ArrivalPlace, reported}
 use Rattle.hs_agent.proofs.holdings.Holdings.report.Given as goal
 
 -- what is left to report leads to the same

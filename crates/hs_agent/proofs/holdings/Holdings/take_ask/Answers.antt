@@ -1,14 +1,5 @@
 use Rattle.std.proofs.Common.{◌≡◌, ◌+◌, ◌≤◌, ℕ, add-one, [], ◌∷◌, List, length, take, fold, Some, refl, sym, ap, subst, ◌∙◌, arith}
-use Rattle.std.specs.Option.{IsSome}
-use Rattle.std.proofs.lemmas.List.Elements.{All-from_recursion}
-use Rattle.hs_base.specs.declared.ids.TraceId.{TraceId}
-use Rattle.hs_base.specs.declared.told.Told.{Told}
-use Rattle.hs_pins.specs.Remembered.{claim_of}
-use Rattle.hs_law_agent.specs.State.{AgentState}
-use Rattle.hs_law_agent.specs.Claiming.{traces_of, claim_unclaimed}
-use Rattle.hs_law_agent.specs.Messages.{crumb_nodes}
-use Rattle.hs_agent.specs.Keeping.{Kept, Holds, Point, with_state}
-use Rattle.hs_agent.specs.Points.{claimed_for}
+use Rattle.hs_agent.proofs.Prelude.{IsSome, All-from_recursion, TraceId, Told, claim_of, AgentState, traces_of, claim_unclaimed, crumb_nodes, Kept, Holds, Point, with_state, claimed_for}
 use Rattle.hs_agent.proofs.ClaimedAll.{all-known, fold-more, holds-claimed_for}
 use Rattle.hs_agent.proofs.Unchanged.{claim-crumbs}
 use Rattle.hs_agent.proofs.holdings.Holdings.take_ask.Goals as goal

@@ -1,6 +1,5 @@
 use Rattle.std.proofs.Common.{take, fold}
-use Rattle.hs_law_agent.specs.Claiming.{claim_unclaimed}
-use Rattle.hs_agent.specs.Keeping.{Point, Holds, with_state}
+use Rattle.hs_agent.proofs.Prelude.{claim_unclaimed, Point, Holds, with_state}
 use Rattle.hs_agent.proofs.holdings.Holdings.take_ask.Given as goal
 
 -- the lead and the laterals so far are claimed

@@ -1,21 +1,6 @@
 use Rattle.std.proofs.Common.{◌≡◌, ◌+◌, ◌<◌, ◌≤◌, ◌^◌, Option, Some, None, length, refl, sym, ap, subst, ◌∙◌, arith}
-use Rattle.std.specs.Option.{option_map, option_map_or, option_and_then, is_some}
-use Rattle.std.proofs.lemmas.List.{length-map}
-use Rattle.std.proofs.lemmas.Result.{on_ok_weaker}
-use Rattle.hs_words.specs.declared.page.Header.{Header}
-use Rattle.hs_words.specs.Pages.{Sheet}
-use Rattle.hs_words.specs.Chunks.{used_of, header_of}
-use Rattle.hs_words.specs.Buffers.{buffer_of}
-use Rattle.hs_pins.specs.Remembered.{Claim, claim_of, claim_for}
-use Rattle.hs_pins.specs.PinsLayout.{Remembers}
-use Rattle.hs_law_agent.specs.Books.{page_standing}
-use Rattle.hs_agent.specs.declared.placed.ArrivalPlace.{ArrivalPlace}
-use Rattle.hs_agent.specs.Placing.{Placed, placed_at}
-use Rattle.hs_agent.specs.Keeping.{Kept, Point, Holds}
-use Rattle.hs_agent.specs.KeptLayout.{kept_in}
-use Rattle.hs_agent.specs.LettingGo.{let_go_all}
-use Rattle.hs_agent.specs.Arriving.{noted, indexed, ArrivesAtPins}
-use Rattle.hs_agent.specs.Points.{chunk_taken}
+use Rattle.hs_agent.proofs.Prelude.{option_map, option_map_or, option_and_then, is_some, length-map, on_ok_weaker, Header, Sheet, used_of, header_of, buffer_of, Claim, claim_of, Remembers, page_standing, ArrivalPlace, Placed, placed_at, Kept, Point, Holds, kept_in, let_go_all, noted, indexed, ArrivesAtPins, chunk_taken}
+use Rattle.hs_pins.specs.Remembered.{claim_for}
 use Rattle.hs_agent.proofs.Outcomes.{none_mapped, some_mapped, of_some}
 use Rattle.hs_agent.proofs.TakingChunks.{holds-taken_free, holds-taken_claimed}
 use Rattle.hs_agent.proofs.holdings.Holdings.take_chunk.Goals as goal

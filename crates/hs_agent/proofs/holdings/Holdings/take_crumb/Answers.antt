@@ -1,17 +1,7 @@
 use Rattle.std.proofs.Common.{◌≡◌, true, false, cond, Some, None, Option, map, refl, sym, ap, subst, ◌∙◌}
-use Rattle.std.specs.Option.{option_map, is_some}
-use Rattle.hs_base.specs.declared.told.Told.{Told}
+use Rattle.hs_agent.proofs.Prelude.{option_map, is_some, Told, Claim, Remembered, claim_of, crumbed, Remembers, leaving_of, settled, going, evict, late_of, with_touched, Kept, Point, Holds, with_state, plain_claim, kept_in, let_go_all, evicted_going, crumb_taken}
 use Rattle.hs_base.specs.declared.told.Why.TheVariants.{Late}
-use Rattle.hs_pins.specs.Remembered.{Claim, Remembered, claim_of, has_crumb, crumbed}
-use Rattle.hs_pins.specs.PinsLayout.{Remembers}
-use Rattle.hs_index.specs.Index.{leaving_of, settled, going}
-use Rattle.hs_law_agent.specs.Evicting.{evict}
-use Rattle.hs_law_agent.specs.Messages.{late_of}
-use Rattle.hs_law_agent.specs.Stepping.{with_touched}
-use Rattle.hs_agent.specs.Keeping.{Kept, Point, Holds, with_state, plain_claim}
-use Rattle.hs_agent.specs.KeptLayout.{kept_in}
-use Rattle.hs_agent.specs.LettingGo.{let_go_all, evicted_going}
-use Rattle.hs_agent.specs.Points.{crumb_taken}
+use Rattle.hs_pins.specs.Remembered.{has_crumb}
 use Rattle.hs_agent.proofs.Outcomes.{none_mapped, some_mapped, not_false, not_true}
 use Rattle.hs_agent.proofs.Crumbed.{left_touched, holds-touched, takes-touched, tells-nothing, holds-late, tells-late, with_one, claim-crumbed}
 use Rattle.hs_agent.proofs.Settling.{holds-settled}

@@ -1,15 +1,8 @@
 use Rattle.std.proofs.Common.{◌≡◌, ◌+◌, Bool, true, false, cond, [], ◌∷◌, ◌++◌, List, Option, Some, None, refl, sym, ap, subst, ◌∙◌}
-use Rattle.hs_base.specs.declared.told.Ask.{Ask}
-use Rattle.hs_base.specs.declared.told.Told.{Told}
+use Rattle.hs_agent.proofs.Prelude.{Ask, Told, AgentState, told_of, admits, admit, note_trigger, count_admitted, group_of, claim_for, Kept, Holds, Point, with_state, kept_in, claimed_for}
 use Rattle.hs_base.specs.declared.told.Why.TheVariants.{Fired}
 use Rattle.hs_pins.specs.declared.claim.Admitted.TheVariants as admissions
 use Rattle.hs_pins.specs.Remembered.{answered}
-use Rattle.hs_law_agent.specs.State.{AgentState}
-use Rattle.hs_law_agent.specs.Messages.{told_of}
-use Rattle.hs_law_agent.specs.Stepping.{admits, admit, note_trigger, count_admitted, group_of, claim_for}
-use Rattle.hs_agent.specs.Keeping.{Kept, Holds, Point, with_state}
-use Rattle.hs_agent.specs.KeptLayout.{kept_in}
-use Rattle.hs_agent.specs.Points.{claimed_for}
 use Rattle.hs_agent.proofs.Admitting.{is_admitted, as_answered, number_is, holds-admitted, holds-limited}
 use Rattle.hs_agent.proofs.Offered.{holds-rest}
 use Rattle.hs_agent.proofs.holdings.Holdings.take_trigger.Goals as goal

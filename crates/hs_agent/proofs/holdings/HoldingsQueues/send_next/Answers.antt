@@ -1,9 +1,5 @@
 use Rattle.std.proofs.Common.{◌≡◌, ◌∷◌, ◌++◌, [], map, refl, sym, ap, subst, ◌∙◌}
-use Rattle.std.proofs.lemmas.List.{map-append}
-use Rattle.hs_pins.specs.Remembered.{pin_of}
-use Rattle.hs_pins.specs.PinsLayout.{waiting, Remembers}
-use Rattle.hs_agent.specs.Keeping.{Kept}
-use Rattle.hs_agent.specs.Reporting.{id_of}
+use Rattle.hs_agent.proofs.Prelude.{map-append, pin_of, waiting, Remembers, Kept, id_of}
 use Rattle.hs_agent.proofs.Writing.{first-rest}
 use Rattle.hs_agent.proofs.holdings.HoldingsQueues.send_next.Goals as goal
 

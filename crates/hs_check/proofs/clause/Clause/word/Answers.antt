@@ -1,7 +1,7 @@
 use Rattle.std.proofs.Common.{◌≡◌, List, ℕ, refl, sym, ap, ◌∙◌}
+use Rattle.hs_check.proofs.Prelude.{number_of, Clause}
 use Rattle.std.specs.Fmt.{digits}
-use Rattle.hs_check.specs.Clauses.{number_of, clause_word}
-use Rattle.hs_check.specs.declared.clause.Clause.{Clause}
+use Rattle.hs_check.specs.Clauses.{clause_word}
 use Rattle.hs_check.specs.declared.clause.Clause.TheVariants.{L1, L2, L3, L4, L5, L6, L7, L8, L9, L10, L11}
 use Rattle.hs_check.proofs.clause.Clause.word.Goals as goal
 

@@ -1,5 +1,5 @@
 use Rattle.std.proofs.Common.{◌≡◌, ◌≤◌, ◌∷◌, ◌++◌, drop}
-use Rattle.hs_check.specs.Counting.{is_of, behind_each}
+use Rattle.hs_check.proofs.Prelude.{is_of, behind_each}
 use Rattle.hs_check.proofs.kinds.Kind.count_passes.Given as goal
 
 abbrev pub invariant-loop-place : goal.invariant-loop-place

@@ -1,9 +1,8 @@
 use Rattle.std.proofs.Common.{◌+◌, take, ap, sym, ◌∙◌}
+use Rattle.hs_check.proofs.Prelude.{list_any, Shown, is_named}
 use Rattle.std.specs.HashSet.{contains}
-use Rattle.std.specs.List.{list_any}
 use Rattle.std.proofs.lemmas.List.Folds.{list_any_more}
-use Rattle.hs_check.specs.declared.shown.Shown.{Shown}
-use Rattle.hs_check.specs.Showing.{is_same, is_named}
+use Rattle.hs_check.specs.Showing.{is_same}
 use Rattle.hs_check.proofs.Noting.{one_given, none_given}
 use Rattle.hs_check.proofs.shown.Shown.give.Goals as goal
 use Rattle.hs_check.proofs.shown.Shown.give.Goals.{then-self-gives+in_ok-insert, else-self-gives}

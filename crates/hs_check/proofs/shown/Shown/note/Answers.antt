@@ -1,10 +1,5 @@
 use Rattle.std.proofs.Common.{◌+◌, Some, None, refl, ap, sym, subst, ◌∙◌, arith}
-use Rattle.hs_lists.proofs.Counts.{one_if}
-use Rattle.hs_law_journal.specs.Passes.{is_turn}
-use Rattle.hs_law_journal.specs.Shape.{step_stamp}
-use Rattle.hs_journal.specs.declared.journal.Step.{Step}
-use Rattle.hs_check.specs.declared.shown.Shown.{Shown}
-use Rattle.hs_check.specs.Showing.{is_give, HasGiven}
+use Rattle.hs_check.proofs.Prelude.{one_if, is_turn, step_stamp, Step, Shown, is_give, HasGiven}
 use Rattle.hs_check.proofs.Noting.{shown_more, highest_with, quiet_step}
 use Rattle.hs_check.proofs.shown.Shown.note.Goals as goal
 

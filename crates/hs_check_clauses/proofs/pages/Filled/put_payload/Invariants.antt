@@ -1,6 +1,5 @@
 use Rattle.std.proofs.Common.{◌≡◌, ℕ, ◌+◌, ◌-◌, ◌≤◌, length, drop}
-use Rattle.hs_records.specs.Records.{piece_limit}
-use Rattle.hs_check_clauses.specs.Filling.{opened, room_behind, payload_costs}
+use Rattle.hs_check_clauses.proofs.Prelude.{piece_limit, opened, room_behind, payload_costs}
 use Rattle.hs_check_clauses.proofs.pages.Filled.put_payload.Given as goal
 
 abbrev pub invariant-loop-done : goal.invariant-loop-done

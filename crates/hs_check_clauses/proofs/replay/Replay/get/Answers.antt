@@ -1,8 +1,5 @@
 use Rattle.std.proofs.Common.{◌≡◌, ℕ, ◌+◌, ◌<◌, ◌≤◌, List, ◌∷◌, length, get_or, set, subst, sym, ap, ◌∙◌, arith}
-use Rattle.std.proofs.lemmas.Bool.{eq-eqb}
-use Rattle.std.proofs.lemmas.List.{get_or_default}
-use Rattle.hs_words.specs.PoolHistory.{Got}
-use Rattle.hs_check_clauses.specs.Replaying.{ReplayStands}
+use Rattle.hs_check_clauses.proofs.Prelude.{eq-eqb, get_or_default, Got, ReplayStands}
 use Rattle.hs_check_clauses.proofs.Replayed.{front_low, out_few, got_is, got}
 use Rattle.hs_check_clauses.proofs.replay.Replay.get.Goals as goal
 

@@ -1,7 +1,6 @@
 use Rattle.std.proofs.Common.{◌≡◌, ℕ, ◌+◌, ◌-◌, ◌<◌, ◌≤◌, ◌++◌, List, [], ◌∷◌, length, get_or, set, subst, sym, ap, ◌∙◌, arith}
-use Rattle.std.proofs.lemmas.List.{get_or_default}
+use Rattle.hs_check_clauses.proofs.Prelude.{get_or_default, ReplayStands}
 use Rattle.hs_words.specs.PoolHistory.{Given as Gave}
-use Rattle.hs_check_clauses.specs.Replaying.{ReplayStands}
 use Rattle.hs_check_clauses.proofs.Replayed.{give_strange, give_again, may_give, given}
 use Rattle.hs_check_clauses.proofs.replay.Replay.give.Goals as goal
 

@@ -1,7 +1,6 @@
 use Rattle.std.proofs.Common.{◌≡◌, ℕ, ◌++◌, List, [], ◌∷◌, replicate, subst, sym, ap, ◌∙◌, arith}
-use Rattle.std.specs.List.{range_with_len}
+use Rattle.hs_check_clauses.proofs.Prelude.{range_with_len, ReplayStands}
 use Rattle.std.proofs.lemmas.List.{replicate_more}
-use Rattle.hs_check_clauses.specs.Replaying.{ReplayStands}
 use Rattle.hs_check_clauses.proofs.Replayed.{stands_first, range_push}
 use Rattle.hs_check_clauses.proofs.replay.Replay.make.Goals as goal
 

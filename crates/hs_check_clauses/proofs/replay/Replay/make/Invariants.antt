@@ -1,5 +1,5 @@
 use Rattle.std.proofs.Common.{◌≡◌, replicate}
-use Rattle.std.specs.List.{range_with_len}
+use Rattle.hs_check_clauses.proofs.Prelude.{range_with_len}
 use Rattle.hs_check_clauses.proofs.replay.Replay.make.Given as goal
 
 abbrev pub invariant-loop-buffer : goal.invariant-loop-buffer

@@ -1,5 +1,5 @@
 use Rattle.std.proofs.Common.{◌≡◌, ◌≤◌, take}
-use Rattle.hs_law_journal.specs.Following.{taken}
+use Rattle.hs_check_clauses.proofs.Prelude.{taken}
 use Rattle.hs_check_clauses.specs.Sources.{queue_of}
 use Rattle.hs_check_clauses.proofs.sources.Source.count.Given as goal
 

@@ -1,11 +1,6 @@
 use Rattle.std.proofs.Common.{◌≡◌, List, [], Some, refl, sym, ap, subst, ◌∙◌}
+use Rattle.hs_check_follow.proofs.Prelude.{Follows, after_offer, offered_next, state_of, event_of, Given, Missed, Unread, Gave, Unleased, buffer_of, buffer_in, agent_run}
 use Rattle.std.specs.Prelude.{IfNone}
-use Rattle.hs_agent.specs.Runs.{Follows, after_offer, offered_next, state_of}
-use Rattle.hs_law_journal.specs.Following.{event_of}
-use Rattle.hs_law_agent.specs.Stepping.{Given, Missed, Unread, Gave}
-use Rattle.hs_replay_client.specs.ReplayClients.{Unleased}
-use Rattle.hs_words.specs.Buffers.{buffer_of, buffer_in}
-use Rattle.hs_check_follow.specs.Nodes.{agent_run}
 use Rattle.hs_check_follow.proofs.Performing.{before, next, none_offered, offer_none, is_offered, was_offered, has_page, ready, back_is, answered, none_given, one_given, named_so}
 use Rattle.hs_check_follow.proofs.agent.FollowedAgent.offer.Goals as goal
 

@@ -1,7 +1,6 @@
 use Rattle.std.proofs.Common.{sym, subst}
+use Rattle.hs_check_follow.proofs.Prelude.{Step, workload_of}
 use Rattle.std.proofs.lemmas.Result.{IfOk-weaker}
-use Rattle.hs_journal.specs.declared.journal.Step.{Step}
-use Rattle.hs_workload.specs.Views.{workload_of}
 use Rattle.hs_check_follow.specs.Nodes.{MayPerform, Performs}
 use Rattle.hs_check_follow.proofs.agent.FollowedAgent.perform.Goals as goal
 

@@ -1,6 +1,5 @@
 use Rattle.std.proofs.Common.{Some, None, refl, sym, subst, ◌∙◌, append-nil}
-use Rattle.std.specs.Prelude.{MatchOption}
-use Rattle.hs_check_follow.specs.Nodes.{IsNotReady, IsReadied}
+use Rattle.hs_check_follow.proofs.Prelude.{MatchOption, IsNotReady, IsReadied}
 use Rattle.hs_check_follow.proofs.Performing.{at_run, takable, performed}
 use Rattle.hs_check_follow.proofs.agent.FollowedAgent.take.Goals as goal
 

@@ -1,10 +1,7 @@
 use Rattle.std.proofs.Common.{None, refl, sym, subst, append-nil}
 use Rattle.hs_agent.specs.declared.input.Input.TheVariants as inputs
 use Rattle.hs_journal.specs.declared.journal.Step.TheVariants as steps
-use Rattle.hs_words.specs.Buffers.{buffer_in}
-use Rattle.hs_workload.specs.Views.{workload_of}
-use Rattle.hs_check_follow.specs.Clients.{Pops, PopsChunk}
-use Rattle.hs_check_follow.specs.declared.agent.FollowedAgent.{FollowedAgent}
+use Rattle.hs_check_follow.proofs.Prelude.{buffer_in, workload_of, Pops, PopsChunk, FollowedAgent}
 use Rattle.hs_check_follow.proofs.Performing.{at_run, takable, performed}
 use Rattle.hs_check_follow.proofs.Popping.{may_fill_any}
 use Rattle.hs_check_follow.proofs.Readying.{chunk_readied, no_chunk_readied}

@@ -1,11 +1,6 @@
 use Rattle.std.proofs.Common.{◌≡◌, ℕ, List, ◌+◌, length, get_or, Some, refl, sym, ap, ◌∙◌, arith}
-use Rattle.std.proofs.lemmas.Option.{slice_get-get_or, same_Some}
-use Rattle.std.specs.Prelude.{slice_get}
-use Rattle.hs_base.specs.declared.ids.NodeId.{NodeId}
-use Rattle.hs_base.specs.declared.told.Told.{Told}
-use Rattle.hs_base.specs.Changing.{ChangesAt}
+use Rattle.hs_check_follow.proofs.Prelude.{slice_get-get_or, same_Some, slice_get, NodeId, Told, ChangesAt, FollowedNode}
 use Rattle.hs_workload.specs.declared.word.Setting.TheVariants as settings
-use Rattle.hs_check_follow.specs.declared.node.FollowedNode.{FollowedNode}
 use Rattle.hs_check_follow.proofs.Heard.{nothing_left, no_node, not_told, below, heard_one}
 use Rattle.hs_check_follow.proofs.Lists.{indexed}
 use Rattle.hs_check_follow.proofs.coordinator.FollowedCoordinator.hear.Goals as goal

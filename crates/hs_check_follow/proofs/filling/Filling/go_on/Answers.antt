@@ -1,6 +1,5 @@
 use Rattle.std.proofs.Common.{map, arith}
-use Rattle.std.proofs.lemmas.List.{length-map}
-use Rattle.hs_workload.specs.Views.{operation_of}
+use Rattle.hs_check_follow.proofs.Prelude.{length-map, operation_of}
 use Rattle.hs_check_follow.proofs.Filled.{done_more, fills_on, done_quiet, fills_quiet}
 use Rattle.hs_check_follow.proofs.filling.Filling.go_on.Goals as goal
 

@@ -1,6 +1,5 @@
 use Rattle.std.proofs.Common.{map, refl}
-use Rattle.hs_records.specs.Plain.{settings_of}
-use Rattle.hs_workload.specs.Views.{operation_of}
+use Rattle.hs_check_follow.proofs.Prelude.{settings_of, operation_of}
 use Rattle.hs_check_follow.proofs.NothingSent.{fills_so}
 use Rattle.hs_check_follow.proofs.filling.Filling.make.Goals as goal
 

@@ -1,7 +1,5 @@
 use Rattle.std.proofs.Common.{map, arith}
-use Rattle.std.proofs.lemmas.List.{length-map}
-use Rattle.hs_words.specs.Buffers.{buffer_of, buffer_in}
-use Rattle.hs_workload.specs.Views.{operation_of}
+use Rattle.hs_check_follow.proofs.Prelude.{length-map, buffer_of, buffer_in, operation_of}
 use Rattle.hs_check_follow.proofs.Filled.{none_left, waits, filled, filled_last}
 use Rattle.hs_check_follow.proofs.filling.Filling.next.Goals as goal
 

@@ -1,9 +1,5 @@
 use Rattle.std.proofs.Common.{◌≡◌, ℕ, ◌-◌, List, length, map}
-use Rattle.hs_base.specs.declared.ids.ClientId.{ClientId}
-use Rattle.hs_journal.specs.declared.journal.Draw.{Draw}
-use Rattle.hs_records.specs.Plain.{PlainSettings}
-use Rattle.hs_workload.specs.Views.{operation_of}
-use Rattle.hs_check_follow.specs.Fillings.{IsFilling}
+use Rattle.hs_check_follow.proofs.Prelude.{ClientId, Draw, PlainSettings, operation_of, IsFilling}
 use Rattle.hs_check_follow.proofs.filling.Filling.next.Given as goal
 
 abbrev pub invariant-operations : goal.invariant-operations

@@ -1,8 +1,5 @@
 use Rattle.std.proofs.Common.{◌-◌, ◌<◌, length, map, arith}
-use Rattle.std.proofs.lemmas.List.{length-map}
-use Rattle.std.proofs.lemmas.Result.{on_ok_weaker}
-use Rattle.hs_workload.specs.Views.{operation_of}
-use Rattle.hs_check_follow.specs.declared.gathering.Gathering.{Gathering}
+use Rattle.hs_check_follow.proofs.Prelude.{length-map, on_ok_weaker, operation_of, Gathering}
 use Rattle.hs_check_follow.proofs.Going.{Sends, first, second, third, were_chunks, were_crumbs, were_triggers, fewer, starts_here, sent_by, no_chunks, no_crumbs, no_triggers}
 use Rattle.hs_check_follow.proofs.gathering.Gathering.go.Goals as goal
 

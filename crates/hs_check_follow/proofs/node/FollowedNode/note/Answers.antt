@@ -1,5 +1,5 @@
 use Rattle.std.proofs.Common.{length, refl, sym, ap, ◌∙◌}
-use Rattle.hs_law_agent.specs.State.{AgentState}
+use Rattle.hs_check_follow.proofs.Prelude.{AgentState}
 use Rattle.hs_check_follow.proofs.Filing.{nothing_noted, appended}
 use Rattle.hs_check_follow.proofs.node.FollowedNode.note.Goals as goal
 

@@ -1,6 +1,5 @@
 use Rattle.std.proofs.Common.{◌+◌, ap, refl, subst}
-use Rattle.std.proofs.lemmas.Option.{slice_get-get_or}
-use Rattle.hs_workload.specs.Views.{workload_of}
+use Rattle.hs_check_follow.proofs.Prelude.{slice_get-get_or, workload_of}
 use Rattle.hs_check_follow.specs.Nodes.{PerformsIf}
 use Rattle.hs_check_follow.proofs.Tracking.{nothing_left, stepped, not_stepped}
 use Rattle.hs_check_follow.proofs.node.FollowedNode.step.Goals as goal

@@ -1,7 +1,5 @@
 use Rattle.std.proofs.Common.{subst}
-use Rattle.hs_journal.specs.Views.{journal_of}
-use Rattle.hs_workload.specs.Views.{workload_of}
-use Rattle.hs_check_follow.specs.Whole.{SteppedAnyIf}
+use Rattle.hs_check_follow.proofs.Prelude.{journal_of, workload_of, SteppedAnyIf}
 use Rattle.hs_check_follow.proofs.Steps.{rests_there}
 use Rattle.hs_check_follow.proofs.run.FollowedRun.follow.Goals as goal
 

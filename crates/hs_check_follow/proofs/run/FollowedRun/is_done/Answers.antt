@@ -1,11 +1,5 @@
 use Rattle.std.proofs.Common.{◌≡◌, leb, List, length, Some, option_map, slice_get, sym, ap, ◌∙◌, arith}
-use Rattle.std.proofs.lemmas.List.{length-map}
-use Rattle.std.proofs.lemmas.Option.{slice_get-map}
-use Rattle.hs_lists.proofs.Lent.{lent_from}
-use Rattle.hs_base.specs.Listing.{Listing}
-use Rattle.hs_journal.specs.Views.{journal_of}
-use Rattle.hs_journal.specs.declared.journal.Step.{Step}
-use Rattle.hs_check_follow.specs.declared.node.FollowedNode.{FollowedNode}
+use Rattle.hs_check_follow.proofs.Prelude.{length-map, slice_get-map, lent_from, Listing, journal_of, Step, FollowedNode}
 use Rattle.hs_check_follow.proofs.Done.{through_more, not_through, all_done}
 use Rattle.hs_check_follow.proofs.run.FollowedRun.is_done.Goals as goal
 

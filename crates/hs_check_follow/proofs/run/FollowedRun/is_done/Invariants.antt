@@ -1,8 +1,5 @@
 use Rattle.std.proofs.Common.{◌≡◌, ◌<◌, ℕ, [], Some, slice_get}
-use Rattle.hs_journal.specs.Views.{journal_of}
-use Rattle.hs_law_journal.specs.Following.{Run, NodeRun}
-use Rattle.hs_records.specs.Plain.{PlainWorkload}
-use Rattle.hs_check_follow.specs.Whole.{AllAt}
+use Rattle.hs_check_follow.proofs.Prelude.{journal_of, Run, NodeRun, PlainWorkload, AllAt}
 use Rattle.hs_check_follow.proofs.run.FollowedRun.is_done.Given as goal
 
 abbrev pub invariant-loop-node : goal.invariant-loop-node

@@ -1,5 +1,5 @@
 use Rattle.std.proofs.Common.{refl}
-use Rattle.hs_law_journal.specs.Following.{followed}
+use Rattle.hs_check_follow.proofs.Prelude.{followed}
 use Rattle.hs_check_follow.proofs.FoundAll.{all_found}
 use Rattle.hs_check_follow.proofs.run.FollowedRun.part.Goals as goal
 

@@ -1,8 +1,5 @@
 use Rattle.std.proofs.Common.{◌≡◌, List, length, refl, sym, subst, arith}
-use Rattle.hs_journal.specs.Views.{journal_of}
-use Rattle.hs_workload.specs.Views.{workload_of}
-use Rattle.hs_check_follow.specs.Whole.{NodeSteppedIf, MayHearAt, HearsOn}
-use Rattle.hs_check_follow.specs.declared.node.FollowedNode.{FollowedNode}
+use Rattle.hs_check_follow.proofs.Prelude.{journal_of, workload_of, NodeSteppedIf, MayHearAt, HearsOn, FollowedNode}
 use Rattle.hs_check_follow.proofs.Steps.{Tried, tried_none, tried_more, stepped_behind, heard_done, may_hear}
 use Rattle.hs_check_follow.proofs.run.FollowedRun.step_any.Goals as goal
 

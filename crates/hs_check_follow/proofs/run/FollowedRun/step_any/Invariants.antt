@@ -1,7 +1,4 @@
-use Rattle.hs_journal.specs.Views.{journal_of}
-use Rattle.hs_law_journal.specs.Following.{Run}
-use Rattle.hs_workload.specs.Views.{workload_of}
-use Rattle.hs_check_follow.specs.Whole.{AllAt}
+use Rattle.hs_check_follow.proofs.Prelude.{journal_of, Run, workload_of, AllAt}
 use Rattle.hs_check_follow.proofs.Steps.{Tried}
 use Rattle.hs_check_follow.proofs.run.FollowedRun.step_any.Given as goal
 

@@ -1,15 +1,6 @@
 use Rattle.std.proofs.Common.{◌≡◌, List, get_or, Some, option_map, refl, sym, ap, subst, ◌∙◌, arith}
-use Rattle.std.proofs.lemmas.List.{length-map}
-use Rattle.std.proofs.lemmas.Option.{slice_get-map}
-use Rattle.std.specs.Prelude.{slice_get}
-use Rattle.hs_lists.proofs.Lent.{lent_is, lent_from}
-use Rattle.hs_base.specs.Listing.{Listing}
-use Rattle.hs_base.specs.declared.told.Ask.{Ask}
-use Rattle.hs_journal.specs.Views.{journal_of}
-use Rattle.hs_journal.specs.declared.journal.Step.{Step}
-use Rattle.hs_workload.specs.Views.{workload_of}
+use Rattle.hs_check_follow.proofs.Prelude.{length-map, slice_get-map, slice_get, lent_is, lent_from, Listing, Ask, journal_of, Step, workload_of, MayStepAt, StepsOn}
 use Rattle.hs_check_follow.proofs.Steps.{may_step, node_done}
-use Rattle.hs_check_follow.specs.Whole.{MayStepAt, StepsOn}
 use Rattle.hs_check_follow.proofs.run.FollowedRun.step_node.Goals as goal
 
 pub step-requires : goal.step-requires

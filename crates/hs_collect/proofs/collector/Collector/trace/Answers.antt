@@ -1,5 +1,5 @@
 use Rattle.std.proofs.Common.{subst, sym}
-use Rattle.hs_collect.specs.Collected.{AreCollected}
+use Rattle.hs_collect.proofs.Prelude.{AreCollected}
 use Rattle.hs_collect.proofs.Seen.{traced, traced_at}
 use Rattle.hs_collect.proofs.collector.Collector.trace.Goals as goal
 

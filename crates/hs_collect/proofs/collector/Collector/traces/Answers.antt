@@ -1,6 +1,6 @@
 use Rattle.std.proofs.Common.{sym, subst, ◌∙◌}
+use Rattle.hs_collect.proofs.Prelude.{AreCollected}
 use Rattle.std.proofs.lemmas.Result.{IfOk-weaker}
-use Rattle.hs_collect.specs.Collected.{AreCollected}
 use Rattle.hs_collect.proofs.Seen.{keys_seen}
 use Rattle.hs_collect.proofs.collector.Collector.traces.Goals as goal
 

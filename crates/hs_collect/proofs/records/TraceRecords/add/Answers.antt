@@ -1,10 +1,5 @@
 use Rattle.std.proofs.Common.{◌≡◌, ◌≤◌, ◌++◌, List, length, map, sym, ap, ◌∙◌, subst, arith, length-append}
-use Rattle.std.proofs.lemmas.List.{length-map}
-use Rattle.hs_words.specs.Pages.{piece_of}
-use Rattle.hs_collect.specs.declared.records.TraceRecord.{TraceRecord}
-use Rattle.hs_collect.specs.Collected.{Placed}
-use Rattle.hs_collect.specs.Views.{placed_of, wholes_of}
-use Rattle.hs_collect.specs.Joining.{Joins}
+use Rattle.hs_collect.proofs.Prelude.{length-map, piece_of, TraceRecord, Placed, placed_of, wholes_of, Joins}
 use Rattle.hs_collect.proofs.Joined.{length-joined}
 use Rattle.hs_collect.proofs.Page.{records_added}
 use Rattle.hs_collect.proofs.records.TraceRecords.add.Goals as goal

@@ -1,8 +1,8 @@
 use Rattle.std.proofs.Common.{◌++◌, map, sym, ap, ◌∙◌}
+use Rattle.hs_collect.proofs.Prelude.{wholes_of}
 use Rattle.std.proofs.lemmas.List.{map-id}
 use Rattle.std.proofs.lemmas.Iterator.Adapters.{YieldsList-from_vec, YieldsList-from_skip}
 use Rattle.std.proofs.lemmas.Iterator.Consumers.{YieldsList-from_enumerate, YieldsList-end}
-use Rattle.hs_collect.specs.Views.{wholes_of}
 use Rattle.hs_collect.proofs.Placed.{begun, begun-rest}
 use Rattle.hs_collect.proofs.records.TraceRecords.append.Goals as goal
 

@@ -1,5 +1,5 @@
 use Rattle.std.proofs.Common.{◌≡◌, ◌++◌, ◌+◌, ◌≤◌, length, map}
-use Rattle.hs_collect.specs.Views.{wholes_of}
+use Rattle.hs_collect.proofs.Prelude.{wholes_of}
 use Rattle.hs_collect.proofs.Placed.{begun}
 use Rattle.hs_collect.proofs.records.TraceRecords.append.Given as goal
 

@@ -1,6 +1,5 @@
 use Rattle.std.proofs.Common.{◌≡◌, ◌-◌, ◌<◌, ◌++◌, suc, get_or, length, Result, Ok, Err, OnErr, ap, ◌∙◌, arith}
-use Rattle.hs_collect.specs.Views.{wholes_of}
-use Rattle.hs_collect.specs.Joining.{join_at}
+use Rattle.hs_collect.proofs.Prelude.{wholes_of, join_at}
 use Rattle.hs_collect.proofs.Lent.{after_join, after_none, before_is, if_not_ne, if_ne}
 use Rattle.hs_collect.proofs.records.TraceRecords.join_before.Goals as goal
 

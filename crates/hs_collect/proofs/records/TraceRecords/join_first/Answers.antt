@@ -1,4 +1,4 @@
-use Rattle.hs_collect.specs.Views.{wholes_of}
+use Rattle.hs_collect.proofs.Prelude.{wholes_of}
 use Rattle.hs_collect.proofs.Joined.{joins_none, if_joins}
 use Rattle.hs_collect.proofs.records.TraceRecords.join_first.Goals as goal
 

@@ -1,4 +1,4 @@
-use Rattle.hs_collect.specs.Views.{placed_of}
+use Rattle.hs_collect.proofs.Prelude.{placed_of}
 use Rattle.hs_collect.proofs.Turning.{rotated}
 use Rattle.hs_collect.proofs.records.TraceRecords.move_before.Goals as goal
 

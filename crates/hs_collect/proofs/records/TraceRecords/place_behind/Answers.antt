@@ -1,9 +1,6 @@
 use Rattle.std.proofs.Common.{List, map, subst, sym, rules}
+use Rattle.hs_collect.proofs.Prelude.{TraceRecord, AreInOrder, placed_of, IsPlaceBehind}
 use Rattle.std.proofs.lemmas.List.Sorted.{IsPartitionPoint-from_clause}
-use Rattle.hs_collect.specs.declared.records.TraceRecord.{TraceRecord}
-use Rattle.hs_collect.specs.Collected.{AreInOrder}
-use Rattle.hs_collect.specs.Views.{placed_of}
-use Rattle.hs_collect.specs.Joining.{IsPlaceBehind}
 use Rattle.hs_collect.proofs.Places.{stays, partitioned, place_is}
 use Rattle.hs_collect.proofs.records.TraceRecords.place_behind.Goals as goal
 

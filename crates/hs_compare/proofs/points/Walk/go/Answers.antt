@@ -1,6 +1,5 @@
 use Rattle.std.proofs.Common.{Some, None, refl, ap, ◌∙◌}
-use Rattle.hs_workload.specs.Views.{operation_of}
-use Rattle.hs_compare.specs.declared.points.Walk.{Walk}
+use Rattle.hs_compare.proofs.Prelude.{operation_of, Walk}
 use Rattle.hs_compare.proofs.Pointed.{gone_quiet, gone_seen, brought_by}
 use Rattle.hs_compare.proofs.points.Walk.go.Goals as goal
 

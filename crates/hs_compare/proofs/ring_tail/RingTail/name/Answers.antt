@@ -1,10 +1,7 @@
 use Rattle.std.proofs.Common.{◌≡◌, ◌++◌, cond, Bool, List, [], ◌∷◌, false, length, map, sym, ap, ◌∙◌, subst, arith, length-append}
+use Rattle.hs_compare.proofs.Prelude.{length_map, TraceId, RecordId, alive, names, AreQueued}
 use Rattle.std.proofs.lemmas.Bool.{not-true}
-use Rattle.hs_lists.proofs.Parts.{length_map}
-use Rattle.hs_base.specs.declared.ids.TraceId.{TraceId}
-use Rattle.hs_base.specs.declared.ids.RecordId.{RecordId}
-use Rattle.hs_compare.specs.Ringing.{alive, names, is_among}
-use Rattle.hs_compare.specs.Queues.{AreQueued}
+use Rattle.hs_compare.specs.Ringing.{is_among}
 use Rattle.hs_compare.proofs.Rings.{among_is}
 use Rattle.hs_compare.proofs.Tails.{ringing, count_left, queued_left, names_first}
 use Rattle.hs_compare.proofs.ring_tail.RingTail.name.Goals as goal

@@ -1,6 +1,6 @@
 use Rattle.std.proofs.Common.{◌≡◌, ℕ, ◌+◌, ◌-◌, ◌++◌, List, [], ◌∷◌, false, drop, sym, ap, ap₂, ◌∙◌}
-use Rattle.hs_compare.specs.declared.ring.Noted.{Noted}
-use Rattle.hs_compare.specs.Ringing.{alive, comes, is_among}
+use Rattle.hs_compare.proofs.Prelude.{Noted, alive, comes}
+use Rattle.hs_compare.specs.Ringing.{is_among}
 use Rattle.hs_compare.specs.RingTails.{ringing_of}
 use Rattle.hs_compare.proofs.Tails.{ringing, comes_unnamed}
 use Rattle.hs_compare.proofs.ring_tail.RingTail.note.Goals as goal

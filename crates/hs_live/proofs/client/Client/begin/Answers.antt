@@ -1,9 +1,5 @@
 use Rattle.std.proofs.Common.{ap, subst}
-use Rattle.hs_records.specs.Plain.{Begin}
-use Rattle.hs_live.specs.declared.writer.Writer.{Writer}
-use Rattle.hs_live.specs.Live.{PlainClient}
-use Rattle.hs_live.specs.Done.{Does}
-use Rattle.hs_live.specs.ClientInside.{live_of}
+use Rattle.hs_live.proofs.Prelude.{Begin, Writer, PlainClient, Does, live_of}
 use Rattle.hs_live.proofs.Doing.{begins}
 use Rattle.hs_live.proofs.client.Client.begin.Goals as goal
 

@@ -1,9 +1,6 @@
 use Rattle.std.proofs.Common.{sym, ◌∙◌, subst}
+use Rattle.hs_live.proofs.Prelude.{Done, PlainClient, Does, live_of}
 use Rattle.hs_records.specs.Plain.{Crumb as LeaveCrumb}
-use Rattle.hs_live.specs.declared.called.Called.TheVariants.{Done}
-use Rattle.hs_live.specs.Live.{PlainClient}
-use Rattle.hs_live.specs.Done.{Does}
-use Rattle.hs_live.specs.ClientInside.{live_of}
 use Rattle.hs_live.proofs.Doing.{crumb_done}
 use Rattle.hs_live.proofs.client.Client.crumb.Goals as goal
 

@@ -1,9 +1,5 @@
 use Rattle.std.proofs.Common.{refl, ap, subst}
-use Rattle.hs_records.specs.Plain.{End}
-use Rattle.hs_live.specs.declared.writer.Writer.{Writer}
-use Rattle.hs_live.specs.Live.{PlainClient}
-use Rattle.hs_live.specs.Done.{Does}
-use Rattle.hs_live.specs.ClientInside.{live_of}
+use Rattle.hs_live.proofs.Prelude.{End, Writer, PlainClient, Does, live_of}
 use Rattle.hs_live.proofs.Doing.{ends}
 use Rattle.hs_live.proofs.client.Client.end.Goals as goal
 

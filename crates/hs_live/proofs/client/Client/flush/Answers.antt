@@ -1,15 +1,6 @@
 use Rattle.std.proofs.Common.{◌≡◌, ℕ, true, ◌+◌, ◌^◌, ◌<◌, ◌≤◌, length, refl, sym, ap, subst, arith}
-use Rattle.std.proofs.lemmas.List.{length-map}
-use Rattle.hs_words.specs.Buffers.{buffer_of}
-use Rattle.std.specs.List.{AllByRecursion}
-use Rattle.hs_base.specs.Rules.{fired_by, is_declared}
-use Rattle.hs_auto.specs.Watching.{Watch}
-use Rattle.hs_live.specs.Keys.{Key}
-use Rattle.hs_live.specs.Live.{PlainClient, Flushes, outgoing}
-use Rattle.hs_live.specs.Inside.{writing_in}
+use Rattle.hs_live.proofs.Prelude.{length-map, buffer_of, AllByRecursion, fired_by, is_declared, Watch, Key, PlainClient, Flushes, outgoing, writing_in, DoesNothing, live_of}
 use Rattle.hs_live.proofs.Sound.{sound_kept}
-use Rattle.hs_live.specs.Done.{DoesNothing}
-use Rattle.hs_live.specs.ClientInside.{live_of}
 use Rattle.hs_live.proofs.Senders.{keeps_buffers, outbox_within, flushes_buffers}
 use Rattle.hs_live.proofs.Doing.{nothing_done}
 use Rattle.hs_live.proofs.client.Client.flush.Goals as goal

@@ -1,9 +1,5 @@
 use Rattle.std.proofs.Common.{◌≡◌, [], sym, subst}
-use Rattle.hs_live.specs.declared.writer.Writer.{Writer}
-use Rattle.hs_live.specs.Live.{PlainClient}
-use Rattle.hs_live.specs.Done.{HasDone}
-use Rattle.hs_live.specs.Calls.{made_of}
-use Rattle.hs_live.specs.ClientInside.{live_of}
+use Rattle.hs_live.proofs.Prelude.{Writer, PlainClient, HasDone, made_of, live_of}
 use Rattle.hs_live.proofs.Doing.{new_done}
 use Rattle.hs_live.proofs.client.Client.make.Goals as goal
 

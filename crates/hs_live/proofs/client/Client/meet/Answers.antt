@@ -1,15 +1,6 @@
 use Rattle.std.proofs.Common.{◌≡◌, ◌≤◌, true, length, map, refl, sym, subst, arith}
-use Rattle.std.specs.List.{AllByRecursion}
-use Rattle.hs_base.specs.Rules.{fired_by, is_declared}
-use Rattle.hs_base.specs.declared.told.Crumb.{Crumb}
-use Rattle.hs_base.specs.declared.told.Trigger.{Trigger}
-use Rattle.hs_auto.specs.Watching.{Watch}
-use Rattle.hs_link.specs.Contents.{Outgoing, sent}
-use Rattle.hs_live.specs.Keys.{Key}
-use Rattle.hs_live.specs.Live.{PlainClient, Port, IsMate, outgoing, incoming}
+use Rattle.hs_live.proofs.Prelude.{AllByRecursion, fired_by, is_declared, Crumb, Trigger, Watch, Outgoing, sent, Key, PlainClient, Port, IsMate, outgoing, incoming, live_of, writing_in}
 use Rattle.hs_live.specs.Calls.{MeetsAt}
-use Rattle.hs_live.specs.ClientInside.{live_of}
-use Rattle.hs_live.specs.Inside.{writing_in}
 use Rattle.hs_live.proofs.Sound.{sound_met}
 use Rattle.hs_live.proofs.Ports.{heard_room, met_buffers, mate_of_buffers}
 use Rattle.hs_live.proofs.client.Client.meet.Goals as goal

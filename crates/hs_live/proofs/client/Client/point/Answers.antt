@@ -1,10 +1,5 @@
 use Rattle.std.proofs.Common.{IsSome, refl, subst, rules}
-use Rattle.hs_records.specs.Plain.{Point}
-use Rattle.hs_live.specs.declared.called.Called.TheVariants.{Done}
-use Rattle.hs_live.specs.declared.writer.Writer.{Writer}
-use Rattle.hs_live.specs.Live.{PlainClient}
-use Rattle.hs_live.specs.Done.{Does}
-use Rattle.hs_live.specs.ClientInside.{live_of}
+use Rattle.hs_live.proofs.Prelude.{Point, Done, Writer, PlainClient, Does, live_of}
 use Rattle.hs_live.proofs.Doing.{point_done}
 use Rattle.hs_live.proofs.client.Client.point.Goals as goal
 

@@ -1,16 +1,8 @@
 use Rattle.std.proofs.Common.{◌≡◌, List, map, get_or, sym, ap, ◌∙◌, subst}
-use Rattle.std.proofs.lemmas.List.{append-nil}
-use Rattle.hs_lists.proofs.Lent.{lent, lent_is}
-use Rattle.hs_records.specs.Plain.{Sample}
-use Rattle.hs_auto.specs.Watching.{Watch}
+use Rattle.hs_live.proofs.Prelude.{append-nil, lent, lent_is, Sample, Watch, sent, Done, PlainClient, Does, live_of}
 use Rattle.hs_auto.specs.declared.sampled.Sampled.TheVariants.{Quiet, Fired}
-use Rattle.hs_link.specs.Contents.{sent}
 use Rattle.hs_law_sends.proofs.Sampling.{rules_set}
-use Rattle.hs_live.specs.declared.called.Called.TheVariants.{Done}
-use Rattle.hs_live.specs.Live.{PlainClient}
-use Rattle.hs_live.specs.Done.{Does}
 use Rattle.hs_live.specs.Calls.{IsAutoOf}
-use Rattle.hs_live.specs.ClientInside.{live_of}
 use Rattle.hs_live.proofs.Samples.{is_found, sample_done}
 use Rattle.hs_live.proofs.client.Client.sample.Goals as goal
 

@@ -1,9 +1,5 @@
 use Rattle.std.proofs.Common.{subst}
-use Rattle.hs_records.specs.Plain.{Fire}
-use Rattle.hs_live.specs.declared.called.Called.TheVariants.{Done}
-use Rattle.hs_live.specs.Live.{PlainClient}
-use Rattle.hs_live.specs.Done.{Does}
-use Rattle.hs_live.specs.ClientInside.{live_of}
+use Rattle.hs_live.proofs.Prelude.{Fire, Done, PlainClient, Does, live_of}
 use Rattle.hs_live.proofs.Doing.{trigger_done}
 use Rattle.hs_live.proofs.client.Client.trigger.Goals as goal
 

@@ -1,8 +1,5 @@
 use Rattle.std.proofs.Common.{map, sym, ◌∙◌, subst, arith}
-use Rattle.std.proofs.lemmas.Option.{IfSome_then}
-use Rattle.hs_words.specs.Buffers.{buffer_in}
-use Rattle.hs_live.specs.Live.{Port, incoming, IsEnd, ReceivesAt}
-use Rattle.hs_live.specs.Calls.{IsOf}
+use Rattle.hs_live.proofs.Prelude.{IfSome_then, buffer_in, Port, incoming, IsEnd, ReceivesAt, IsOf}
 use Rattle.hs_live.proofs.Ports.{received_buffers, end_buffers, fact_of_buffers, of_received}
 use Rattle.hs_live.proofs.port.AgentPort.chunk.Goals as goal
 

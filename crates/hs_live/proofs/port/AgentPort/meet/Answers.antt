@@ -1,6 +1,5 @@
 use Rattle.std.proofs.Common.{map, sym, ap, ◌∙◌, arith}
-use Rattle.hs_ring.specs.Parts.{Giving}
-use Rattle.hs_live.specs.Live.{incoming}
+use Rattle.hs_live.proofs.Prelude.{Giving, incoming}
 use Rattle.hs_live.proofs.Ports.{of_met}
 use Rattle.hs_live.proofs.port.AgentPort.meet.Goals as goal
 

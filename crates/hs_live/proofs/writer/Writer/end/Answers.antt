@@ -1,8 +1,5 @@
 use Rattle.std.proofs.Common.{◌++◌, refl, ap, ◌∙◌}
-use Rattle.std.specs.Option.{option_to_list}
-use Rattle.hs_link.specs.Contents.{sent}
-use Rattle.hs_live.specs.Live.{outgoing}
-use Rattle.hs_live.specs.Inside.{writing_in}
+use Rattle.hs_live.proofs.Prelude.{option_to_list, sent, outgoing, writing_in}
 use Rattle.hs_live.proofs.Steps.{ended_trace}
 use Rattle.hs_live.proofs.writer.Writer.end.Goals as goal
 

@@ -1,5 +1,5 @@
 use Rattle.std.proofs.Common.{refl}
-use Rattle.hs_live.specs.Inside.{writing_in}
+use Rattle.hs_live.proofs.Prelude.{writing_in}
 use Rattle.hs_live.proofs.Steps.{wrote}
 use Rattle.hs_live.proofs.writer.Writer.piece.Goals as goal
 

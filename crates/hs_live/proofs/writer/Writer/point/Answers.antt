@@ -1,6 +1,5 @@
 use Rattle.std.proofs.Common.{ap, ◌∙◌}
-use Rattle.hs_records.specs.Records.{piece_limit}
-use Rattle.hs_live.specs.Inside.{writing_in}
+use Rattle.hs_live.proofs.Prelude.{piece_limit, writing_in}
 use Rattle.hs_live.proofs.Cuts.{IsCut, cut_further, cut_all}
 use Rattle.hs_live.proofs.writer.Writer.point.Goals as goal
 

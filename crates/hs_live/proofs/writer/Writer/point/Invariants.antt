@@ -1,5 +1,5 @@
 use Rattle.std.proofs.Common.{length}
-use Rattle.hs_live.specs.Inside.{writing_in}
+use Rattle.hs_live.proofs.Prelude.{writing_in}
 use Rattle.hs_live.proofs.Cuts.{IsCutTo}
 use Rattle.hs_live.proofs.writer.Writer.point.Given as goal
 

@@ -1,12 +1,5 @@
 use Rattle.std.proofs.Common.{length, ◌∷◌, ◌++◌, refl, sym, ap, ◌∙◌, subst, arith, ◌≤◌, length-append}
-use Rattle.std.specs.Option.{option_to_list}
-use Rattle.hs_client.specs.Core.{Core, after_step, supplied}
-use Rattle.hs_link.specs.Contents.{sent}
-use Rattle.hs_ring.specs.Parts.{Leased}
-use Rattle.hs_live.specs.Live.{outgoing}
-use Rattle.hs_live.specs.Inside.{writing_in}
-use Rattle.hs_live.specs.Writing.{Writing, IsWriting, IsSound}
-use Rattle.hs_words.specs.Buffers.{buffer_in}
+use Rattle.hs_live.proofs.Prelude.{option_to_list, Core, after_step, supplied, sent, Leased, outgoing, writing_in, Writing, IsWriting, IsSound, buffer_in}
 use Rattle.hs_live.proofs.Cuts.{spends_page}
 use Rattle.hs_live.proofs.Sound.{sound_supplied, one_at_most}
 use Rattle.hs_live.proofs.Steps.{piece_of, needed, drew}

@@ -1,5 +1,5 @@
 use Rattle.std.proofs.Common.{sym, ap, ◌∙◌, subst, arith}
-use Rattle.hs_locked.specs.Seats.{MayTurn, StandsQueued, stand_of}
+use Rattle.hs_locked.proofs.Prelude.{MayTurn, StandsQueued, stand_of}
 use Rattle.hs_locked.proofs.Owed.{Mine, look_at}
 use Rattle.hs_locked.proofs.lock.TicketLock.wait_for.Goals as goal
 

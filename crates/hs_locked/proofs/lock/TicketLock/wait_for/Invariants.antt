@@ -1,5 +1,5 @@
 use Rattle.std.proofs.Common.{◌≡◌}
-use Rattle.hs_ring.specs.Seats.{IsSameSeat}
+use Rattle.hs_locked.proofs.Prelude.{IsSameSeat}
 use Rattle.hs_locked.proofs.lock.TicketLock.wait_for.Given as goal
 
 -- a look that came too early changes nothing

@@ -1,5 +1,5 @@
 use Rattle.std.proofs.Common.{ap, sym, ◌∙◌}
-use Rattle.hs_pins.specs.Buckets.{BucketState}
+use Rattle.hs_pins.proofs.Prelude.{BucketState}
 use Rattle.hs_pins.proofs.BucketLemmas.{refilled, left_if_limited, left_if_admitted, answer_if_limited, answer_if_admitted, takes}
 use Rattle.hs_pins.proofs.bucket.Bucket.attempt.Goals as goal
 

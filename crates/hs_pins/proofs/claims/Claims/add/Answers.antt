@@ -1,8 +1,6 @@
 use Rattle.std.proofs.Common.{◌≡◌, [], ◌∷◌, ◌++◌, map, sym, ap, subst, ◌∙◌}
+use Rattle.hs_pins.proofs.Prelude.{same_trace, ClaimNote, ClaimList, claim_from, AreNoted}
 use Rattle.indexmap.proofs.CallerLemmas.{insert_entry-new}
-use Rattle.hs_base.specs.Ids.{same_trace}
-use Rattle.hs_pins.specs.declared.claims.ClaimNote.{ClaimNote}
-use Rattle.hs_pins.specs.ClaimsLayout.{ClaimList, claim_from, AreNoted}
 use Rattle.hs_pins.proofs.Noted.{Notes, unclaimed_note, are_noted-more, place_within, note_added}
 use Rattle.hs_pins.proofs.claims.Claims.add.Goals as goal
 

@@ -1,9 +1,6 @@
 use Rattle.std.proofs.Common.{map, refl, sym, ap, subst, ◌∙◌}
+use Rattle.hs_pins.proofs.Prelude.{set_value, same_trace, ClaimNote, ClaimList, claim_from, AreNoted}
 use Rattle.std.specs.Prelude.{not}
-use Rattle.std.specs.Map.{set_value}
-use Rattle.hs_base.specs.Ids.{same_trace}
-use Rattle.hs_pins.specs.declared.claims.ClaimNote.{ClaimNote}
-use Rattle.hs_pins.specs.ClaimsLayout.{ClaimList, claim_from, AreNoted}
 use Rattle.hs_pins.proofs.Noted.{Notes, claimed_note, are_noted-set, crumb_there, crumb_noted}
 use Rattle.hs_pins.proofs.claims.Claims.add_crumb.Goals as goal
 

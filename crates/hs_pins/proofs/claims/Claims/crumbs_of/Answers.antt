@@ -1,5 +1,5 @@
 use Rattle.std.proofs.Common.{refl, sym, ap}
-use Rattle.hs_pins.specs.ClaimsLayout.{ClaimList}
+use Rattle.hs_pins.proofs.Prelude.{ClaimList}
 use Rattle.hs_pins.proofs.Noted.{noted_none, noted_some}
 use Rattle.hs_pins.proofs.claims.Claims.crumbs_of.Goals as goal
 

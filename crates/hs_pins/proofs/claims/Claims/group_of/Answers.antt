@@ -1,6 +1,5 @@
 use Rattle.std.proofs.Common.{refl, sym, ap}
-use Rattle.std.specs.Prelude.{unwrap_or}
-use Rattle.hs_pins.specs.ClaimsLayout.{ClaimList, party_at, nobody}
+use Rattle.hs_pins.proofs.Prelude.{unwrap_or, ClaimList, party_at, nobody}
 use Rattle.hs_pins.proofs.Noted.{noted_none, noted_some, party_there}
 use Rattle.hs_pins.proofs.claims.Claims.group_of.Goals as goal
 

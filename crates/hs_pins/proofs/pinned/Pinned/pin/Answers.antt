@@ -1,6 +1,5 @@
 use Rattle.std.proofs.Common.{sym, ap, ◌+◌, ◌∙◌}
-use Rattle.std.proofs.lemmas.List.{length-map}
-use Rattle.hs_pins.specs.Groups.{count_of}
+use Rattle.hs_pins.proofs.Prelude.{length-map, count_of}
 use Rattle.hs_pins.proofs.GroupLemmas.{counted-added, counts-more}
 use Rattle.hs_pins.proofs.Lanes.{kept-added}
 use Rattle.hs_pins.proofs.pinned.Pinned.pin.Goals as goal

@@ -1,5 +1,5 @@
 use Rattle.std.proofs.Common.{refl, [], ◌∷◌}
-use Rattle.hs_words.specs.Buffers.{buffer_of}
+use Rattle.hs_pins.proofs.Prelude.{buffer_of}
 use Rattle.hs_pins.proofs.GroupLemmas.{counted-added, counts-more}
 use Rattle.hs_pins.proofs.Lanes.{kept-added}
 use Rattle.hs_pins.proofs.pinned.Pinned.pin_one.Goals as goal

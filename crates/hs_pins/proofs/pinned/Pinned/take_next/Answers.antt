@@ -1,7 +1,5 @@
 use Rattle.std.proofs.Common.{sym, ap, ◌∙◌, drop}
-use Rattle.std.specs.Prelude.{slice_get}
-use Rattle.hs_words.specs.Buffers.{buffer_of}
-use Rattle.hs_pins.specs.PinsLayout.{in_order}
+use Rattle.hs_pins.proofs.Prelude.{slice_get, buffer_of, in_order}
 use Rattle.hs_pins.proofs.GroupLemmas.{count-found, counts-less}
 use Rattle.hs_pins.proofs.Lanes.{kept-taken}
 use Rattle.hs_pins.proofs.Waits.{first_taken, left_taken, none_left}

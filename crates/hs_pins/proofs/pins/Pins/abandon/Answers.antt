@@ -1,7 +1,5 @@
 use Rattle.std.proofs.Common.{List, map, sym, ap, subst, ◌∙◌, arith}
-use Rattle.hs_pins.specs.declared.priority.Mark.{Mark}
-use Rattle.hs_pins.specs.Remembered.{pin_of}
-use Rattle.hs_pins.specs.PinsLayout.{Remembers, HasPinned}
+use Rattle.hs_pins.proofs.Prelude.{Mark, pin_of, Remembers, HasPinned}
 use Rattle.hs_pins.proofs.Leaving.{relieved-few, relieved-within, drops-few}
 use Rattle.hs_pins.proofs.Remembering.{at_view, has_abandoned}
 use Rattle.hs_pins.proofs.pins.Pins.abandon.Goals as goal

@@ -1,5 +1,5 @@
 use Rattle.std.proofs.Common.{refl}
-use Rattle.hs_pins.specs.declared.bucket.Attempt.TheVariants.{Admitted, Limited}
+use Rattle.hs_pins.proofs.Prelude.{Admitted, Limited}
 use Rattle.hs_pins.proofs.Remembering.{bucket_there, tried}
 use Rattle.hs_pins.proofs.pins.Pins.admit.Goals as goal
 

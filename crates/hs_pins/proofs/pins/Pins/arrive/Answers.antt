@@ -1,6 +1,5 @@
 use Rattle.std.proofs.Common.{sym, subst, ◌∙◌, arith}
-use Rattle.hs_words.specs.Buffers.{buffer_of}
-use Rattle.hs_pins.specs.PinsLayout.{Remembers}
+use Rattle.hs_pins.proofs.Prelude.{buffer_of, Remembers}
 use Rattle.hs_pins.proofs.Remembering.{queue_there, claim_is, back_is, arrived-back, has_arrived}
 use Rattle.hs_pins.proofs.pins.Pins.arrive.Goals as goal
 

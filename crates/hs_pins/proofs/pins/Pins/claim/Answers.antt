@@ -1,8 +1,6 @@
 use Rattle.std.proofs.Common.{◌≡◌, false, [], ◌∷◌, ◌++◌, map, sym, ap, ◌∙◌, arith}
-use Rattle.std.specs.Prelude.{Result, Ok, Err, OnOk, is_err}
-use Rattle.std.proofs.lemmas.List.{length-map}
-use Rattle.hs_words.specs.Buffers.{buffer_of}
-use Rattle.hs_pins.specs.Remembered.{claim_of}
+use Rattle.hs_pins.proofs.Prelude.{Result, Ok, Err, OnOk, length-map, buffer_of, claim_of}
+use Rattle.std.specs.Prelude.{is_err}
 use Rattle.hs_pins.proofs.Remembering.{queue_there, has_claimed}
 use Rattle.hs_pins.proofs.pins.Pins.claim.Goals as goal
 

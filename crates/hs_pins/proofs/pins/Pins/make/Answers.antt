@@ -1,7 +1,6 @@
 use Rattle.hs_pins.proofs.Remembering.{made}
 use Rattle.std.proofs.Common.{refl, ap, ◌∙◌}
-use Rattle.hs_pins.specs.Queues.{fresh_queues}
-use Rattle.hs_pins.specs.PinsLayout.{fresh_buckets_of}
+use Rattle.hs_pins.proofs.Prelude.{fresh_queues, fresh_buckets_of}
 use Rattle.hs_pins.proofs.pins.Pins.make.Goals as goal
 
 pub returns-clause-fresh : goal.returns-clause-fresh

@@ -1,9 +1,7 @@
 use Rattle.std.proofs.Common.{sym, ap, subst, ◌∙◌}
-use Rattle.std.specs.List.Sorted.{IsStrictlySortedBy}
-use Rattle.std.specs.Map.{keys_of}
+use Rattle.hs_pins.proofs.Prelude.{IsStrictlySortedBy, keys_of, Queues}
 use Rattle.std.specs.Map.Iter.{deref_pair}
 use Rattle.std.proofs.lemmas.Map.Iter.{rest_all}
-use Rattle.hs_pins.specs.Queues.{Queues}
 use Rattle.hs_pins.proofs.Fullest.{choose, id_cmp, fullest_is}
 use Rattle.hs_pins.proofs.queues.TriggerQueues.fullest.Goals as goal
 

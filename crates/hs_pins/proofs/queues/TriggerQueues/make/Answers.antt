@@ -1,5 +1,5 @@
 use Rattle.std.proofs.Common.{ap, sym, ◌∙◌}
-use Rattle.hs_pins.specs.Queues.{total_of}
+use Rattle.hs_pins.proofs.Prelude.{total_of}
 use Rattle.hs_pins.proofs.RuleLemmas.{fresh-total}
 use Rattle.hs_pins.proofs.queues.TriggerQueues.make.Goals as goal
 

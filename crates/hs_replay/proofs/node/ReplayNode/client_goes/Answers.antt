@@ -1,13 +1,7 @@
 use Rattle.std.proofs.Common.{◌≡◌, ℕ, List, sym, ap, ◌∙◌, subst, map}
+use Rattle.hs_replay.proofs.Prelude.{ChangesAt, IsWithin, Operation, operations_at, place_of, operation_of, replay_node_in, PlainReplayNode, StandsStill}
 use Rattle.hs_base.specs.declared.settings.AutoRule.{AutoRule}
-use Rattle.hs_base.specs.Changing.{ChangesAt}
-use Rattle.hs_replay_client.specs.Places.{IsWithin, Goes}
-use Rattle.hs_records.specs.Plain.{Operation}
-use Rattle.hs_law_sends.specs.Sending.{operations_at, place_of}
-use Rattle.hs_workload.specs.Views.{operation_of}
-use Rattle.hs_replay.specs.NodeLayout.{replay_node_in}
-use Rattle.hs_replay.specs.Parts.{PlainReplayNode}
-use Rattle.hs_replay.specs.Passing.{StandsStill}
+use Rattle.hs_replay_client.specs.Places.{Goes}
 use Rattle.hs_replay.proofs.Going.{is_low, is_within, has_stamps, went_at}
 use Rattle.hs_replay.proofs.node.ReplayNode.client_goes.Goals as goal
 

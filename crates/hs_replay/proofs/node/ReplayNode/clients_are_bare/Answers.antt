@@ -1,11 +1,5 @@
 use Rattle.std.proofs.Common.{◌<◌, ◌∙◌, ap, sym, arith, length, subst, below_more}
-use Rattle.std.proofs.lemmas.Option.{same_Some, slice_get_within}
-use Rattle.hs_lists.proofs.Lent.{indexed}
-use Rattle.hs_law_journal.specs.Following.{NodeRun, followed}
-use Rattle.hs_replay.specs.Left.{are_clients_bare}
-use Rattle.hs_replay.specs.NodeLayout.{replay_node_in}
-use Rattle.hs_replay.specs.Parts.{PlainReplayNode}
-use Rattle.hs_replay.specs.Standing.{NodeIsAt}
+use Rattle.hs_replay.proofs.Prelude.{same_Some, slice_get_within, indexed, NodeRun, followed, are_clients_bare, replay_node_in, PlainReplayNode, NodeIsAt}
 use Rattle.hs_replay.proofs.Going.{place_there}
 use Rattle.hs_replay.proofs.LeftOver.{AllTaken, bare_is, was_bare, not_bare, clients_bare, count_sends}
 use Rattle.hs_replay.proofs.node.ReplayNode.clients_are_bare.Goals as goal

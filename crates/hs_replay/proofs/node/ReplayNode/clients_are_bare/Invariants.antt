@@ -1,8 +1,5 @@
 use Rattle.std.proofs.Common.{ℕ, ◌<◌}
-use Rattle.hs_law_lockstep.specs.Lockstep.{Machine}
-use Rattle.hs_records.specs.Plain.{PlainWorkload}
-use Rattle.hs_replay.specs.Left.{IsNodeDone}
-use Rattle.hs_replay.specs.Passing.{StandsStill}
+use Rattle.hs_replay.proofs.Prelude.{Machine, PlainWorkload, IsNodeDone, StandsStill}
 use Rattle.hs_replay.proofs.LeftOver.{AllTaken}
 use Rattle.hs_replay.proofs.node.ReplayNode.clients_are_bare.Given as goal
 

@@ -1,9 +1,5 @@
 use Rattle.std.proofs.Common.{None, subst, sym}
-use Rattle.hs_journal.specs.Books.{agent_book_of}
-use Rattle.hs_replay.specs.Finishing.{HasEnded}
-use Rattle.hs_replay.specs.NodeLayout.{replay_node_in}
-use Rattle.hs_replay.specs.Parts.{PlainReplayNode}
-use Rattle.hs_replay.specs.Standing.{run_of}
+use Rattle.hs_replay.proofs.Prelude.{agent_book_of, HasEnded, replay_node_in, PlainReplayNode, run_of}
 use Rattle.hs_replay.proofs.Ended.{have_ended, may_finish, book_at}
 use Rattle.hs_replay.proofs.node.ReplayNode.finish.Goals as goal
 

@@ -1,7 +1,5 @@
 use Rattle.std.proofs.Common.{ℕ, length}
-use Rattle.hs_law_lockstep.specs.Lockstep.{Machine}
-use Rattle.hs_records.specs.Plain.{PlainWorkload}
-use Rattle.hs_replay.specs.Passing.{IsGiving, StandsStill}
+use Rattle.hs_replay.proofs.Prelude.{Machine, PlainWorkload, IsGiving, StandsStill}
 use Rattle.hs_replay.proofs.node.ReplayNode.give_all.Given as goal
 
 abbrev pub invariant-gives : goal.invariant-gives

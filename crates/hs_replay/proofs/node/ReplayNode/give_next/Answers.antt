@@ -1,11 +1,7 @@
 use Rattle.std.proofs.Common.{◌≡◌, [], subst, sym, ap, ◌∙◌, Some}
+use Rattle.hs_replay.proofs.Prelude.{Follows, offered_next, state_of, after_offer, pool_history, buffer_of, buffer_in, replay_node_in, PlainReplayNode, IsGiving}
 use Rattle.std.specs.Prelude.{IfNone}
-use Rattle.hs_agent.specs.Runs.{Follows, offered_next, state_of, after_offer, after_answer}
-use Rattle.hs_law_journal.specs.Pooled.{pool_history}
-use Rattle.hs_words.specs.Buffers.{buffer_of, buffer_in}
-use Rattle.hs_replay.specs.NodeLayout.{replay_node_in}
-use Rattle.hs_replay.specs.Parts.{PlainReplayNode}
-use Rattle.hs_replay.specs.Passing.{IsGiving}
+use Rattle.hs_agent.specs.Runs.{after_answer}
 use Rattle.hs_replay.proofs.Giving.{before_offer, is_out, few_events, was_offered, none_offered, one_given, given_so}
 use Rattle.hs_replay.proofs.node.ReplayNode.give_next.Goals as goal
 

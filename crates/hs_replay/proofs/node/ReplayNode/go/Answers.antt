@@ -1,6 +1,5 @@
 use Rattle.std.proofs.Common.{◌≡◌, arith, subst}
-use Rattle.hs_replay.specs.Going.{node_goes}
-use Rattle.hs_replay.specs.Standing.{NodeIsAt}
+use Rattle.hs_replay.proofs.Prelude.{node_goes, NodeIsAt}
 use Rattle.hs_replay.proofs.Going.{one_of, still_more}
 use Rattle.hs_replay.proofs.node.ReplayNode.go.Goals as goal
 

@@ -1,8 +1,5 @@
 use Rattle.std.proofs.Common.{ℕ}
-use Rattle.hs_law_lockstep.specs.Lockstep.{Machine}
-use Rattle.hs_records.specs.Plain.{PlainWorkload}
-use Rattle.hs_replay.specs.Going.{AreOf, node_goes}
-use Rattle.hs_replay.specs.Passing.{StandsStill}
+use Rattle.hs_replay.proofs.Prelude.{Machine, PlainWorkload, AreOf, node_goes, StandsStill}
 use Rattle.hs_replay.proofs.node.ReplayNode.go.Given as goal
 
 abbrev pub invariant-loop-client : goal.invariant-loop-client

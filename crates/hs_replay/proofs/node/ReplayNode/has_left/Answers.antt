@@ -1,11 +1,5 @@
 use Rattle.std.proofs.Common.{◌≡◌, ◌<◌, ◌∙◌, refl, ap, sym, arith, length, map, subst, below_more}
-use Rattle.hs_lists.proofs.Lent.{indexed}
-use Rattle.hs_law_sends.specs.Sending.{operations_at, place_of}
-use Rattle.hs_workload.specs.Views.{operation_of}
-use Rattle.hs_replay.specs.Left.{done_of, all_of}
-use Rattle.hs_replay.specs.NodeLayout.{replay_node_in}
-use Rattle.hs_replay.specs.Parts.{PlainReplayNode}
-use Rattle.hs_replay.specs.Standing.{NodeIsAt}
+use Rattle.hs_replay.proofs.Prelude.{indexed, operations_at, place_of, operation_of, done_of, all_of, replay_node_in, PlainReplayNode, NodeIsAt}
 use Rattle.hs_replay.proofs.LeftOver.{left_is, none_left}
 use Rattle.hs_replay.proofs.node.ReplayNode.has_left.Goals as goal
 

@@ -1,8 +1,5 @@
 use Rattle.std.proofs.Common.{◌≡◌, ℕ, ◌<◌}
-use Rattle.hs_law_lockstep.specs.Lockstep.{Machine}
-use Rattle.hs_records.specs.Plain.{PlainWorkload}
-use Rattle.hs_replay.specs.Left.{HasClients, done_of, all_of}
-use Rattle.hs_replay.specs.Standing.{NodeIsAt}
+use Rattle.hs_replay.proofs.Prelude.{Machine, PlainWorkload, HasClients, done_of, all_of, NodeIsAt}
 use Rattle.hs_replay.proofs.node.ReplayNode.has_left.Given as goal
 
 abbrev pub invariant-loop-client : goal.invariant-loop-client

@@ -1,11 +1,5 @@
 use Rattle.std.proofs.Common.{◌≡◌, ◌∙◌, None, ap, sym, subst, nat_eq, length}
-use Rattle.std.proofs.lemmas.Option.{same_Some}
-use Rattle.hs_law_journal.specs.Ends.{is_left_bare}
-use Rattle.hs_law_journal.specs.Following.{followed}
-use Rattle.hs_replay.specs.Left.{are_clients_bare}
-use Rattle.hs_replay.specs.NodeLayout.{replay_node_in}
-use Rattle.hs_replay.specs.Parts.{PlainReplayNode}
-use Rattle.hs_replay.specs.Standing.{NodeIsAt, run_of}
+use Rattle.hs_replay.proofs.Prelude.{same_Some, is_left_bare, followed, are_clients_bare, replay_node_in, PlainReplayNode, NodeIsAt, run_of}
 use Rattle.hs_replay.proofs.LeftOver.{first_off, second_off, third_off, fourth, remain_flag, asks_flag, said_flag, pins_flag}
 use Rattle.hs_replay.proofs.node.ReplayNode.is_bare.Goals as goal
 

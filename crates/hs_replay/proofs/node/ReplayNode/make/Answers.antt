@@ -1,11 +1,8 @@
 use Rattle.std.proofs.Common.{◌≡◌, ◌∙◌, ap, sym, arith, length, subst}
+use Rattle.hs_replay.proofs.Prelude.{clear_chunks, Follows, new_run, PlainSettings, settings_of, PlainReplayNode}
 use Rattle.hs_base.specs.Rules.{AreRules}
 use Rattle.hs_workload.specs.declared.word.Setting.TheVariants as settings
-use Rattle.hs_words.specs.Chunks.{clear_chunks}
 use Rattle.hs_words.proofs.Chunks.{length_clear}
-use Rattle.hs_agent.specs.Runs.{Follows, new_run}
-use Rattle.hs_records.specs.Plain.{PlainSettings, settings_of}
-use Rattle.hs_replay.specs.Parts.{PlainReplayNode}
 use Rattle.hs_replay.proofs.Begun.{new_node, new_pool}
 use Rattle.hs_replay.proofs.node.ReplayNode.make.Goals as goal
 

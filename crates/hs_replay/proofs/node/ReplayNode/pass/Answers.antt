@@ -1,5 +1,4 @@
-use Rattle.hs_law_lockstep.specs.Reaching.{Takes}
-use Rattle.hs_law_lockstep.specs.Lockstep.{agents_take}
+use Rattle.hs_replay.proofs.Prelude.{Takes, agents_take}
 use Rattle.hs_replay.proofs.node.ReplayNode.pass.Goals as goal
 
 pub give_all-requires : goal.give_all-requires

@@ -1,9 +1,6 @@
 use Rattle.std.proofs.Common.{subst, Some, None, sym, ◌∙◌, append-nil}
-use Rattle.hs_replay.specs.NodeLayout.{replay_node_in}
-use Rattle.hs_replay.specs.Parts.{PlainReplayNode}
-use Rattle.hs_replay.specs.Passing.{IsReady}
+use Rattle.hs_replay.proofs.Prelude.{replay_node_in, PlainReplayNode, IsReady, run_of}
 use Rattle.hs_replay.proofs.Taken.{stood, takable, taken_amid}
-use Rattle.hs_replay.specs.Standing.{run_of}
 use Rattle.hs_replay.proofs.node.ReplayNode.take.Goals as goal
 
 pub step-requires : goal.step-requires

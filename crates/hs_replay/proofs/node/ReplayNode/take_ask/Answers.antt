@@ -1,13 +1,9 @@
 use Rattle.std.proofs.Common.{◌≡◌, [], subst, sym, ◌∙◌}
+use Rattle.hs_replay.proofs.Prelude.{Input, ghosts, replay_node_in, PlainReplayNode, IsAmid}
 use Rattle.hs_lists.proofs.Parts.{nil_of_rest}
-use Rattle.hs_agent.specs.declared.input.Input.{Input}
 use Rattle.hs_agent.specs.declared.input.Input.TheVariants as inputs
 use Rattle.hs_journal.specs.declared.journal.Step.TheVariants as steps
-use Rattle.hs_words.specs.contracts.token.UnitToken.TheImpl.{ghosts}
 use Rattle.hs_replay.specs.declared.queue.Queue.TheVariants as queues
-use Rattle.hs_replay.specs.NodeLayout.{replay_node_in}
-use Rattle.hs_replay.specs.Parts.{PlainReplayNode}
-use Rattle.hs_replay.specs.Passing.{IsAmid}
 use Rattle.hs_replay.proofs.TakingOut.{ask_there, asks_gone}
 use Rattle.hs_replay.proofs.Taken.{took_one}
 use Rattle.hs_replay.proofs.node.ReplayNode.take_ask.Goals as goal

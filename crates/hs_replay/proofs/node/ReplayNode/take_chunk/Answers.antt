@@ -1,16 +1,8 @@
 use Rattle.std.proofs.Common.{◌<◌, length, Option, None, refl, subst, sym, append-nil}
 use Rattle.hs_agent.specs.declared.input.Input.TheVariants as inputs
-use Rattle.hs_base.specs.Changing.{ChangesAt}
+use Rattle.hs_replay.proofs.Prelude.{ChangesAt, TakesChunk, ghosts, buffer_in, Held, run_of, replay_node_in, PlainReplayNode, IsAmid}
 use Rattle.hs_journal.specs.declared.journal.Step.TheVariants as steps
-use Rattle.hs_replay_client.specs.Places.{TakesChunk}
-use Rattle.hs_words.specs.contracts.token.UnitToken.TheImpl.{ghosts}
-use Rattle.hs_words.specs.Buffers.{buffer_in}
-use Rattle.hs_words.specs.declared.token.Held.{Held}
-use Rattle.hs_replay.specs.Standing.{run_of}
 use Rattle.hs_replay.specs.declared.queue.Queue.TheVariants as queues
-use Rattle.hs_replay.specs.NodeLayout.{replay_node_in}
-use Rattle.hs_replay.specs.Parts.{PlainReplayNode}
-use Rattle.hs_replay.specs.Passing.{IsAmid}
 use Rattle.hs_replay.proofs.TakingOut.{chunk_there, chunks_out}
 use Rattle.hs_replay.proofs.Taken.{stood, takable, taken_amid, took_one}
 use Rattle.hs_replay.proofs.node.ReplayNode.take_chunk.Goals as goal

@@ -1,15 +1,8 @@
 use Rattle.std.proofs.Common.{◌<◌, length, Option, subst, sym}
 use Rattle.hs_agent.specs.declared.input.Input.TheVariants as inputs
-use Rattle.hs_base.specs.declared.told.Crumb.{Crumb}
-use Rattle.hs_base.specs.Changing.{ChangesAt}
-use Rattle.hs_agent.specs.declared.input.Input.{Input}
+use Rattle.hs_replay.proofs.Prelude.{Crumb, ChangesAt, Input, TakesCrumb, ghosts, replay_node_in, PlainReplayNode, IsAmid}
 use Rattle.hs_journal.specs.declared.journal.Step.TheVariants as steps
-use Rattle.hs_replay_client.specs.Places.{TakesCrumb}
-use Rattle.hs_words.specs.contracts.token.UnitToken.TheImpl.{ghosts}
 use Rattle.hs_replay.specs.declared.queue.Queue.TheVariants as queues
-use Rattle.hs_replay.specs.NodeLayout.{replay_node_in}
-use Rattle.hs_replay.specs.Parts.{PlainReplayNode}
-use Rattle.hs_replay.specs.Passing.{IsAmid}
 use Rattle.hs_replay.proofs.TakingOut.{crumb_there, crumbs_out}
 use Rattle.hs_replay.proofs.Taken.{took_one}
 use Rattle.hs_replay.proofs.node.ReplayNode.take_crumb.Goals as goal

@@ -1,8 +1,5 @@
 use Rattle.std.proofs.Common.{ℕ}
-use Rattle.hs_law_journal.specs.Following.{NodeRun}
-use Rattle.hs_law_lockstep.specs.Lockstep.{Machine}
-use Rattle.hs_records.specs.Plain.{PlainWorkload}
-use Rattle.hs_replay.specs.Passing.{IsAmid, TookSome}
+use Rattle.hs_replay.proofs.Prelude.{NodeRun, Machine, PlainWorkload, IsAmid, TookSome}
 use Rattle.hs_replay.proofs.node.ReplayNode.take_from.Given as goal
 
 abbrev pub invariant-loop-count : goal.invariant-loop-count

@@ -1,8 +1,6 @@
 use Rattle.std.proofs.Common.{◌<◌, length, subst, sym}
-use Rattle.std.specs.Prelude.{IfOk}
+use Rattle.hs_replay.proofs.Prelude.{IfOk, TakesNext, IsQueueOf}
 use Rattle.hs_replay.specs.declared.queue.Queue.TheVariants as queues
-use Rattle.hs_replay.specs.Passing.{TakesNext}
-use Rattle.hs_replay.specs.Queues.{IsQueueOf}
 use Rattle.hs_replay.proofs.node.ReplayNode.take_next.Goals as goal
 
 pub take_chunk-requires-clause-client : goal.take_chunk-requires-clause-client

@@ -1,8 +1,6 @@
 use Rattle.std.proofs.Common.{length, sym, subst}
+use Rattle.hs_replay_client.proofs.Prelude.{PlainReplayClient, replay_client_in, IsDone, ReplayClientIsAt}
 use Rattle.hs_journal.specs.Books.{client_book_of}
-use Rattle.hs_replay_client.specs.ReplayClients.{PlainReplayClient}
-use Rattle.hs_replay_client.specs.ReplayClientInside.{replay_client_in}
-use Rattle.hs_replay_client.specs.Places.{IsDone, ReplayClientIsAt}
 use Rattle.hs_replay_client.proofs.Finishing.{is_closed, noted}
 use Rattle.hs_replay_client.proofs.client.ReplayClient.finish.Goals as goal
 

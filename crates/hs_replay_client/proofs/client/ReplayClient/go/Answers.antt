@@ -1,7 +1,5 @@
 use Rattle.std.proofs.Common.{map, arith}
-use Rattle.std.proofs.lemmas.Result.{on_ok_weaker}
-use Rattle.hs_law_sends.specs.SoFar.{done_behind}
-use Rattle.hs_workload.specs.Views.{operation_of}
+use Rattle.hs_replay_client.proofs.Prelude.{on_ok_weaker, done_behind, operation_of}
 use Rattle.hs_replay_client.proofs.Pooling.{drew, went_pooled}
 use Rattle.hs_replay_client.proofs.client.ReplayClient.go.Goals as goal
 

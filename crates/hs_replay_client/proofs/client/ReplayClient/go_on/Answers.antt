@@ -1,13 +1,6 @@
 use Rattle.std.proofs.Common.{◌≡◌, ◌+◌, ◌-◌, ◌≤◌, List, [], ◌∷◌, ◌++◌, length, map, take, drop, min, refl, sym, ap, ◌∙◌, subst, arith, take_all}
-use Rattle.std.proofs.lemmas.List.{length-map, map_more}
-use Rattle.hs_records.specs.Plain.{Operation}
-use Rattle.hs_law_sends.specs.SoFar.{done_behind}
-use Rattle.hs_workload.specs.declared.operation.Op.{Op}
-use Rattle.hs_workload.specs.Views.{operation_of}
-use Rattle.hs_replay_client.specs.Inside.{working_in}
-use Rattle.hs_replay_client.specs.ReplayClientInside.{replay_client_in}
-use Rattle.hs_replay_client.specs.ReplayClients.{PlainReplayClient}
-use Rattle.hs_replay_client.specs.Places.{ReplayClientIsAt, WentOn}
+use Rattle.hs_replay_client.proofs.Prelude.{length-map, Operation, done_behind, Op, operation_of, working_in, replay_client_in, PlainReplayClient, ReplayClientIsAt, WentOn}
+use Rattle.std.proofs.lemmas.List.{map_more}
 use Rattle.hs_replay_client.proofs.Going.{HasGone, gone_none, gone_more}
 use Rattle.hs_replay_client.proofs.Lists.{next_at, part_behind}
 use Rattle.hs_replay_client.proofs.Ready.{IsReady, ready}

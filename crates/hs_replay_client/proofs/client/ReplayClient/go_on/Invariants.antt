@@ -1,6 +1,5 @@
 use Rattle.std.proofs.Common.{◌≡◌, map, take}
-use Rattle.hs_workload.specs.Views.{operation_of}
-use Rattle.hs_replay_client.specs.Inside.{working_in}
+use Rattle.hs_replay_client.proofs.Prelude.{operation_of, working_in}
 use Rattle.hs_replay_client.proofs.Going.{HasGone}
 use Rattle.hs_replay_client.proofs.client.ReplayClient.go_on.Given as goal
 

@@ -1,7 +1,5 @@
 use Rattle.std.proofs.Common.{subst}
-use Rattle.hs_replay_client.specs.ReplayClients.{PlainReplayClient}
-use Rattle.hs_replay_client.specs.ReplayClientInside.{replay_client_in}
-use Rattle.hs_replay_client.specs.Places.{TellsBare}
+use Rattle.hs_replay_client.proofs.Prelude.{PlainReplayClient, replay_client_in, TellsBare}
 use Rattle.hs_replay_client.proofs.Taking.{tells_bare}
 use Rattle.hs_replay_client.proofs.client.ReplayClient.is_bare.Goals as goal
 

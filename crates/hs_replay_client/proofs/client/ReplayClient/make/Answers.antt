@@ -1,16 +1,9 @@
 use Rattle.std.proofs.Common.{◌≡◌, List, [], ◌∷◌, ◌++◌, length, map, get_or, sym, ap, ap₂, ◌∙◌, subst, arith}
-use Rattle.std.proofs.lemmas.List.{map-append, take_more, take_all}
-use Rattle.std.specs.List.{AllByRecursion}
+use Rattle.hs_replay_client.proofs.Prelude.{map-append, take_all, AllByRecursion, Watch, HasSampled, AutoRule, buffer_of, operation_of, new_core, Working, working_in}
+use Rattle.std.proofs.lemmas.List.{take_more}
 use Rattle.hs_lists.proofs.Alls.{all_push}
-use Rattle.hs_auto.specs.Watching.{Watch, HasSampled}
-use Rattle.hs_base.specs.declared.settings.AutoRule.{AutoRule}
 use Rattle.hs_base.specs.declared.settings.AutoRule.TheVariants.{Exception}
 use Rattle.hs_records.specs.Plain.{settings_of}
-use Rattle.hs_words.specs.Buffers.{buffer_of}
-use Rattle.hs_workload.specs.Views.{operation_of}
-use Rattle.hs_client.specs.Core.{new_core}
-use Rattle.hs_replay_client.specs.ReplayClients.{Working}
-use Rattle.hs_replay_client.specs.Inside.{working_in}
 use Rattle.hs_replay_client.proofs.Making.{new_at}
 use Rattle.hs_replay_client.proofs.client.ReplayClient.make.Goals as goal
 

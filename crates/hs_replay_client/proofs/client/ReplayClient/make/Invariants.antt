@@ -1,6 +1,5 @@
 use Rattle.std.proofs.Common.{◌≡◌, ◌≤◌, [], length, map, take}
-use Rattle.std.specs.List.{AllByRecursion}
-use Rattle.hs_auto.specs.Watching.{Watch, HasSampled}
+use Rattle.hs_replay_client.proofs.Prelude.{AllByRecursion, Watch, HasSampled}
 use Rattle.hs_replay_client.proofs.client.ReplayClient.make.Given as goal
 
 abbrev pub invariant-loop-rule : goal.invariant-loop-rule

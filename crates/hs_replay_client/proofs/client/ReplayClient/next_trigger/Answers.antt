@@ -1,7 +1,5 @@
 use Rattle.std.proofs.Common.{subst}
-use Rattle.hs_replay_client.specs.ReplayClients.{PlainReplayClient}
-use Rattle.hs_replay_client.specs.ReplayClientInside.{replay_client_in}
-use Rattle.hs_replay_client.specs.Places.{TakesTrigger}
+use Rattle.hs_replay_client.proofs.Prelude.{PlainReplayClient, replay_client_in, TakesTrigger}
 use Rattle.hs_replay_client.proofs.Taking.{takes_trigger}
 use Rattle.hs_replay_client.proofs.client.ReplayClient.next_trigger.Goals as goal
 

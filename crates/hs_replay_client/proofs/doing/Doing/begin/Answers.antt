@@ -1,4 +1,4 @@
-use Rattle.hs_replay_client.specs.Inside.{working_in}
+use Rattle.hs_replay_client.proofs.Prelude.{working_in}
 use Rattle.hs_replay_client.proofs.Operations.{begin_done}
 use Rattle.hs_replay_client.proofs.doing.Doing.begin.Goals as goal
 

@@ -1,5 +1,5 @@
 use Rattle.std.proofs.Common.{sym, ◌∙◌}
-use Rattle.hs_replay_client.specs.Inside.{working_in}
+use Rattle.hs_replay_client.proofs.Prelude.{working_in}
 use Rattle.hs_replay_client.proofs.Operations.{crumb_done}
 use Rattle.hs_replay_client.proofs.doing.Doing.crumb.Goals as goal
 

@@ -1,5 +1,4 @@
-use Rattle.std.proofs.lemmas.Result.{on_ok_weaker}
-use Rattle.hs_replay_client.specs.Inside.{working_in, writing_in}
+use Rattle.hs_replay_client.proofs.Prelude.{on_ok_weaker, working_in, writing_in}
 use Rattle.hs_replay_client.proofs.Operations.{end_done}
 use Rattle.hs_replay_client.proofs.doing.Doing.end.Goals as goal
 

@@ -1,10 +1,8 @@
 use Rattle.std.proofs.Common.{get_or, sym, ap, ◌∙◌}
+use Rattle.hs_replay_client.proofs.Prelude.{append-nil, fired_by, working_in}
 use Rattle.std.proofs.lemmas.Option.{get_or_from_slice_get}
-use Rattle.std.proofs.lemmas.List.{append-nil}
 use Rattle.hs_lists.proofs.Lent.{lent, lent_is}
 use Rattle.hs_auto.specs.declared.sampled.Sampled.TheVariants.{Quiet, Fired}
-use Rattle.hs_base.specs.Rules.{fired_by}
-use Rattle.hs_replay_client.specs.Inside.{working_in}
 use Rattle.hs_replay_client.proofs.Samples.{is_found, sample_done}
 use Rattle.hs_replay_client.proofs.doing.Doing.sample.Goals as goal
 

@@ -1,10 +1,5 @@
 use Rattle.std.proofs.Common.{List, ℕ, OnOk, sym, subst}
-use Rattle.hs_base.specs.declared.told.Trigger.{Trigger}
-use Rattle.hs_records.specs.Plain.{Point, Fire}
-use Rattle.hs_workload.specs.declared.operation.Op.{Op}
-use Rattle.hs_workload.specs.Views.{operation_of}
-use Rattle.hs_replay_client.specs.Doing.{Does}
-use Rattle.hs_replay_client.specs.Inside.{working_in}
+use Rattle.hs_replay_client.proofs.Prelude.{Trigger, Point, Fire, Op, operation_of, Does, working_in}
 use Rattle.hs_replay_client.proofs.doing.Doing.step.Goals as goal
 
 pub returns-in-Begin-clause-done : goal.returns-in-Begin-clause-done

@@ -1,4 +1,4 @@
-use Rattle.hs_replay_client.specs.Inside.{working_in}
+use Rattle.hs_replay_client.proofs.Prelude.{working_in}
 use Rattle.hs_replay_client.proofs.Operations.{trigger_done}
 use Rattle.hs_replay_client.proofs.doing.Doing.trigger.Goals as goal
 

@@ -1,8 +1,5 @@
 use Rattle.std.proofs.Common.{◌++◌, map, ap, ◌∙◌}
-use Rattle.std.proofs.lemmas.Result.{on_ok_weaker}
-use Rattle.std.specs.Option.{option_to_list}
-use Rattle.hs_words.specs.Buffers.{buffer_of}
-use Rattle.hs_replay_client.specs.Inside.{writing_in}
+use Rattle.hs_replay_client.proofs.Prelude.{on_ok_weaker, option_to_list, buffer_of, writing_in}
 use Rattle.hs_replay_client.proofs.Recording.{ends}
 use Rattle.hs_replay_client.proofs.writer.Writer.end.Goals as goal
 

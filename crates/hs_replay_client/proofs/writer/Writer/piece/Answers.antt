@@ -1,9 +1,5 @@
 use Rattle.std.proofs.Common.{arith, ◌++◌, length, map, sym, ap, ◌∙◌, subst}
-use Rattle.std.specs.Option.{option_to_list}
-use Rattle.hs_words.specs.Buffers.{buffer_of}
-use Rattle.hs_replay_client.specs.Inside.{writing_in}
-use Rattle.hs_client.specs.Core.{Core}
-use Rattle.hs_replay_client.specs.Wells.{IsClear}
+use Rattle.hs_replay_client.proofs.Prelude.{option_to_list, buffer_of, writing_in, Core, IsClear}
 use Rattle.hs_replay_client.proofs.Recording.{fresh, records_wrote, records_drew}
 use Rattle.hs_replay_client.proofs.writer.Writer.piece.Goals as goal
 

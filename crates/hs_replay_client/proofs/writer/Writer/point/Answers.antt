@@ -1,8 +1,5 @@
 use Rattle.std.proofs.Common.{ap, ◌∙◌}
-use Rattle.std.proofs.lemmas.Result.{on_ok_weaker}
-use Rattle.hs_records.specs.Records.{piece_limit}
-use Rattle.hs_records.proofs.Payloads.{AreCut}
-use Rattle.hs_replay_client.specs.Inside.{writing_in}
+use Rattle.hs_replay_client.proofs.Prelude.{on_ok_weaker, piece_limit, AreCut, writing_in}
 use Rattle.hs_replay_client.proofs.Cuts.{cut_none, cut_further, cut_all, cut_ready}
 use Rattle.hs_replay_client.proofs.writer.Writer.point.Goals as goal
 

@@ -1,5 +1,5 @@
 use Rattle.std.proofs.Common.{length}
-use Rattle.hs_replay_client.specs.Inside.{writing_in}
+use Rattle.hs_replay_client.proofs.Prelude.{writing_in}
 use Rattle.hs_replay_client.proofs.Cuts.{IsCutTo}
 use Rattle.hs_replay_client.proofs.writer.Writer.point.Given as goal
 

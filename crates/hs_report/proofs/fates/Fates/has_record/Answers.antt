@@ -1,5 +1,5 @@
 use Rattle.std.proofs.Common.{not, eqb, length, ap, ◌∙◌}
-use Rattle.hs_law_outcome.specs.Reports.{is_of}
+use Rattle.hs_report.proofs.Prelude.{is_of}
 use Rattle.hs_report.proofs.ByTrace.{any_filtered}
 use Rattle.hs_report.proofs.fates.Fates.has_record.Goals as goal
 

@@ -1,8 +1,6 @@
 use Rattle.std.proofs.Common.{◌≡◌, ◌-◌, List, length, take, drop, ltb, leb, ap, sym, ◌∙◌, subst, length-drop, rules, arith}
-use Rattle.std.specs.List.Sorted.{IsNonDecreasingBy}
-use Rattle.std.proofs.lemmas.List.{take_all}
+use Rattle.hs_report.proofs.Prelude.{IsNonDecreasingBy, take_all, Entry}
 use Rattle.std.proofs.lemmas.List.Sorted.{IsPartitionPoint-from_clause, IsPartitionedBy-ltb, IsPartitionedBy-leb, IsNonDecreasingBy-drop}
-use Rattle.hs_ledger.specs.declared.ledger.Entry.{Entry}
 use Rattle.hs_report.proofs.ByTrace.{between, Splits, number_of}
 use Rattle.hs_report.proofs.fates.Fates.of.Goals as goal
 

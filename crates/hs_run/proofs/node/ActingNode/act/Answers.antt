@@ -1,5 +1,5 @@
 use Rattle.std.proofs.Common.{◌+◌, ◌-◌, ◌*◌, arith}
-use Rattle.hs_workload.specs.Views.{workload_of}
+use Rattle.hs_run.proofs.Prelude.{workload_of}
 use Rattle.hs_run.proofs.Clients.{clients_are}
 use Rattle.hs_run.proofs.node.ActingNode.act.Goals as goal
 

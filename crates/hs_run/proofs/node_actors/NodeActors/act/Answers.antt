@@ -1,12 +1,5 @@
 use Rattle.std.proofs.Common.{◌≡◌, sym, subst, List}
-use Rattle.std.proofs.lemmas.Result.{on_ok_weaker}
-use Rattle.hs_lists.proofs.Lent.{lent_whole, lent_whole_is}
-use Rattle.hs_records.specs.Plain.{settings_of}
-use Rattle.hs_run_client.specs.ClientActors.{PlainClientActor}
-use Rattle.hs_run_story.specs.RunStates.{PlainNodeActors, NodeActorsStand}
-use Rattle.hs_run.specs.Going.{AllMayGo, AllHaveGone}
-use Rattle.hs_run.specs.Layout.{site_of}
-use Rattle.hs_run.specs.Sites.{HasActed}
+use Rattle.hs_run.proofs.Prelude.{on_ok_weaker, lent_whole, lent_whole_is, settings_of, PlainClientActor, PlainNodeActors, NodeActorsStand, AllMayGo, AllHaveGone, site_of, HasActed}
 use Rattle.hs_run.proofs.Acted.{may_go, has_acted}
 use Rattle.hs_run.proofs.node_actors.NodeActors.act.Goals as goal
 

@@ -1,13 +1,8 @@
 use Rattle.std.proofs.Common.{◌≡◌, List, [], ◌∷◌, Bool, true, false, refl, sym, ap, subst, ◌∙◌}
-use Rattle.std.proofs.lemmas.List.{append-nil}
+use Rattle.hs_run.proofs.Prelude.{append-nil, has_node, Ask, PlainAgentActor, NodeWork, PlainNodeActors, NodeActorsStand, site_of}
 use Rattle.std.specs.Prelude.{if◌then◌else◌}
-use Rattle.hs_base.specs.NodeSets.{has_node}
-use Rattle.hs_base.specs.declared.told.Ask.{Ask}
 use Rattle.hs_run_agent.specs.Coordinators.{ask_for}
-use Rattle.hs_run_agent.specs.AgentActors.{PlainAgentActor}
-use Rattle.hs_run_agent.specs.Work.{NodeWork, with_ask, with_asks}
-use Rattle.hs_run_story.specs.RunStates.{PlainNodeActors, NodeActorsStand}
-use Rattle.hs_run.specs.Layout.{site_of}
+use Rattle.hs_run_agent.specs.Work.{with_ask, with_asks}
 use Rattle.hs_run.proofs.Telling.{on_ok_two, site_with}
 use Rattle.hs_run.proofs.node_actors.NodeActors.ask.Goals as goal
 

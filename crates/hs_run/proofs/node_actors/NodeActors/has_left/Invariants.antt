@@ -1,8 +1,5 @@
 use Rattle.std.proofs.Common.{◌≡◌, ℕ, ◌<◌, ◌≤◌, length, Some}
-use Rattle.std.specs.Prelude.{slice_get}
-use Rattle.hs_base.specs.Listing.{Listing}
-use Rattle.hs_workload.specs.declared.operation.Op.{Op}
-use Rattle.hs_run_client.specs.ClientActors.{PlainClientActor}
+use Rattle.hs_run.proofs.Prelude.{slice_get, Listing, Op, PlainClientActor}
 use Rattle.hs_run.proofs.node_actors.NodeActors.has_left.Given as goal
 
 abbrev pub invariant-loop-number : goal.invariant-loop-number

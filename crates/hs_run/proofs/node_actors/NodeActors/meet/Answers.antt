@@ -1,6 +1,5 @@
 use Rattle.std.proofs.Common.{◌≡◌, ℕ, ◌+◌, suc, ap, length, subst, arith}
-use Rattle.hs_run_story.specs.RunStates.{PlainNodeActors}
-use Rattle.hs_run.specs.Sites.{HaveMet}
+use Rattle.hs_run.proofs.Prelude.{PlainNodeActors, HaveMet}
 use Rattle.hs_run.proofs.Meetings.{none_met, one_more, all_met}
 use Rattle.hs_run.proofs.node_actors.NodeActors.meet.Goals as goal
 

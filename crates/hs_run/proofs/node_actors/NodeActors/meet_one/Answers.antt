@@ -1,11 +1,6 @@
 use Rattle.std.proofs.Common.{get_or, ap, length, sym, subst, arith}
-use Rattle.hs_lists.proofs.Lent.{lent, lent_is, lent_from}
-use Rattle.hs_base.specs.Ids.{client_of}
-use Rattle.hs_run_story.specs.RunStates.{PlainNodeActors, NodeActorsStand}
-use Rattle.hs_law_sends.specs.Sending.{operations_at, place_of}
-use Rattle.hs_run.specs.Layout.{site_of}
-use Rattle.hs_run.specs.Sites.{MeetsOne}
-use Rattle.hs_run_agent.proofs.Few.{few_clients}
+use Rattle.hs_run.proofs.Prelude.{lent_is, lent_from, client_of, PlainNodeActors, NodeActorsStand, operations_at, place_of, site_of, MeetsOne, few_clients}
+use Rattle.hs_lists.proofs.Lent.{lent}
 use Rattle.hs_run.proofs.node_actors.NodeActors.meet_one.Goals as goal
 
 pub overflow_cast-number : goal.overflow_cast-number

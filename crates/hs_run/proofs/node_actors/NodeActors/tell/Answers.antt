@@ -1,7 +1,5 @@
 use Rattle.std.proofs.Common.{ap, sym, subst}
-use Rattle.std.proofs.lemmas.Result.{on_ok_weaker}
-use Rattle.hs_run_story.specs.RunStates.{PlainNodeActors}
-use Rattle.hs_run.specs.Movings.{Tells, HasTold}
+use Rattle.hs_run.proofs.Prelude.{on_ok_weaker, PlainNodeActors, Tells, HasTold}
 use Rattle.hs_run.proofs.node_actors.NodeActors.tell.Goals as goal
 
 pub returns : goal.returns

@@ -1,7 +1,5 @@
 use Rattle.std.proofs.Common.{sym, subst}
-use Rattle.hs_run.specs.Counts.{Counts}
-use Rattle.hs_workload.specs.Views.{workload_of}
-use Rattle.hs_run.specs.Tallying.{MayCount}
+use Rattle.hs_run.proofs.Prelude.{Counts, workload_of, MayCount}
 use Rattle.hs_run.specs.TallyLayout.{tally_of}
 use Rattle.hs_run.proofs.TallyRounds.{are_counts, fit, may_clients, may_logs}
 use Rattle.hs_run.proofs.tallying.Tally.count.Goals as goal

@@ -1,7 +1,5 @@
 use Rattle.std.proofs.Common.{replicate, ℕ, sym, ap, ◌∙◌}
-use Rattle.std.proofs.lemmas.List.{length-map}
-use Rattle.hs_workload.specs.Views.{operations_of, workload_of}
-use Rattle.hs_run.specs.TallyingNodes.{no_operations}
+use Rattle.hs_run.proofs.Prelude.{length-map, operations_of, workload_of, no_operations}
 use Rattle.hs_run.proofs.TallyRounds.{none_counted}
 use Rattle.hs_run.proofs.tallying.Tally.make.Goals as goal
 

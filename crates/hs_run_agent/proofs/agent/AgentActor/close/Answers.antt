@@ -1,14 +1,5 @@
 use Rattle.std.proofs.Common.{◌≡◌, List, map, sym, ap, subst, ◌∙◌}
-use Rattle.hs_link.specs.Contents.{Incoming}
-use Rattle.hs_base.specs.declared.told.Crumb.{Crumb}
-use Rattle.hs_base.specs.declared.told.Trigger.{Trigger}
-use Rattle.hs_live.specs.Keys.{Key}
-use Rattle.hs_live.specs.Live.{incoming, outgoing}
-use Rattle.hs_ring.specs.Parts.{Leased}
-use Rattle.hs_words.specs.Buffers.{Buffer}
-use Rattle.hs_run_agent.specs.AgentActors.{working_agent_of}
-use Rattle.hs_run_agent.specs.Resting.{AreRests}
-use Rattle.hs_run_agent.specs.ClosedAgents.{PlainClosedAgent, AreMatesOf}
+use Rattle.hs_run_agent.proofs.Prelude.{Incoming, Crumb, Trigger, Key, incoming, outgoing, Leased, Buffer, working_agent_of, AreRests, PlainClosedAgent, AreMatesOf}
 use Rattle.hs_run_agent.proofs.Resting.{buffered, held_ends, rests_buffered}
 use Rattle.hs_run_agent.proofs.Shutting.{ends_of, shut_so}
 use Rattle.hs_run_agent.proofs.agent.AgentActor.close.Goals as goal

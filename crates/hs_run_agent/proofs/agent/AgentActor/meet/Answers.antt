@@ -1,6 +1,5 @@
 use Rattle.std.proofs.Common.{sym, subst}
-use Rattle.hs_run_agent.specs.AgentLayout.{agent_actor_in}
-use Rattle.hs_run_agent.specs.AgentActors.{PlainAgentActor, IsAgentActor}
+use Rattle.hs_run_agent.proofs.Prelude.{agent_actor_in, PlainAgentActor, IsAgentActor}
 use Rattle.hs_run_agent.proofs.Meeting.{met_manned}
 use Rattle.hs_run_agent.proofs.agent.AgentActor.meet.Goals as goal
 

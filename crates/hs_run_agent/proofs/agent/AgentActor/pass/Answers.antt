@@ -1,9 +1,5 @@
 use Rattle.std.proofs.Common.{List, sym, subst, rules}
-use Rattle.hs_law_agent.specs.Stepping.{AgentEvent}
-use Rattle.hs_ring.specs.Parts.{Leased}
-use Rattle.hs_words.specs.Buffers.{Buffer}
-use Rattle.hs_run_agent.specs.AgentLayout.{agent_actor_in}
-use Rattle.hs_run_agent.specs.AgentActors.{PlainAgentActor, IsAgentActor, Passes}
+use Rattle.hs_run_agent.proofs.Prelude.{AgentEvent, Leased, Buffer, agent_actor_in, PlainAgentActor, IsAgentActor, Passes}
 use Rattle.hs_run_agent.proofs.Passed.{can_pass, passed}
 use Rattle.hs_run_agent.proofs.agent.AgentActor.pass.Goals as goal
 

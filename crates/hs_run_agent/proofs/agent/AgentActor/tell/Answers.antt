@@ -1,6 +1,5 @@
 use Rattle.std.proofs.Common.{sym, subst}
-use Rattle.hs_run_agent.specs.AgentLayout.{agent_actor_in}
-use Rattle.hs_run_agent.specs.AgentActors.{PlainAgentActor, IsAgentActor}
+use Rattle.hs_run_agent.proofs.Prelude.{agent_actor_in, PlainAgentActor, IsAgentActor}
 use Rattle.hs_run_agent.proofs.Telling.{told_so}
 use Rattle.hs_run_agent.proofs.agent.AgentActor.tell.Goals as goal
 

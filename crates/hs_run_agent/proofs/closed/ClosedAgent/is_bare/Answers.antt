@@ -1,7 +1,5 @@
 use Rattle.std.proofs.Common.{◌≡◌, ◌&&◌, ◌∙◌, sym, ap, subst, Bool}
-use Rattle.hs_run_agent.specs.Resting.{are_given}
-use Rattle.hs_run_agent.specs.ClosedAgents.{PlainClosedAgent, IsClosedAgent, IsClosedAgentBare}
-use Rattle.hs_run_agent.specs.ClosedAgentLayout.{closed_agent_in}
+use Rattle.hs_run_agent.proofs.Prelude.{are_given, PlainClosedAgent, IsClosedAgent, IsClosedAgentBare, closed_agent_in}
 use Rattle.hs_run_agent.proofs.Resting.{given_buffered}
 use Rattle.hs_run_agent.proofs.Shutting.{last_run, nothing_waits, not_bare, bare_by_pins}
 use Rattle.hs_run_agent.proofs.closed.ClosedAgent.is_bare.Goals as goal

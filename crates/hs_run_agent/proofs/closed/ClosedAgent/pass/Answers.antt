@@ -1,6 +1,6 @@
 use Rattle.std.proofs.Common.{rules, sym, subst}
-use Rattle.hs_run_agent.specs.ClosedAgents.{PlainClosedAgent, IsClosedAgent, Events, Buffers, ClosedAgentPasses}
-use Rattle.hs_run_agent.specs.ClosedAgentLayout.{closed_agent_in}
+use Rattle.hs_run_agent.proofs.Prelude.{PlainClosedAgent, IsClosedAgent, ClosedAgentPasses, closed_agent_in}
+use Rattle.hs_run_agent.specs.ClosedAgents.{Events, Buffers}
 use Rattle.hs_run_agent.proofs.Resting.{buffered}
 use Rattle.hs_run_agent.proofs.Shutting.{can_pass_shut, passed_shut}
 use Rattle.hs_run_agent.proofs.closed.ClosedAgent.pass.Goals as goal

@@ -1,6 +1,5 @@
 use Rattle.std.proofs.Common.{sym, subst}
-use Rattle.hs_run_agent.specs.ClosedAgents.{PlainClosedAgent, IsClosedAgent}
-use Rattle.hs_run_agent.specs.ClosedAgentLayout.{closed_agent_in}
+use Rattle.hs_run_agent.proofs.Prelude.{PlainClosedAgent, IsClosedAgent, closed_agent_in}
 use Rattle.hs_run_agent.proofs.Shutting.{told_shut}
 use Rattle.hs_run_agent.proofs.closed.ClosedAgent.tell.Goals as goal
 

@@ -1,5 +1,5 @@
 use Rattle.std.proofs.Common.{sym, subst}
-use Rattle.hs_run_agent.specs.Coordinators.{PlainCoordinatorActor, IsCoordinatorActor, coordinator_actor_of}
+use Rattle.hs_run_agent.proofs.Prelude.{PlainCoordinatorActor, IsCoordinatorActor, coordinator_actor_of}
 use Rattle.hs_run_agent.proofs.Hearing.{brought_so}
 use Rattle.hs_run_agent.proofs.coordinator.CoordinatorActor.hear.Goals as goal
 

@@ -1,6 +1,5 @@
-use Rattle.std.proofs.lemmas.Option.{IfSome_then}
+use Rattle.hs_run_agent.proofs.Prelude.{IfSome_then, linked}
 use Rattle.hs_run_agent.proofs.Ports.{hands_so, line_at}
-use Rattle.hs_run_agent.specs.Intakes.{linked}
 use Rattle.hs_run_agent.proofs.port.AgentPortIntakeEnds.trigger.Goals as goal
 
 pub returns-clause-hands : goal.returns-clause-hands

@@ -1,7 +1,4 @@
-use Rattle.std.proofs.lemmas.Option.{IfSome_then}
-use Rattle.hs_words.specs.Buffers.{buffer_in}
-use Rattle.hs_run_agent.specs.Intakes.{closed}
-use Rattle.hs_run_agent.specs.ClosedAgents.{remaining}
+use Rattle.hs_run_agent.proofs.Prelude.{IfSome_then, buffer_in, closed, remaining}
 use Rattle.hs_run_agent.proofs.Resting.{buffered, hands_left, gives_buffered, buffered_line}
 use Rattle.hs_run_agent.proofs.rests.RestsIntakeEnds.chunk.Goals as goal
 

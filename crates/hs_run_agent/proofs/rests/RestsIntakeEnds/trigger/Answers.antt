@@ -1,5 +1,4 @@
-use Rattle.std.proofs.lemmas.Option.{IfSome_then}
-use Rattle.hs_run_agent.specs.Intakes.{closed}
+use Rattle.hs_run_agent.proofs.Prelude.{IfSome_then, closed}
 use Rattle.hs_run_agent.proofs.Resting.{hands_left, rest_at}
 use Rattle.hs_run_agent.proofs.rests.RestsIntakeEnds.trigger.Goals as goal
 

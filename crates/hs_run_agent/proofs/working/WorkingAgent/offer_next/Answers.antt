@@ -1,9 +1,5 @@
 use Rattle.std.proofs.Common.{◌≡◌, [], Some, refl, sym, ap, ◌∙◌, subst}
-use Rattle.std.specs.Prelude.{IfNone}
-use Rattle.hs_agent.specs.Runs.{offered_next, state_of, after_offer}
-use Rattle.hs_words.specs.Buffers.{buffer_of, buffer_in}
-use Rattle.hs_run_agent.specs.WorkingAgents.{plain_working_agent}
-use Rattle.hs_run_agent.specs.Stages.{OffersNext}
+use Rattle.hs_run_agent.proofs.Prelude.{IfNone, offered_next, state_of, after_offer, buffer_of, buffer_in, plain_working_agent, OffersNext}
 use Rattle.hs_run_agent.proofs.Offering.{run, first_is, pooled_first, is_offered, none_offered, offered_so}
 use Rattle.hs_run_agent.proofs.working.WorkingAgent.offer_next.Goals as goal
 
@@ -11,7 +7,7 @@ pub give-given-requires-clause-pool : goal.give-given-requires-clause-pool
 give-given-requires-clause-pool g c =
     let (W, work, stands) = c.requires in
     let desk = plain_working_agent c.args.self.now in
-    let lines = g.E.Ends.sees c.args.ends.now in
+    let lines = g.E.IntakeEnds.sees c.args.ends.now in
     let at = run W work desk lines stands in
     let e : Some (buffer_of c.in-Some.held) ≡ offered_next at = ap buffer_in (sym c.in-Some.is) ∙ c.in_ok-offer.ensures.first at stands.works.is.follows in
     (pooled_first W work desk lines stands (buffer_of c.in-Some.held) (first_is at (buffer_of c.in-Some.held) e)).pool_is ∙ sym stands.lines_are.pool_is
@@ -20,7 +16,7 @@ pub give-given-requires-clause-size : goal.give-given-requires-clause-size
 give-given-requires-clause-size g c =
     let (W, work, stands) = c.requires in
     let desk = plain_working_agent c.args.self.now in
-    let lines = g.E.Ends.sees c.args.ends.now in
+    let lines = g.E.IntakeEnds.sees c.args.ends.now in
     let at = run W work desk lines stands in
     let e : Some (buffer_of c.in-Some.held) ≡ offered_next at = ap buffer_in (sym c.in-Some.is) ∙ c.in_ok-offer.ensures.first at stands.works.is.follows in
     (pooled_first W work desk lines stands (buffer_of c.in-Some.held) (first_is at (buffer_of c.in-Some.held) e)).size ∙ sym stands.lines_are.size
@@ -29,7 +25,7 @@ pub gave-requires : goal.gave-requires
 gave-requires g c =
     let (W, work, stands) = c.requires in
     let desk = plain_working_agent c.args.self.now in
-    let lines = g.E.Ends.sees c.args.ends.now in
+    let lines = g.E.IntakeEnds.sees c.args.ends.now in
     let at = run W work desk lines stands in
     let e : Some (buffer_of c.in-Some.held) ≡ offered_next at = ap buffer_in (sym c.in-Some.is) ∙ c.in_ok-offer.ensures.first at stands.works.is.follows in
     is_offered W work desk lines stands (buffer_of c.in-Some.held) (first_is at (buffer_of c.in-Some.held) e) c.offer.new.self (c.in_ok-offer.ensures.after at stands.works.is.follows)
@@ -37,15 +33,15 @@ gave-requires g c =
 pub returns-in-None : goal.returns-in-None
 returns-in-None g c = λ W work stands.
     let desk = plain_working_agent c.args.self.now in
-    let lines = g.E.Ends.sees c.args.ends.now in
+    let lines = g.E.IntakeEnds.sees c.args.ends.now in
     let at = run W work desk lines stands in
     none_offered W work desk lines stands c.offer.new.self (c.in_ok-offer.ensures.after at stands.works.is.follows) (subst (λ o. IfNone o ((state_of at).hand ≡ [])) c.in-None.is (c.in_ok-offer.ensures.empty at stands.works.is.follows))
 
 pub returns-in-Some : goal.returns-in-Some
 returns-in-Some g c = λ W work stands.
     let desk = plain_working_agent c.args.self.now in
-    let lines = g.E.Ends.sees c.args.ends.now in
-    let lines' = g.E.Ends.sees c.give-given.new.self in
+    let lines = g.E.IntakeEnds.sees c.args.ends.now in
+    let lines' = g.E.IntakeEnds.sees c.give-given.new.self in
     let at = run W work desk lines stands in
     let e : Some (buffer_of c.in-Some.held) ≡ offered_next at = ap buffer_in (sym c.in-Some.is) ∙ c.in_ok-offer.ensures.first at stands.works.is.follows in
     let follows = c.gave.ensures.after (after_offer at) (c.in_ok-offer.ensures.after at stands.works.is.follows) in

@@ -1,5 +1,5 @@
 use Rattle.std.proofs.Common.{Some, None, sym, ◌∙◌, append-nil}
-use Rattle.hs_run_agent.specs.Agents.{run_at}
+use Rattle.hs_run_agent.proofs.Prelude.{run_at}
 use Rattle.hs_run_agent.proofs.Taking.{takable, took}
 use Rattle.hs_run_agent.proofs.working.WorkingAgent.take.Goals as goal
 

@@ -1,6 +1,5 @@
 use Rattle.std.proofs.Common.{◌≡◌, ◌∷◌, List, arith, sym, ap, ◌∙◌}
-use Rattle.hs_base.specs.declared.told.Ask.{Ask}
-use Rattle.hs_run_agent.specs.WorkingAgents.{plain_working_agent}
+use Rattle.hs_run_agent.proofs.Prelude.{Ask, plain_working_agent}
 use Rattle.hs_run_agent.proofs.Loops.{no_asks, asks_work, may_ask, ask_more, asks_out, asks_full}
 use Rattle.hs_run_agent.proofs.working.WorkingAgent.take_asks.Goals as goal
 

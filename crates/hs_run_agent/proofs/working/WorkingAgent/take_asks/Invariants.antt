@@ -1,8 +1,4 @@
-use Rattle.hs_records.specs.Plain.{PlainWorkload}
-use Rattle.hs_run_agent.specs.WorkingAgents.{plain_working_agent}
-use Rattle.hs_run_agent.specs.Intakes.{Intakes}
-use Rattle.hs_run_agent.specs.Stages.{WorkingAgentStands}
-use Rattle.hs_run_agent.specs.Work.{NodeWork}
+use Rattle.hs_run_agent.proofs.Prelude.{PlainWorkload, plain_working_agent, Intakes, WorkingAgentStands, NodeWork}
 use Rattle.hs_run_agent.proofs.Loops.{AsksSoFar}
 use Rattle.hs_run_agent.proofs.working.WorkingAgent.take_asks.Given as goal
 

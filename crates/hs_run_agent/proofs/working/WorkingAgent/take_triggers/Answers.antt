@@ -1,12 +1,10 @@
 use Rattle.std.proofs.Common.{◌≡◌, ◌+◌, ◌<◌, ◌^◌, ◌++◌, true, map, arith}
-use Rattle.hs_base.specs.Rules.{is_declared}
-use Rattle.hs_run_agent.specs.WorkingAgents.{plain_working_agent}
-use Rattle.hs_run_agent.specs.Work.{triggered, trigger_event}
+use Rattle.hs_run_agent.proofs.Prelude.{is_declared, plain_working_agent, triggered, trigger_event}
 use Rattle.hs_run_agent.proofs.Loops.{no_triggers, trigger_came, triggers_taken, triggers_work, trigger_more, triggers_out, triggers_full}
 use Rattle.hs_run_agent.proofs.working.WorkingAgent.take_triggers.Goals as goal
 
 pub loop-count-init : goal.loop-count-init
-loop-count-init g c = λ W work can. no_triggers W work c.args.client (g.E.Ends.sees c.args.ends.now) (plain_working_agent c.args.self.now) can
+loop-count-init g c = λ W work can. no_triggers W work c.args.client (g.E.IntakeEnds.sees c.args.ends.now) (plain_working_agent c.args.self.now) can
 
 pub trigger-requires : goal.trigger-requires
 trigger-requires g c =
@@ -20,27 +18,27 @@ pub take-requires : goal.take-requires
 take-requires g c =
     let (W, work, can) = c.requires in
     let so_far = c.loop-count.invariant W work can in
-    let lines = g.E.Ends.sees c.loop-count.ends in
+    let lines = g.E.IntakeEnds.sees c.loop-count.ends in
     let (low, declared) = trigger_came W work.node work.pool c.args.client can.low lines.triggers c.in-Some.trigger so_far.stands.lines_are.triggers c.in-Some.ensures.fact in
     let room = can.few in
     let number = so_far.number in
-    let taken = triggers_taken W work c.args.client (g.E.Ends.sees c.args.ends.now) so_far.items in
+    let taken = triggers_taken W work c.args.client (g.E.IntakeEnds.sees c.args.ends.now) so_far.items in
     let below = c.loop-count-test.true in
     let few : triggered (work.events ++ map (trigger_event c.args.client) so_far.items) + 1 < 2 ^ 32 = omega (arith, room, number, taken, below) in
     let may : (c.args.client < W.settings.clients) × (is_declared W.settings.triggers c.in-Some.trigger.trigger ≡ true) × (triggered (work.events ++ map (trigger_event c.args.client) so_far.items) + 1 < 2 ^ 32) = (low, declared, few) in
-    (W, triggers_work W work c.args.client (g.E.Ends.sees c.args.ends.now) c.loop-count.count lines (plain_working_agent c.loop-count.self) so_far, so_far.stands.works, may)
+    (W, triggers_work W work c.args.client (g.E.IntakeEnds.sees c.args.ends.now) c.loop-count.count lines (plain_working_agent c.loop-count.self) so_far, so_far.stands.works, may)
 
 pub loop-count-preserved : goal.loop-count-preserved
 loop-count-preserved g c = λ W work can.
     let so_far = c.loop-count.invariant W work can in
-    let old = g.E.Ends.sees c.args.ends.now in
-    let lines = g.E.Ends.sees c.loop-count.ends in
-    let next = g.E.Ends.sees c.trigger.new.self in
+    let old = g.E.IntakeEnds.sees c.args.ends.now in
+    let lines = g.E.IntakeEnds.sees c.loop-count.ends in
+    let next = g.E.IntakeEnds.sees c.trigger.new.self in
     let desk = plain_working_agent c.loop-count.self in
     let (low, declared) = trigger_came W work.node work.pool c.args.client can.low lines.triggers c.in-Some.trigger so_far.stands.lines_are.triggers c.in-Some.ensures.fact in
     let room = can.few in
     let number = so_far.number in
-    let taken = triggers_taken W work c.args.client (g.E.Ends.sees c.args.ends.now) so_far.items in
+    let taken = triggers_taken W work c.args.client (g.E.IntakeEnds.sees c.args.ends.now) so_far.items in
     let below = c.loop-count-test.true in
     let few : triggered (work.events ++ map (trigger_event c.args.client) so_far.items) + 1 < 2 ^ 32 = omega (arith, room, number, taken, below) in
     let may : (c.args.client < W.settings.clients) × (is_declared W.settings.triggers c.in-Some.trigger.trigger ≡ true) × (triggered (work.events ++ map (trigger_event c.args.client) so_far.items) + 1 < 2 ^ 32) = (low, declared, few) in
@@ -51,10 +49,10 @@ loop-count-preserved g c = λ W work can.
 pub returns-in_default : goal.returns-in_default
 returns-in_default g c = λ W work can.
     let so_far = c.loop-count.invariant W work can in
-    let lines = g.E.Ends.sees c.loop-count.ends in
-    triggers_out W work c.args.client (g.E.Ends.sees c.args.ends.now) c.loop-count.count lines (g.E.Ends.sees c.trigger.new.self) (plain_working_agent c.loop-count.self) so_far c.trigger.ensures.only (let low = c.loop-count-test.true in omega (arith, low)) c.in_default.ensures.hands
+    let lines = g.E.IntakeEnds.sees c.loop-count.ends in
+    triggers_out W work c.args.client (g.E.IntakeEnds.sees c.args.ends.now) c.loop-count.count lines (g.E.IntakeEnds.sees c.trigger.new.self) (plain_working_agent c.loop-count.self) so_far c.trigger.ensures.only (let low = c.loop-count-test.true in omega (arith, low)) c.in_default.ensures.hands
 
 pub returns : goal.returns
 returns g c = λ W work can.
-    triggers_full W work c.args.client (g.E.Ends.sees c.args.ends.now) c.loop-count.count (g.E.Ends.sees c.loop-count.ends) (plain_working_agent c.loop-count.self) (c.loop-count.invariant W work can)
+    triggers_full W work c.args.client (g.E.IntakeEnds.sees c.args.ends.now) c.loop-count.count (g.E.IntakeEnds.sees c.loop-count.ends) (plain_working_agent c.loop-count.self) (c.loop-count.invariant W work can)
     (let high = c.loop-count-test.false in let low = c.loop-count.auto.count-end in omega (arith, high, low))

@@ -1,6 +1,5 @@
 use Rattle.std.proofs.Common.{[], refl}
-use Rattle.hs_law_agent.specs.Stepping.{Turn}
-use Rattle.hs_run_agent.specs.WorkingAgents.{plain_working_agent}
+use Rattle.hs_run_agent.proofs.Prelude.{Turn, plain_working_agent}
 use Rattle.hs_run_agent.proofs.Stages.{stands_more}
 use Rattle.hs_run_agent.proofs.working.WorkingAgent.turn.Goals as goal
 

@@ -1,8 +1,6 @@
 use Rattle.std.proofs.Common.{sym, subst}
-use Rattle.hs_journal.specs.Books.{client_book_of}
-use Rattle.hs_run_client.specs.ClientActors.{PlainClientActor}
+use Rattle.hs_run_client.proofs.Prelude.{client_book_of, PlainClientActor, IsDone, Notes}
 use Rattle.hs_run_client.specs.ClientActorInside.{client_actor_of}
-use Rattle.hs_run_client.specs.Standing.{IsDone, Notes}
 use Rattle.hs_run_client.proofs.Closing.{is_closed, notes}
 use Rattle.hs_run_client.proofs.client_actor.ClientActor.close.Goals as goal
 

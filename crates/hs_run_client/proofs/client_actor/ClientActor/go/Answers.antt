@@ -1,13 +1,6 @@
 use Rattle.std.proofs.Common.{◌≡◌, ◌+◌, ◌≤◌, List, map, length, min, refl, sym, ap, ◌∙◌, subst, arith}
-use Rattle.std.proofs.lemmas.List.{length-map}
-use Rattle.hs_base.specs.declared.settings.AutoRule.{AutoRule}
-use Rattle.hs_records.specs.Plain.{settings_of}
-use Rattle.hs_law_sends.specs.SoFar.{done_behind}
-use Rattle.hs_workload.specs.Views.{operation_of}
+use Rattle.hs_run_client.proofs.Prelude.{length-map, AutoRule, settings_of, done_behind, operation_of, PlainClientActor, MayDo, ClientActorIsAt, Goes}
 use Rattle.hs_workload.proofs.Sizes.{operations_few}
-use Rattle.hs_run_client.specs.ClientActors.{PlainClientActor}
-use Rattle.hs_run_client.specs.Performing.{MayDo}
-use Rattle.hs_run_client.specs.Standing.{ClientActorIsAt, Goes}
 use Rattle.hs_run_client.proofs.Operations.{stands}
 use Rattle.hs_run_client.proofs.Going.{may_do}
 use Rattle.hs_run_client.proofs.Coming.{HasCome, come_none, come_more, went}

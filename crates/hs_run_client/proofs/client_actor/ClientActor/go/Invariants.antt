@@ -1,6 +1,5 @@
 use Rattle.std.proofs.Common.{◌≡◌, map}
-use Rattle.hs_records.specs.Plain.{settings_of}
-use Rattle.hs_workload.specs.Views.{operation_of}
+use Rattle.hs_run_client.proofs.Prelude.{settings_of, operation_of}
 use Rattle.hs_run_client.proofs.Coming.{HasCome}
 use Rattle.hs_run_client.proofs.client_actor.ClientActor.go.Given as goal
 

@@ -1,11 +1,5 @@
 use Rattle.std.proofs.Common.{[], map, refl, sym, subst}
-use Rattle.hs_live.specs.Calls.{made_of}
-use Rattle.hs_live.specs.Done.{HasDone}
-use Rattle.hs_live.specs.Live.{PlainClient, outgoing}
-use Rattle.hs_records.specs.Plain.{settings_of}
-use Rattle.hs_workload.specs.Views.{operation_of}
-use Rattle.hs_run_client.specs.declared.making.ConnectedClient.{ConnectedClient}
-use Rattle.hs_run_client.specs.Making.{IsConnected}
+use Rattle.hs_run_client.proofs.Prelude.{made_of, HasDone, PlainClient, outgoing, settings_of, operation_of, ConnectedClient, IsConnected}
 use Rattle.hs_run_client.proofs.Beginning.{are_parts, is_new, connected}
 use Rattle.hs_run_client.proofs.client_actor.ClientActor.make.Goals as goal
 

@@ -1,6 +1,5 @@
 use Rattle.std.proofs.Common.{sym, subst}
-use Rattle.hs_run_client.specs.ClientActors.{PlainClientActor}
-use Rattle.hs_run_client.specs.Standing.{ClientActorIsAt}
+use Rattle.hs_run_client.proofs.Prelude.{PlainClientActor, ClientActorIsAt}
 use Rattle.hs_run_client.proofs.Going.{at_same}
 use Rattle.hs_run_client.proofs.Meeting.{meets_so}
 use Rattle.hs_run_client.proofs.client_actor.ClientActor.meet.Goals as goal

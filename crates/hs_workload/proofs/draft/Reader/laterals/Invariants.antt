@@ -1,11 +1,5 @@
 use Rattle.std.proofs.Common.{◌≡◌, ◌+◌, ◌≤◌, ◌++◌, List, length}
-use Rattle.std.specs.Prelude.{option_map}
-use Rattle.hs_base.specs.declared.limits.TheConstants.{MAX_LATERALS}
-use Rattle.hs_base.specs.declared.ids.TraceId.{TraceId}
-use Rattle.hs_text.specs.WordsLeft.{words_in}
-use Rattle.hs_workload.specs.Statements.{traces_of}
-use Rattle.hs_workload.specs.Faults.{version_of}
-use Rattle.hs_workload.specs.Forward.{draft_of, past_of}
+use Rattle.hs_workload.proofs.Prelude.{option_map, MAX_LATERALS, TraceId, words_in, traces_of, version_of, draft_of, past_of}
 use Rattle.hs_workload.proofs.draft.Reader.laterals.Given as goal
 
 abbrev pub invariant-loop-word : goal.invariant-loop-word

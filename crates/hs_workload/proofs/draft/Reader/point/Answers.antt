@@ -1,10 +1,7 @@
 use Rattle.std.proofs.Common.{◌≡◌, ℕ, List, Option, Some, None, Ok, Err, length, refl, sym, ◌∙◌, ap}
-use Rattle.std.specs.Prelude.{option_map}
-use Rattle.hs_text.specs.Text.{number_of, payload_of}
-use Rattle.hs_text.specs.Steps.{value_or}
-use Rattle.hs_text.specs.WordsLeft.{words_in, next_word, last_word, payload_size}
+use Rattle.hs_workload.proofs.Prelude.{option_map, number_of, payload_of, value_or, words_in, Draft, draft_of, point_step}
+use Rattle.hs_text.specs.WordsLeft.{next_word, last_word, payload_size}
 use Rattle.hs_workload.specs.declared.refusal.Reason.TheVariants as reasons
-use Rattle.hs_workload.specs.Forward.{Draft, draft_of, point_step}
 use Rattle.hs_workload.proofs.draft.Reader.point.Goals as goal
 
 no_size : (o : Option (List ℕ)) → option_map length o ≡ None → o ≡ None

@@ -1,5 +1,5 @@
 use Rattle.std.proofs.Common.{arith}
-use Rattle.hs_workload.specs.Forward.{draft_of}
+use Rattle.hs_workload.proofs.Prelude.{draft_of}
 use Rattle.hs_workload.proofs.Numbers.{least_size}
 use Rattle.hs_workload.proofs.draft.Reader.size.Goals as goal
 
