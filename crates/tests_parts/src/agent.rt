@@ -373,6 +373,73 @@ fn chunks_come_back(rt: HostRuntime) -> Result<(), Fail> {
     Ok(())
 }
 
+/// Three chunks come by the call for chunks.
+fn three_come(site: &mut Site) -> Result<(), Memory> {
+    site.take_chunk(1, 0)?;
+    site.take_chunk(2, 1)?;
+    site.take_chunk(3, 2)
+}
+
+const FIRST_IN_HAND: Ending = Ending {
+    rest: 3,
+    reported: 0,
+    claims: 0,
+    steps: 3,
+    last: Some(Step::Chunk { client: 0 }),
+    chunks: 3,
+    fates: [
+        Some(Fate::Evicted {
+            chunks: 3,
+            traces: 3,
+        }),
+        Some(Fate::Live),
+        Some(Fate::Live),
+        None,
+    ],
+};
+
+/// A chunk that comes by its own call is noted, and the third is one more than the threshold: the first trace goes into the hand.
+#[test]
+fn chunks_come_by_their_own_call(rt: HostRuntime) -> Result<(), Fail> {
+    let mut site = Site::make(rt.alloc(), FEW)?;
+    three_come(&mut site)?;
+    let ending = end(site)?;
+    assert!(rt; ending == FIRST_IN_HAND);
+    Ok(())
+}
+
+/// A chunk of a claimed trace comes, and a turn is made, each by its own call; then a buffer is given. Answers how many chunks are
+/// pinned before the turn and behind it, and the page of what is given.
+fn turns(site: &mut Site) -> Result<(u32, u32, Option<u32>), Memory> {
+    site.trigger(0, 1, Laterals::none())?;
+    site.take_chunk(1, 0)?;
+    let before = site.pinned();
+    site.make_turn()?;
+    let given = site.offer(Answer::Given { stamp: 10 })?;
+    Ok((before, site.pinned(), given))
+}
+
+const TURNED: Ending = Ending {
+    rest: 0,
+    reported: 1,
+    claims: 1,
+    steps: 4,
+    last: Some(Step::Given { stamp: 10 }),
+    chunks: 1,
+    fates: [Some(REPORTED_1), None, None, None],
+};
+
+/// A turn that is made by its own call is noted, reports what is pinned, and hands its buffer back.
+#[test]
+fn turns_are_made_by_their_own_call(rt: HostRuntime) -> Result<(), Fail> {
+    let mut site = Site::make(rt.alloc(), FEW)?;
+    let turned = turns(&mut site)?;
+    let ending = end(site)?;
+    assert_eq!(rt; turned, (1, 0, Some(0)));
+    assert!(rt; ending == TURNED);
+    Ok(())
+}
+
 /// Gives chunks of trace 1 with the pages from 0 on. Answers whether nothing is told of any.
 fn fills(site: &mut Site) -> Result<bool, Memory> {
     let mut quiet = true;

@@ -92,6 +92,23 @@ impl Site {
         self.take(Input::Chunk { client: 0, held })
     }
 
+    /// Takes a chunk as `chunk` does, by the call that takes nothing but chunks.
+    pub fn take_chunk(&mut self, trace: u128, page: u32) -> Result<(), Memory> {
+        let held = page_of(self.alloc, trace, page)?;
+        self.note_chunk(held)
+    }
+
+    fn note_chunk(&mut self, held: Held<()>) -> Result<(), Memory>
+        requires { IsPageOf 0 (buffer_of held) }
+    {
+        if self.events >= u32::MAX - 1 {
+            return Err(Memory);
+        }
+        let taken = self.agent.take_chunk(0, held);
+        self.events += 1;
+        taken
+    }
+
     /// Takes a crumb to a node below 16.
     pub fn crumb(&mut self, trace: u128, node: u16) -> Result<Option<Told>, Memory>
         requires { node < MAX_NODES }
@@ -139,6 +156,16 @@ impl Site {
     /// Makes a turn.
     pub fn turn(&mut self) -> Result<Option<Told>, Memory> {
         self.take(Input::Turn)
+    }
+
+    /// Makes a turn as `turn` does, by the call that makes nothing but turns.
+    pub fn make_turn(&mut self) -> Result<(), Memory> {
+        if self.events >= u32::MAX - 1 {
+            return Err(Memory);
+        }
+        let made = self.agent.turn();
+        self.events += 1;
+        made
     }
 
     fn take(&mut self, input: Input<()>) -> Result<Option<Told>, Memory>
