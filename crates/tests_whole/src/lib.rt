@@ -1,7 +1,7 @@
 //! The top call where no file can show it: words that are no command, streams that fail, inputs that are cut or too long, made
 //! workloads, and the greatest ones. And what `run` writes: the parts of an output that are the same however the threads take turns,
 //! orders of their steps that a gate brings about, and what watchers see. What a text comes to as another text stands in `examples/`
-//! and `cases/`.
+//! and `cases/`. One row calls the replay by itself.
 #![tactic(auto)]
 
 #[cfg(test)]
@@ -32,6 +32,8 @@ mod long;
 mod made;
 #[cfg(test)]
 mod realistic;
+#[cfg(test)]
+mod replayed;
 #[cfg(test)]
 mod size;
 #[cfg(test)]
