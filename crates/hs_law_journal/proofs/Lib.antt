@@ -5,6 +5,9 @@ pub mod Events
 pub mod Steps
 pub mod Orders
 pub mod Extending
+pub mod ItemsTaken
+pub mod Fronts
+pub mod Heard
 pub mod Supplied
 pub mod Taking
 pub mod Givens

@@ -1,14 +1,18 @@
--- A step takes the next chunk of its client, or none. So what was taken of a client grows along what it sent, whose pages rise.
-use Rattle.std.proofs.Common.{◌≡◌, ◌⊎◌, inl, inr, ℕ, zero, suc, ◌+◌, ◌<◌, ◌≤◌, Bool, true, false, cond, List, [], ◌∷◌, ◌++◌, take, refl, sym, ap, ap₂, subst, ◌∙◌, Option, Some, None, arith, map, filter, option_map, slice_get, eqb, eqb-true, eq-eqb, append-nil}
-use Rattle.hs_law_journal.proofs.Prelude.{AllByRecursion, range_with_len, option_and_then, option_map_or, filter-append, sum_by-cons, sum_by-append, slice_get-map, same_Some, all_set, all_at, mapped_from, one_if, ClientId, Messages, Draw, Step, PlainJournal, EventsAddThis, AgentEvent, Took, Gave, Chunk, Crumbed, Triggered, Asked, Turn, PlainWorkload, drawn_from, Sent, ClientSends, client_sends, node_sends, sent_chunks, operations_at, draws_at, place_of, TimedPage, timed_pages, Sheet, Chunks, Crumbs, Triggers, Asks, takes, taken, asks_to, NodeRun, Run, next_of, event_of, step_node, perform, node_start, run_start, Performs, Leads, Stays, Goes}
-use Rattle.hs_lists.proofs.Alls.{all_take}
+-- What was taken of a client is a front of what it sent, whose pages rise.
+use Rattle.std.proofs.Common.{◌≡◌, ℕ, zero, suc, ◌+◌, ◌<◌, ◌≤◌, Bool, true, false, cond, List, [], ◌∷◌, ◌++◌, length, take, refl, sym, ap, subst, ◌∙◌, Option, Some, None, arith, map, filter, option_map, slice_get, nat_eq, eqb, eq-eqb, append-nil, append_assoc}
+use Rattle.hs_law_journal.proofs.Prelude.{AllByRecursion, range_with_len, option_map_or, filter-append, slice_get-map, all_each, mapped_from, ClientId, Messages, Draw, PlainJournal, EventsAddThis, AgentState, AgentEvent, Took, Gave, Chunk, Crumbed, Triggered, Asked, Turn, after_event, PlainSettings, PlainWorkload, drawn_from, Sent, ClientSends, client_sends, node_sends, sent_chunks, operations_at, draws_at, place_of, TimedPage, timed_pages, Sheet, Chunks, taken, NodeRun, Run, run_start, Leads}
+use Rattle.std.proofs.Math.Seq.{take-append_seam}
+use Rattle.hs_lists.proofs.Alls.{all_take, all_front, all_back}
+use Rattle.hs_lists.proofs.Numbers.{nat_eq_itself}
 use Rattle.hs_lists.proofs.Ranges.{range_found}
 use Rattle.hs_journal.specs.declared.journal.Draw.TheVariants.{Got, Empty}
-use Rattle.hs_journal.specs.declared.journal.Step.TheVariants as steps
 use Rattle.hs_law_agent.specs.Laws.{PagesRise, sheets_of, brought_by}
+use Rattle.hs_law_agent.specs.State.{start}
+use Rattle.hs_law_agent.specs.Stepping.{after_from}
+use Rattle.hs_law_journal.specs.Doings.{chunk_in, chunks_in}
 use Rattle.hs_law_journal.specs.Taking.{is_by, sheets_sent, TakesInOrder, ChunksAreTakenInOrder, TakenPagesRise}
-use Rattle.hs_law_journal.proofs.Extending.{steps_are_noted}
-use Rattle.hs_law_journal.proofs.Steps.{step_from, heard_from}
+use Rattle.hs_law_journal.proofs.Fronts.{HasFronts, log_is, all_fronts}
+use Rattle.hs_law_journal.proofs.ItemsTaken.{taken_chunks}
 
 -- ---- what a client sends
 
@@ -83,46 +87,49 @@ all_rise (sheet ∷ sheets) each =
       all_rise sheets (λ other. rest_rises other sheet (filter (is_by other) sheets) (is_by other sheet) (each other)),
     )
 
--- ---- one step
+-- ---- what an agent took
 
-take_next : (sheets : List Sheet) (n : ℕ) (sheet : Sheet) → slice_get sheets n ≡ Some sheet → take (n + 1) sheets ≡ take n sheets ++ sheet ∷ []
-take_next sheets n sheet h = let up : n + 1 ≡ suc n = omega arith in ap (λ (n : ℕ). take n sheets) up ∙ go sheets n sheet h
-  where
-    go : (sheets : List Sheet) (n : ℕ) (sheet : Sheet) → slice_get sheets n ≡ Some sheet → take (suc n) sheets ≡ take n sheets ++ sheet ∷ []
-    go [] n sheet h = let no : None ≡ Some sheet = h in absurd cc
-    go (first ∷ sheets) zero sheet h = ap (λ (s : Sheet). s ∷ []) (same_Some first sheet h)
-    go (first ∷ sheets) (suc n) sheet h = ap (λ (rest : List Sheet). first ∷ rest) (go sheets n sheet h)
+abbrev IsOwnSheet : ℕ → Sheet → Type 0
+IsOwnSheet client sheet = sheet.header.client.number ≡ client
 
--- A step takes no chunk of a client.
-record TakesNone (step : Step) (brought : List Sheet) (client : ℕ) : Type 0 where
-  count : one_if (takes (Chunks client) step) ≡ 0
-  none : filter (is_by client) brought ≡ []
+-- of an event that takes a chunk, the page is of the client
+abbrev BringsOwn : AgentEvent → Type 0
+BringsOwn (Took (Chunk client sheet)) = sheet.header.client.number ≡ client
+BringsOwn _ = Unit {0}
 
--- A step takes the next chunk of a client.
-record TakesNext (run : NodeRun) (step : Step) (brought : List Sheet) (client : ℕ) : Type 0 where
-  sheet : Sheet
-  count : one_if (takes (Chunks client) step) ≡ 1
-  is : filter (is_by client) brought ≡ sheet ∷ []
-  there : slice_get (sheets_sent run client) (taken (Chunks client) run.state.log) ≡ Some sheet
+first_own : (event : AgentEvent) → ((client : ℕ) → AllByRecursion (IsOwnSheet client) (chunk_in client event)) → BringsOwn event
+first_own (Took (Chunk client sheet)) each = (subst (λ (b : Bool). AllByRecursion (IsOwnSheet client) (cond b (sheet ∷ []) [])) (nat_eq_itself client) (each client)).0
+first_own (Took (Crumbed client crumb)) each = tt
+first_own (Took (Triggered client trigger)) each = tt
+first_own (Took (Asked ask)) each = tt
+first_own (Took Turn) each = tt
+first_own (Gave answer) each = tt
 
-abbrev TakesSo : NodeRun → Step → List Sheet → Type 0
-TakesSo run step brought = (client : ℕ) → TakesNone step brought client ⊎ TakesNext run step brought client
+all_own : (events : List AgentEvent) → ((client : ℕ) → AllByRecursion (IsOwnSheet client) (chunks_in client events)) → AllByRecursion BringsOwn events
+all_own [] each = tt
+all_own (event ∷ events) each = (
+  first_own event (λ client. all_front (IsOwnSheet client) (chunk_in client event) (chunks_in client events) (each client)),
+  all_own events (λ client. all_back (IsOwnSheet client) (chunk_in client event) (chunks_in client events) (each client)),
+)
 
-none_so : (run : NodeRun) (step : Step) (brought : List Sheet) → ((client : ℕ) → takes (Chunks client) step ≡ false) → brought ≡ [] → TakesSo run step brought
-none_so run step brought quiet none client = inl (record { count = ap one_if (quiet client); none = ap (filter (is_by client)) none })
+-- what such an event brings of a client
+brings : (client : ℕ) (event : AgentEvent) → BringsOwn event → filter (is_by client) (brought_by event) ≡ chunk_in client event
+brings client (Took (Chunk other sheet)) own = ap (λ (number : ℕ). cond (nat_eq number client) (sheet ∷ []) []) own
+brings client (Took (Crumbed other crumb)) own = refl
+brings client (Took (Triggered other trigger)) own = refl
+brings client (Took (Asked ask)) own = refl
+brings client (Took Turn) own = refl
+brings client (Gave answer) own = refl
 
-chunk_case : (run : NodeRun) (other client : ℕ) (sheet : Sheet) (b : Bool) → eqb other client ≡ b → sheet.header.client.number ≡ other
-    → slice_get (sheets_sent run other) (taken (Chunks other) run.state.log) ≡ Some sheet → TakesNone (steps.Chunk other) (sheet ∷ []) client ⊎ TakesNext run (steps.Chunk other) (sheet ∷ []) client
-chunk_case run other client sheet true e own there =
-    let same = eqb-true other client e in
-    inr (record {
-      sheet = sheet;
-      count = ap one_if e;
-      is = ap (λ (b : Bool). cond b (sheet ∷ []) []) (eq-eqb sheet.header.client.number client (own ∙ same));
-      there = subst (λ (c : ℕ). slice_get (sheets_sent run c) (taken (Chunks c) run.state.log) ≡ Some sheet) same there;
-    })
-chunk_case run other client sheet false e own there =
-    inl (record { count = ap one_if e; none = ap (λ (b : Bool). cond b (sheet ∷ []) []) (ap (λ (n : ℕ). eqb n client) own ∙ e) })
+module _ (adds : EventsAddThis) (settings : PlainSettings) (node client : ℕ) where
+  took_from : (events : List AgentEvent) (state : AgentState) → AllByRecursion BringsOwn events
+      → filter (is_by client) (sheets_of (after_from settings node state events).taken) ≡ filter (is_by client) (sheets_of state.taken) ++ chunks_in client events
+  took_from [] state own = sym (append-nil (filter (is_by client) (sheets_of state.taken)))
+  took_from (event ∷ events) state own =
+      took_from events (after_event settings node state event) own.1
+      ∙ ap (λ (sheets : List Sheet). filter (is_by client) sheets ++ chunks_in client events) ((adds settings node state).chunks event)
+      ∙ ap (λ (front : List Sheet). front ++ chunks_in client events) (filter-append (is_by client) (sheets_of state.taken) (brought_by event) ∙ ap (λ (last : List Sheet). filter (is_by client) (sheets_of state.taken) ++ last) (brings client event own.0))
+      ∙ append_assoc (filter (is_by client) (sheets_of state.taken)) (chunk_in client event) (chunks_in client events)
 
 module _ (W : PlainWorkload) (J : PlainJournal) where
   abbrev timed_at : ℕ → ℕ → List TimedPage
@@ -131,140 +138,48 @@ module _ (W : PlainWorkload) (J : PlainJournal) where
   abbrev drawn_at : ℕ → ℕ → List Draw
   drawn_at node client = draws_at J (place_of W.settings.clients node client)
 
-  -- the pages that a client of a node sends are its own
-  own_sheet : (run : NodeRun) → run.sends ≡ node_sends W J run.node → (client : ℕ) (sends : ClientSends) (n : ℕ) (sheet : Sheet) → slice_get run.sends client ≡ Some sends → slice_get (items sends.chunks) n ≡ Some sheet
-      → sheet.header.client.number ≡ client
-  own_sheet run are client sends n sheet there h =
-      let found : option_map (client_sends W J run.node) (slice_get (range_with_len 0 W.settings.clients) client) ≡ Some sends =
-      sym (slice_get-map (client_sends W J run.node) (range_with_len 0 W.settings.clients) client) ∙ ap (λ (all : List ClientSends). slice_get all client) (sym are) ∙ there
-      in
-      let m = mapped_from (client_sends W J run.node) (slice_get (range_with_len 0 W.settings.clients) client) sends found in
-      let number : m.item ≡ client = let is = range_found 0 W.settings.clients client m.item m.there in omega (arith, is) in
-      let is : sends ≡ client_sends W J run.node client = m.is ∙ ap (client_sends W J run.node) number in
-      let own = own_pages (record { node = run.node; number = client }) 0 (timed_at run.node client) (drawn_at run.node client) in
-      ap (λ (c : ClientId). c.number)
-      (all_at (λ (sheet : Sheet). sheet.header.client ≡ record { node = run.node; number = client }) (items (client_sends W J run.node client).chunks) n sheet own
-      (ap (λ (s : ClientSends). slice_get (items s.chunks) n) (sym is) ∙ h))
-
-  chunk_so : (run : NodeRun) → run.sends ≡ node_sends W J run.node → (other : ℕ) (event : AgentEvent) (o : Option ClientSends) → slice_get run.sends other ≡ o
-      → option_and_then (λ (s : ClientSends). option_map (λ sheet. Took (Chunk other sheet)) (next_of (Chunks other) run.state s.chunks)) o ≡ Some event → TakesSo run (steps.Chunk other) (brought_by event)
-  chunk_so run are other event None e met = let no : None ≡ Some event = met in absurd cc
-  chunk_so run are other event (Some sends) e met =
-      let n = taken (Chunks other) run.state.log in
-      let t = mapped_from (λ sheet. Took (Chunk other sheet)) (next_of (Chunks other) run.state sends.chunks) event met in
-      let there : slice_get (items sends.chunks) n ≡ Some t.item = slice_get-map (λ (item : Sent Sheet). item.item) sends.chunks n ∙ t.there in
-      let here : slice_get (sheets_sent run other) n ≡ Some t.item = ap (λ (o : Option ClientSends). slice_get (option_map_or (λ (s : ClientSends). items s.chunks) o []) n) e ∙ there in
-      subst (λ (event : AgentEvent). TakesSo run (steps.Chunk other) (brought_by event)) (sym t.is) (λ client. chunk_case run other client t.item (eqb other client) refl (own_sheet run are other sends n t.item e there) here)
-
-  other_so : {A : Type 0} (run : NodeRun) (step : Step) (f : A → AgentEvent) (event : AgentEvent) (o : Option A) → ((client : ℕ) → takes (Chunks client) step ≡ false) → ((a : A) → brought_by (f a) ≡ []) → option_map f o ≡ Some event
-      → TakesSo run step (brought_by event)
-  other_so run step f event o quiet none met = let t = mapped_from f o event met in none_so run step (brought_by event) quiet (ap brought_by t.is ∙ none t.item)
-
-  client_so : {A : Type 0} (run : NodeRun) (step : Step) (f : A → AgentEvent) (event : AgentEvent) (g : ClientSends → Option A) (o : Option ClientSends) → ((client : ℕ) → takes (Chunks client) step ≡ false) → ((a : A) → brought_by (f a) ≡ [])
-      → option_and_then (λ (s : ClientSends). option_map f (g s)) o ≡ Some event → TakesSo run step (brought_by event)
-  client_so run step f event g None quiet none met = let nothing : None ≡ Some event = met in absurd cc
-  client_so run step f event g (Some s) quiet none met = other_so run step f event (g s) quiet none met
-
-  takes_so : (heard : Messages) (run : NodeRun) → run.sends ≡ node_sends W J run.node → (step : Step) (event : AgentEvent) → event_of run heard step ≡ Some event → TakesSo run step (brought_by event)
-  takes_so heard run are (steps.Chunk client) event met = chunk_so run are client event (slice_get run.sends client) refl met
-  takes_so heard run are (steps.Crumb client) event met =
-      client_so run (steps.Crumb client) (λ crumb. Took (Crumbed client crumb)) event (λ (s : ClientSends). next_of (Crumbs client) run.state s.crumbs) (slice_get run.sends client) (λ c. refl) (λ a. refl) met
-  takes_so heard run are (steps.Trigger client) event met =
-      client_so run (steps.Trigger client) (λ trigger. Took (Triggered client trigger)) event (λ (s : ClientSends). next_of (Triggers client) run.state s.triggers) (slice_get run.sends client) (λ c. refl) (λ a. refl) met
-  takes_so heard run are steps.Ask event met =
-      other_so run steps.Ask (λ ask. Took (Asked ask)) event (slice_get (asks_to run.node heard) (taken Asks run.state.log)) (λ c. refl) (λ a. refl) met
-  takes_so heard run are steps.Turn event met = none_so run steps.Turn (brought_by event) (λ c. refl) (ap brought_by (sym (same_Some (Took Turn) event met)))
-  takes_so heard run are (steps.Given stamp) event met = other_so run (steps.Given stamp) (λ _. Gave _) event (slice_get run.state.hand 0) (λ c. refl) (λ a. refl) met
-  takes_so heard run are (steps.Missed stamp) event met = other_so run (steps.Missed stamp) (λ _. Gave _) event (slice_get run.state.hand 0) (λ c. refl) (λ a. refl) met
-  takes_so heard run are steps.Unread event met = other_so run steps.Unread (λ _. Gave _) event (slice_get run.state.hand 0) (λ c. refl) (λ a. refl) met
-
-  -- ---- all steps
-
-  record Keeps (run : NodeRun) : Type 0 where
-    sends : run.sends ≡ node_sends W J run.node
-    order : TakesInOrder run
-
-  -- one list more, where a step takes so
-  in_order : (run : NodeRun) (step : Step) (brought : List Sheet) (client : ℕ) → filter (is_by client) (sheets_of run.state.taken) ≡ take (taken (Chunks client) run.state.log) (sheets_sent run client)
-      → TakesNone step brought client ⊎ TakesNext run step brought client
-      → filter (is_by client) (sheets_of run.state.taken ++ brought) ≡ take (taken (Chunks client) run.state.log + one_if (takes (Chunks client) step)) (sheets_sent run client)
-  in_order run step brought client was (inl n) =
-      let k = taken (Chunks client) run.state.log in
-      let same : k ≡ k + one_if (takes (Chunks client) step) = let count = n.count in omega (arith, count) in
-      filter-append (is_by client) (sheets_of run.state.taken) brought ∙ ap₂ (λ a b. a ++ b) was n.none ∙ append-nil (take k (sheets_sent run client)) ∙ ap (λ (k : ℕ). take k (sheets_sent run client)) same
-  in_order run step brought client was (inr n) =
-      let k = taken (Chunks client) run.state.log in
-      let more : k + 1 ≡ k + one_if (takes (Chunks client) step) = let count = n.count in omega (arith, count) in
-      filter-append (is_by client) (sheets_of run.state.taken) brought ∙ ap₂ (λ a b. a ++ b) was n.is ∙ sym (take_next (sheets_sent run client) k n.sheet n.there) ∙ ap (λ (k : ℕ). take k (sheets_sent run client)) more
-
-  module _ (adds : EventsAddThis) where
-    step_keeps : (heard : Messages) (run stepped : NodeRun) → Keeps run → step_node W.settings heard run ≡ Some stepped → Keeps stepped
-    step_keeps heard run stepped keeps h =
-        let s = step_from W.settings heard run stepped h in
-        let noted = steps_are_noted adds W.settings heard run stepped h in
-        let after = perform W.settings s.rest run s.event in
-        let counted = λ (client : ℕ).
-        let whole : taken (Chunks client) (after.state.log ++ s.rest) ≡ taken (Chunks client) (run.state.log ++ run.left) =
-        ap (λ (r : NodeRun). taken (Chunks client) (r.state.log ++ r.left)) (sym s.is) ∙ ap (taken (Chunks client)) noted.log in
-        let now = sum_by-append (λ (step : Step). one_if (takes (Chunks client) step)) after.state.log s.rest in
-        let was = sum_by-append (λ (step : Step). one_if (takes (Chunks client) step)) run.state.log run.left in
-        let first = sum_by-cons (λ (step : Step). one_if (takes (Chunks client) step)) s.step s.rest in
-        let left = ap (taken (Chunks client)) s.left in
-        let all : taken (Chunks client) run.state.log + one_if (takes (Chunks client) s.step) ≡ taken (Chunks client) after.state.log = omega (arith, whole, now, was, first, left) in
-        all
-        in
-        subst Keeps (sym s.is)
-        (record {
-          sends = keeps.sends;
-          order = λ client.
-              ap (filter (is_by client)) ((adds W.settings run.node run.state).chunks s.event)
-              ∙ in_order run s.step (brought_by s.event) client (keeps.order client) (takes_so heard run keeps.sends s.step s.event s.met client)
-              ∙ ap (λ (k : ℕ). take k (sheets_sent run client)) (counted client);
-        })
-
-    performs_keeps : (run next : Run) → AllByRecursion Keeps run.nodes → Performs W.settings run next → AllByRecursion Keeps next.nodes
-    performs_keeps run next all (inl s) =
-        subst (λ (r : Run). AllByRecursion Keeps r.nodes) (sym s.result)
-        (all_set Keeps run.nodes s.place s.stepped all (step_keeps run.heard s.node s.stepped (all_at Keeps run.nodes s.place s.node all s.stands) s.ready))
-    performs_keeps run next all (inr k) = let s = heard_from run next k in subst (λ (r : Run). AllByRecursion Keeps r.nodes) (sym s.is) all
-
-    leads_keeps : (run last : Run) → AllByRecursion Keeps run.nodes → Leads W.settings run last → AllByRecursion Keeps last.nodes
-    leads_keeps run last all (Stays r) = all
-    leads_keeps run last all (Goes r next l p leads) = leads_keeps next last (performs_keeps run next all p) leads
-
-  starts_keep : (nodes : List ℕ) → AllByRecursion Keeps (map (node_start W J) nodes)
-  starts_keep [] = tt
-  starts_keep (node ∷ nodes) = (record { sends = refl; order = λ client. refl }, starts_keep nodes)
-
-  -- ---- the pages of a client rise
-
-  sent_rise : (run : NodeRun) → run.sends ≡ node_sends W J run.node → (client : ℕ) → Rises (sheets_sent run client)
-  sent_rise run are client = either (slice_get run.sends client) refl
+  -- what holds of no page, and of what each client of the node sends, holds of what is sent by this one
+  sent_as : (P : ℕ → List Sheet → Type 0) → ((client : ℕ) → P client []) → (run : NodeRun) → run.sends ≡ node_sends W J run.node → ((client : ℕ) → P client (items (client_sends W J run.node client).chunks)) → (client : ℕ) → P client (sheets_sent run client)
+  sent_as P none run are each client = either (slice_get run.sends client) refl
     where
-      either : (o : Option ClientSends) → slice_get run.sends client ≡ o → Rises (option_map_or (λ (s : ClientSends). items s.chunks) o [])
-      either None e = tt
+      either : (o : Option ClientSends) → slice_get run.sends client ≡ o → P client (option_map_or (λ (s : ClientSends). items s.chunks) o [])
+      either None e = none client
       either (Some sends) e =
           let found : option_map (client_sends W J run.node) (slice_get (range_with_len 0 W.settings.clients) client) ≡ Some sends =
           sym (slice_get-map (client_sends W J run.node) (range_with_len 0 W.settings.clients) client) ∙ ap (λ (all : List ClientSends). slice_get all client) (sym are) ∙ e
           in
           let m = mapped_from (client_sends W J run.node) (slice_get (range_with_len 0 W.settings.clients) client) sends found in
-          let r = sent_rises (record { node = run.node; number = m.item }) 0 (timed_at run.node m.item) (drawn_at run.node m.item) in
-          subst (λ (s : ClientSends). Rises (items s.chunks)) (sym m.is) r.rises
+          let number : m.item ≡ client = let is = range_found 0 W.settings.clients client m.item m.there in omega (arith, is) in
+          subst (λ (s : ClientSends). P client (items s.chunks)) (sym (m.is ∙ ap (client_sends W J run.node) number)) (each client)
 
-  kept_order : (nodes : List NodeRun) → AllByRecursion Keeps nodes → AllByRecursion TakesInOrder nodes
-  kept_order [] all = tt
-  kept_order (run ∷ nodes) all = (all.0.order, kept_order nodes all.1)
+  own_sent : (run : NodeRun) → run.sends ≡ node_sends W J run.node → (client : ℕ) → AllByRecursion (IsOwnSheet client) (sheets_sent run client)
+  own_sent run are client =
+      sent_as (λ client sheets. AllByRecursion (IsOwnSheet client) sheets) (λ client. tt) run are
+      (λ client.
+      all_each (λ (sheet : Sheet). sheet.header.client ≡ record { node = run.node; number = client }) (IsOwnSheet client) (items (client_sends W J run.node client).chunks) (λ sheet is. ap (λ (c : ClientId). c.number) is)
+      (own_pages (record { node = run.node; number = client }) 0 (timed_at run.node client) (drawn_at run.node client)))
+      client
 
-  kept_rise : (nodes : List NodeRun) → AllByRecursion Keeps nodes → AllByRecursion (λ (node : NodeRun). PagesRise (sheets_of node.state.taken)) nodes
-  kept_rise [] all = tt
-  kept_rise (run ∷ nodes) all = (
-    all_rise (sheets_of run.state.taken)
-        (λ client. subst Rises (sym (all.0.order client)) (taken_rises (taken (Chunks client) run.state.log) (sheets_sent run client) (sent_rise run all.0.sends client))),
-    kept_rise nodes all.1,
-  )
+  sent_rise : (run : NodeRun) → run.sends ≡ node_sends W J run.node → (client : ℕ) → Rises (sheets_sent run client)
+  sent_rise run are client =
+      sent_as (λ client sheets. Rises sheets) (λ client. tt) run are (λ client. (sent_rises (record { node = run.node; number = client }) 0 (timed_at run.node client) (drawn_at run.node client)).rises) client
+
+  module _ (adds : EventsAddThis) (heard : Messages) (run : NodeRun) (f : HasFronts W J heard run) where
+    in_order : TakesInOrder run
+    in_order client =
+        let front = f.chunks client in
+        let own = all_own run.events (λ other. all_front (IsOwnSheet other) (chunks_in other run.events) (f.chunks other).more (subst (AllByRecursion (IsOwnSheet other)) (f.chunks other).is (own_sent run f.sends other))) in
+        ap (λ (state : AgentState). filter (is_by client) (sheets_of state.taken)) f.comes
+        ∙ took_from adds W.settings run.node client run.events (start W.settings) own
+        ∙ sym (take-append_seam (chunks_in client run.events) front.more)
+        ∙ ap (take (length (chunks_in client run.events))) (sym front.is)
+        ∙ ap (λ (n : ℕ). take n (sheets_sent run client)) (sym (ap (taken (Chunks client)) (log_is W J adds heard run f) ∙ taken_chunks client run.events))
+
+    rising : PagesRise (sheets_of run.state.taken)
+    rising = all_rise (sheets_of run.state.taken) (λ client. subst Rises (sym (in_order client)) (taken_rises (taken (Chunks client) run.state.log) (sheets_sent run client) (sent_rise run f.sends client)))
 
 pub chunks_are_taken_in_order : EventsAddThis → ChunksAreTakenInOrder
-chunks_are_taken_in_order adds W J run leads = kept_order W J run.nodes (leads_keeps W J adds (run_start W J) run (starts_keep W J (range_with_len 0 W.settings.nodes)) leads)
+chunks_are_taken_in_order adds W J run leads = all_each (HasFronts W J run.heard) TakesInOrder run.nodes (in_order W J adds run.heard) (all_fronts W J adds run leads)
 
 pub taken_pages_rise : EventsAddThis → TakenPagesRise
-taken_pages_rise adds W J run leads = kept_rise W J run.nodes (leads_keeps W J adds (run_start W J) run (starts_keep W J (range_with_len 0 W.settings.nodes)) leads)
+taken_pages_rise adds W J run leads = all_each (HasFronts W J run.heard) (λ (node : NodeRun). PagesRise (sheets_of node.state.taken)) run.nodes (rising W J adds run.heard) (all_fronts W J adds run leads)

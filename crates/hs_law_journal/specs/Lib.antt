@@ -21,6 +21,7 @@ pub mod LawfulExamples
 pub mod UnlawfulExamples
 pub mod Turns
 pub mod Doings
+pub mod Fronts
 pub mod LoopPasses
 pub mod LoopPassExamples
 pub mod Performing
