@@ -1,9 +1,9 @@
--- Each coordinator's pass hears of every node what it said, or 64 messages, and each agent's pass takes of the asks what was sent up to
--- the pass before, or 64.
+-- Each agent's pass takes of the asks what was sent up to the pass before, or 64.
 use Rattle.std.proofs.Common.{◌≡◌, ◌⊎◌, inl, inr, ℕ, zero, suc, ◌+◌, ◌-◌, ◌/◌, ◌<◌, ◌≤◌, min, Bool, true, false, cond, List, [], ◌∷◌, ◌++◌, length, refl, sym, ap, subst, ◌∙◌, Option, Some, None, arith, map, take, find, option_map, slice_get, unwrap_or, replicate, count_by, leb, le-leb, eqb, eqb-true, eq-eqb, nat_le, length-append}
-use Rattle.hs_law_lockstep.proofs.Prelude.{flat_map, range_with_len, option_map_or, leb-true, slice_get-map, slice_get_within, same_Some, all_by_place, list_all_range, one_if, count_cons, count_append, list_all_from, NodeId, MAX_TAKEN, Messages, Step, AgentState, AgentEvent, after, PlainWorkload, operations_at, node_behind, Asks, ask_by, asks_behind, asks_to, is_from, NodeRun, Run, log_at, followed, asks_in_pace, passes_of, taken_in, steps_in, IsLaidOut, Known, Machine, machine_start, done_at, draws_in, pages_started, client_goes, pass_steps, agents_take, agents_give, told_of, coordinator_hears, passes, lockstep}
+use Rattle.hs_law_lockstep.proofs.Prelude.{flat_map, range_with_len, option_map_or, leb-true, slice_get-map, slice_get_within, same_Some, all_by_place, list_all_range, one_if, count_cons, count_append, list_all_from, NodeId, MAX_TAKEN, Messages, Step, AgentState, AgentEvent, after, PlainWorkload, operations_at, node_behind, Asks, ask_by, asks_behind, asks_to, is_from, NodeRun, Run, log_at, followed, asks_in_pace, passes_of, taken_in, steps_in, IsLaidOut, Known, Machine, machine_start, done_at, draws_in, pages_started, client_goes, pass_steps, agents_take, agents_give, told_of, coordinator_hears, passes, lockstep, option_unmap}
 use Rattle.hs_law_journal.specs.Pace.{said_in, due_of, due_by, has_due, heard_by, asks_enough}
 use Rattle.hs_law_lockstep.proofs.Followed.{number_is, count_nodes, nodes_of_journal, fits, take_there, give_there, hear_there, draws_are, starts_at, IsDone}
+use Rattle.hs_law_lockstep.proofs.Hears as hears
 use Rattle.hs_law_lockstep.proofs.Items.{taken_before, taken_whole, taken_last, asks_taken}
 use Rattle.hs_law_lockstep.proofs.Offers.{joined, take_front, take_all, steps_within, steps_of_all, done_given, done_taken}
 use Rattle.hs_law_lockstep.proofs.Passing.{gives}
@@ -66,93 +66,10 @@ due_same said other (suc n) same =
     let rest = due_same said other n (λ j low. same j (omega (arith, low))) in
     omega (arith, here, rest)
 
-module _ (run : Run) where
-  abbrev told_count : NodeId → List NodeRun → ℕ
-  told_count v nodes = count_by (is_node v) (flat_map (told_of run) nodes)
-
-  told_none : (nodes : List NodeRun) (start : ℕ) (v : NodeId) → map (λ (n : NodeRun). n.node) nodes ≡ range_with_len start (length nodes) → v.0 < start → told_count v nodes ≡ 0
-  told_none [] start v numbers low = refl
-  told_none (node ∷ nodes) start v numbers low =
-      let head : node.node ≡ start = cc in
-      let tail : map (λ (n : NodeRun). n.node) nodes ≡ range_with_len (start + 1) (length nodes) = cc in
-      let both = count_append (is_node v) (told_of run node) (flat_map (told_of run) nodes) in
-      let here = other_none node v (omega (arith, head, low)) in
-      let rest = told_none nodes (start + 1) v tail (omega (arith, low)) in
-      omega (arith, both, here, rest)
-    where
-      other_none : (node : NodeRun) (v : NodeId) → v.0 < node.node → count_by (is_node v) (told_of run node) ≡ 0
-      other_none node v low = none_of (min (length node.state.said - count_by (is_from (record { 0 = node.node })) run.heard) MAX_TAKEN) (differ (eqb node.node v.0) refl)
-        where
-          differ : (b : Bool) → eqb node.node v.0 ≡ b → eqb node.node v.0 ≡ false
-          differ true e = let same = eqb-true node.node v.0 e in absurd (omega (arith, same, low))
-          differ false e = e
-
-          none_of : (n : ℕ) → eqb node.node v.0 ≡ false → count_by (is_node v) (replicate n (record { 0 = node.node })) ≡ 0
-          none_of zero e = refl
-          none_of (suc n) e =
-              let first = count_cons (is_node v) (record { 0 = node.node }) (replicate n (record { 0 = node.node })) in
-              let here = ap one_if e in
-              let rest = none_of n e in
-              omega (arith, first, here, rest)
-
-  all_of : (n : ℕ) (node : NodeRun) → count_by (is_node (record { 0 = node.node })) (replicate n (record { 0 = node.node })) ≡ n
-  all_of zero node = refl
-  all_of (suc n) node =
-      let first = count_cons (is_node (record { 0 = node.node })) (record { 0 = node.node }) (replicate n (record { 0 = node.node })) in
-      let here = ap one_if (eq-eqb node.node node.node refl) in
-      let rest = all_of n node in
-      omega (arith, first, here, rest)
-
-  -- what is heard of a node is its own
-  told_own : (nodes : List NodeRun) (start i : ℕ) (node : NodeRun) → map (λ (n : NodeRun). n.node) nodes ≡ range_with_len start (length nodes) → slice_get nodes i ≡ Some node
-      → told_count (record { 0 = node.node }) nodes ≡ min (length node.state.said - count_by (is_from (record { 0 = node.node })) run.heard) MAX_TAKEN
-  told_own [] start i node numbers h = let never : None ≡ Some node = h in absurd cc
-  told_own (first ∷ nodes) start zero node numbers h =
-      let head : first.node ≡ start = cc in
-      let tail : map (λ (n : NodeRun). n.node) nodes ≡ range_with_len (start + 1) (length nodes) = cc in
-      let v : NodeId = record { 0 = first.node } in
-      let both = count_append (is_node v) (told_of run first) (flat_map (told_of run) nodes) in
-      let here = all_of (min (length first.state.said - count_by (is_from v) run.heard) MAX_TAKEN) first in
-      let rest = told_none nodes (start + 1) v tail (omega (arith, head)) in
-      subst (λ (node : NodeRun). told_count (record { 0 = node.node }) (first ∷ nodes) ≡ min (length node.state.said - count_by (is_from (record { 0 = node.node })) run.heard) MAX_TAKEN) (same_Some first node h)
-      (omega (arith, both, here, rest))
-  told_own (first ∷ nodes) start (suc i) node numbers h =
-      let head : first.node ≡ start = cc in
-      let tail : map (λ (n : NodeRun). n.node) nodes ≡ range_with_len (start + 1) (length nodes) = cc in
-      let v : NodeId = record { 0 = node.node } in
-      let both = count_append (is_node v) (told_of run first) (flat_map (told_of run) nodes) in
-      let number = number_at nodes (start + 1) i node tail h in
-      let none = not_of (min (length first.state.said - count_by (is_from (record { 0 = first.node })) run.heard) MAX_TAKEN) (differ (eqb first.node node.node) refl (omega (arith, head, number))) in
-      let rest = told_own nodes (start + 1) i node tail h in
-      omega (arith, both, none, rest)
-    where
-      number_at : (nodes : List NodeRun) (start i : ℕ) (node : NodeRun) → map (λ (n : NodeRun). n.node) nodes ≡ range_with_len start (length nodes) → slice_get nodes i ≡ Some node → start ≤ node.node
-      number_at [] start i node numbers h = let never : None ≡ Some node = h in absurd cc
-      number_at (x ∷ nodes) start zero node numbers h =
-          let head : x.node ≡ start = cc in
-          let same = ap (λ (n : NodeRun). n.node) (same_Some x node h) in
-          omega (arith, head, same)
-      number_at (x ∷ nodes) start (suc i) node numbers h =
-          let tail : map (λ (n : NodeRun). n.node) nodes ≡ range_with_len (start + 1) (length nodes) = cc in
-          let rest = number_at nodes (start + 1) i node tail h in
-          omega (arith, rest)
-
-      differ : (b : Bool) → eqb first.node node.node ≡ b → first.node < node.node → eqb first.node node.node ≡ false
-      differ true e low = let same = eqb-true first.node node.node e in absurd (omega (arith, same, low))
-      differ false e low = e
-
-      not_of : (n : ℕ) → eqb first.node node.node ≡ false → count_by (is_node (record { 0 = node.node })) (replicate n (record { 0 = first.node })) ≡ 0
-      not_of zero e = refl
-      not_of (suc n) e =
-          let head = count_cons (is_node (record { 0 = node.node })) (record { 0 = first.node }) (replicate n (record { 0 = first.node })) in
-          let here = ap one_if e in
-          let rest = not_of n e in
-          omega (arith, head, here, rest)
-
 -- ---- through the schedule
 
 module _ (k : Known) (W : PlainWorkload) (laid : IsLaidOut W) where
-  abbrev pub own : ℕ → NodeId
+  abbrev own : ℕ → NodeId
   own i = record { 0 = i }
 
   -- what an agent's pass takes of the asks is enough, where so much was heard
@@ -189,10 +106,6 @@ module _ (k : Known) (W : PlainWorkload) (laid : IsLaidOut W) where
       first_due zero run few = refl
       first_due (suc n) run few = absurd (omega (arith, few))
 
-  unmapped : {X Y : Type 0} (f : X → Y) (o : Option X) (y : Y) → option_map f o ≡ Some y → (x : X) × (o ≡ Some x) × (f x ≡ y)
-  unmapped f None y h = let never : None ≡ Some y = h in absurd cc
-  unmapped f (Some x) y h = (x, refl, same_Some (f x) y h)
-
   -- ---- a client draws
 
   asks_client : (made gone : ℕ) (m : Machine) → gone < length W.clients → Going k W laid made gone m → AsksPaced made m → AsksPaced made (client_goes W m gone)
@@ -207,10 +120,10 @@ module _ (k : Known) (W : PlainWorkload) (laid : IsLaidOut W) where
         rising = h.rising;
         last = h.last;
         heard = λ n few i run stands.
-            let u = unmapped (node_behind W m.journal new) (slice_get (followed W m.journal).nodes i) run (sym (slice_get-map (node_behind W m.journal new) (followed W m.journal).nodes i) ∙ stands) in
+            let u = option_unmap (node_behind W m.journal new) (slice_get (followed W m.journal).nodes i) run (sym (slice_get-map (node_behind W m.journal new) (followed W m.journal).nodes i) ∙ stands) in
             h.heard n few i u.0 u.1 ∙ ap (λ (r : NodeRun). due_of (said_in W.settings r) n) u.2;
         takes = λ n few i run stands.
-            let u = unmapped (node_behind W m.journal new) (slice_get (followed W m.journal).nodes i) run (sym (slice_get-map (node_behind W m.journal new) (followed W m.journal).nodes i) ∙ stands) in
+            let u = option_unmap (node_behind W m.journal new) (slice_get (followed W m.journal).nodes i) run (sym (slice_get-map (node_behind W m.journal new) (followed W m.journal).nodes i) ∙ stands) in
             subst (λ (r : NodeRun). TakesEnough i (take (h.marks n) (followed W m.journal).heard) n r) u.2 (h.takes n few i u.0 u.1);
       })
 
@@ -223,25 +136,11 @@ module _ (k : Known) (W : PlainWorkload) (laid : IsLaidOut W) where
     abbrev now : Run
     now = followed W (passes W m).journal
 
-    -- the machine before the coordinator hears
-    abbrev given : Machine
-    given = agents_give W (agents_take W m)
+    abbrev more : Messages
+    more = hears.more k W m g.keeps
 
-    pub given_done : IsDone W given
-    given_done = done_given k W m g.offers
-
-    -- the agents let the coordinator be
-    heard_given : (followed W given.journal).heard ≡ before.heard
-    heard_given =
-        (give_there k W (agents_take W m) (done_taken k W m g.offers)).heard
-        ∙ (take_there k W m g.offers.done).heard
-
-    abbrev pub more : Messages
-    more = (hear_there k W given given_done).more
-
-    pub heard_now : now.heard ≡ before.heard ++ more
-    heard_now =
-        (hear_there k W given given_done).heard ∙ ap (λ (front : Messages). front ++ more) heard_given
+    heard_now : now.heard ≡ before.heard ++ more
+    heard_now = hears.heard_now k W m g.keeps
 
     -- what was heard before stands in front
     front_now : (n : ℕ) → n ≤ length before.heard → take n now.heard ≡ take n before.heard
@@ -294,27 +193,6 @@ module _ (k : Known) (W : PlainWorkload) (laid : IsLaidOut W) where
           ∙ ap (λ (events : List AgentEvent). length (after W.settings later.node events).said) (take_all (length later.state.log) later.events (omega (arith, even)))
           ∙ ap (λ (state : AgentState). length state.said) (sym step.comes_later)
 
-      -- what the coordinator heard of the node in this pass
-      pub heard_more : count_by (is_from (own i)) more ≡ min (length later.state.said - count_by (is_from (own i)) before.heard) MAX_TAKEN
-      heard_more =
-          let hears = hear_there k W given given_done in
-          let u =
-          unmapped (node_behind W given.journal (coordinator_hears W given).journal) (slice_get (followed W given.journal).nodes i) later
-          (sym (slice_get-map (node_behind W given.journal (coordinator_hears W given).journal) (followed W given.journal).nodes i) ∙ ap (λ (nodes : List NodeRun). slice_get nodes i) (sym hears.nodes) ∙ stands)
-          in
-          let number = number_is k W given.journal i u.0 u.1 in
-          let numbers : map (λ (n : NodeRun). n.node) (followed W given.journal).nodes ≡ range_with_len 0 (length (followed W given.journal).nodes) =
-          (nodes_of_journal k W given.journal).numbers
-          ∙ ap (range_with_len 0) (sym (count_nodes k W given.journal))
-          in
-          let told = told_own (followed W given.journal) (followed W given.journal).nodes 0 i u.0 numbers u.1 in
-          hears.senders (own i)
-          ∙ ap (λ (v : ℕ). count_by (is_node (own v)) (flat_map (told_of (followed W given.journal)) (followed W given.journal).nodes)) (sym number)
-          ∙ told
-          ∙ ap (λ (v : ℕ). min (length u.0.state.said - count_by (is_from (own v)) (followed W given.journal).heard) MAX_TAKEN) number
-          ∙ ap (λ (heard : Messages). min (length u.0.state.said - count_by (is_from (own i)) heard) MAX_TAKEN) heard_given
-          ∙ ap (λ (n : NodeRun). min (length n.state.said - count_by (is_from (own i)) before.heard) MAX_TAKEN) u.2
-
       -- it has heard no more than was said
       heard_few : count_by (is_from (own i)) before.heard ≤ length later.state.said
       heard_few =
@@ -329,7 +207,7 @@ module _ (k : Known) (W : PlainWorkload) (laid : IsLaidOut W) where
           let same : made + 1 ≡ suc made = omega arith in
           let whole = ap (count_by (is_from (own i))) heard_now in
           let both = count_append (is_from (own i)) before.heard more in
-          let new = heard_more in
+          let new = hears.heard_more k W m g.keeps i later stands in
           let few = heard_few in
           let reflexive : made ≤ made = omega arith in
           let old = h.heard made reflexive i node step.stands in

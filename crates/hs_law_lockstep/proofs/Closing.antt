@@ -1,10 +1,10 @@
 -- Closing ends: each pass that finds something to do works something off, and there is only so much. So nothing is left over.
-use Rattle.std.proofs.Common.{◌≡◌, ◌⊎◌, inl, inr, ℕ, zero, suc, ◌+◌, ◌-◌, ◌*◌, ◌/◌, ◌<◌, ◌≤◌, min, Bool, true, false, cond, List, [], ◌∷◌, ◌++◌, length, refl, sym, ap, subst, ◌∙◌, Option, Some, None, arith, map, filter, option_map, slice_get, unwrap_or, count_by, eq-eqb, ltb, lt-ltb, ltb-true}
-use Rattle.hs_law_lockstep.proofs.Prelude.{AllByRecursion, range_with_len, option_map_or, both_true, suc-mul, mul-le-mul_right, and_parts, length-map, length-range_with_len, mul-add-lt, slice_get-map, slice_get_within, same_Some, filter_few, all_by_place, all_each, all_at, count_append, list_all_from, range_at, ClientId, MIN_SIZE, MAX_TAKEN, Message, Draw, Step, pages_of, PlainWorkload, DrawnPage, has_buffer, drawn_from, Sent, ClientSends, sent_chunks, sent_within, client_sends, node_sends, operations_at, draws_at, place_of, TimedPage, timed_pages, is_bare, rounds_of, Queue, Chunks, Crumbs, Triggers, Asks, takes, taken, asks_to, is_from, NodeRun, Run, node_start, run_start, followed, node_behind, run_behind, played, sent_to, supply, IsLaidOut, ScheduleIsBare, Known, Machine, machine_start, done_at, draws_in, pages_started, client_goes, pass_steps, passes, rounds, closing, closing_limit, lockstep, sum_to, sum_le, sum_lt, admitted_at, is_known, Speaks}
+use Rattle.std.proofs.Common.{◌≡◌, ◌⊎◌, inl, inr, ℕ, zero, suc, ◌+◌, ◌-◌, ◌*◌, ◌/◌, ◌<◌, ◌≤◌, min, Bool, true, false, cond, List, [], ◌∷◌, ◌++◌, length, refl, sym, ap, subst, ◌∙◌, Option, Some, None, arith, map, fold, filter, option_map, slice_get, unwrap_or, count_by, eq-eqb, ltb, lt-ltb, ltb-true}
+use Rattle.hs_law_lockstep.proofs.Prelude.{AllByRecursion, range_with_len, option_map_or, both_true, suc-mul, mul-le-mul_right, and_parts, length-map, length-range_with_len, mul-add-lt, slice_get-map, slice_get_within, same_Some, filter_few, all_by_place, all_each, all_at, count_append, list_all_from, range_at, ClientId, MIN_SIZE, MAX_TAKEN, Message, Draw, Step, pages_of, PlainWorkload, DrawnPage, has_buffer, drawn_from, Sent, ClientSends, sent_chunks, sent_within, client_sends, node_sends, operations_at, draws_at, place_of, TimedPage, timed_pages, is_bare, rounds_of, Queue, Chunks, Crumbs, Triggers, Asks, takes, taken, asks_to, is_from, NodeRun, Run, node_start, run_start, followed, node_behind, run_behind, played, sent_to, supply, IsLaidOut, ScheduleIsBare, Known, Machine, machine_start, done_at, draws_in, pages_started, client_goes, pass_steps, passes, rounds, closing, closing_limit, lockstep, sum_to, sum_le, sum_lt, admitted_at, is_known, Speaks, get_there, IsReached, clients_go, round}
 use Rattle.std.specs.Prelude.{sum_by}
 use Rattle.std.proofs.lemmas.List.Sums.{sum_by-cons}
 use Rattle.hs_law_journal.specs.Ends.{took_all, is_left_bare}
-use Rattle.hs_law_lockstep.proofs.Asks.{more, heard_more, heard_now}
+use Rattle.hs_law_lockstep.specs.Reaching as reaching
 use Rattle.hs_law_lockstep.proofs.Beside.{zipped_all}
 use Rattle.hs_law_lockstep.proofs.FewAsks.{asks_few, IsNumbered}
 use Rattle.hs_law_lockstep.proofs.Followed.{number_is, count_nodes, fits, draws_are, starts_at}
@@ -13,9 +13,12 @@ use Rattle.hs_law_lockstep.proofs.Items.{IsWithin, timely_at, crumbs_within, tri
 use Rattle.hs_law_lockstep.proofs.Passing.{gives}
 use Rattle.hs_law_lockstep.proofs.Pins.{HaveWeights}
 use Rattle.hs_law_lockstep.proofs.Progress.{IsWorked, pass_works, spoken}
-use Rattle.hs_law_lockstep.proofs.Rounds.{Going, PassOf, pass_of, later_at, pass_going, all_gone, rounds_end}
-use Rattle.hs_law_lockstep.proofs.Shapes.{all_covered, ends_at}
-use Rattle.hs_law_lockstep.proofs.Keeping.{own_sends}
+use Rattle.hs_law_lockstep.proofs.Hears.{more, heard_more, heard_now}
+use Rattle.hs_law_lockstep.proofs.PassFrom.{PassFrom, pass_from}
+use Rattle.hs_law_lockstep.proofs.Shapes.{all_covered, begins, ends_at, rounds_go}
+use Rattle.hs_law_lockstep.proofs.Standing as standing
+use Rattle.hs_law_lockstep.proofs.Standing.{kept}
+use Rattle.hs_law_lockstep.proofs.Keeping.{own_sends, Keeps}
 use Rattle.hs_law_lockstep.proofs.Working.{of_client, work, load}
 use Rattle.hs_law_journal.proofs.FewSent.{sends_few}
 
@@ -143,7 +146,13 @@ module _ (k : Known) (W : PlainWorkload) (laid : IsLaidOut W) (least : MIN_SIZE 
 
   -- ---- a pass
 
-  module _ (made : ℕ) (m : Machine) (g : Going k W laid made (length W.clients) m) where
+  later_at : (m : Machine) (i : ℕ) → i < W.settings.nodes → (later : NodeRun) × (slice_get (followed W m.journal).nodes i ≡ Some later)
+  later_at m i low = let count = count_nodes k W m.journal in get_there (followed W m.journal).nodes i (omega (arith, low, count))
+
+  module _ (m : Machine) (r : IsReached W m) where
+    abbrev g : Keeps k W m
+    g = kept k W m r
+
     abbrev before : Run
     before = followed W m.journal
 
@@ -164,17 +173,17 @@ module _ (k : Known) (W : PlainWorkload) (laid : IsLaidOut W) (least : MIN_SIZE 
 
     node_pass : (i : ℕ) → i < nodes → NodePass i
     node_pass i low =
-        let first = later_at k W laid m i low in
-        let second = later_at k W laid (passes W m) i low in
-        let whole = ap (count_by (is_from (record { 0 = i }))) (heard_now k W laid made m g) in
-        let both = count_append (is_from (record { 0 = i })) before.heard (more k W laid made m g) in
-        let new = heard_more k W laid made m g i second.0 second.1 in
+        let first = later_at m i low in
+        let second = later_at (passes W m) i low in
+        let whole = ap (count_by (is_from (record { 0 = i }))) (heard_now k W m g) in
+        let both = count_append (is_from (record { 0 = i })) before.heard (more k W m g) in
+        let new = heard_more k W m g i second.0 second.1 in
         record {
           node = first.0;
           later = second.0;
           stands = first.1;
           there = second.1;
-          worked = pass_works k W laid least weights made m g i first.0 second.0 first.1 second.1;
+          worked = pass_works k W laid least weights m g i first.0 second.0 first.1 second.1;
           load_is = ap (λ o. option_map_or load o 0) first.1;
           load_now = ap (λ o. option_map_or load o 0) second.1;
           work_is = ap (λ o. option_map_or (λ (run : NodeRun). work clients run.state.log) o 0) first.1;
@@ -239,8 +248,8 @@ module _ (k : Known) (W : PlainWorkload) (laid : IsLaidOut W) (least : MIN_SIZE 
       p : NodePass i
       p = node_pass i low
 
-      step : PassOf k W laid m i p.later
-      step = pass_of k W laid m g.offers g.keeps i p.later p.there
+      step : PassFrom k W m i p.later
+      step = pass_from k W m r i p.later p.there
 
       same_node : step.node ≡ p.node
       same_node = same_Some step.node p.node (sym step.stands ∙ p.stands)
@@ -475,7 +484,7 @@ module _ (k : Known) (W : PlainWorkload) (laid : IsLaidOut W) (least : MIN_SIZE 
     -- no more groups are admitted than triggers are sent
     pub admitted_few : (i : ℕ) → i < nodes → admitted_at run_of.nodes i ≤ sum_to (λ c. size_of (place_of clients i c)) clients
     admitted_few i low =
-        let node = later_at k W laid m i low in
+        let node = later_at m i low in
         let speaks : Speaks W.settings run_of.nodes node.0 = all_at (Speaks W.settings run_of.nodes) run_of.nodes i node.0 (spoken k W laid least weights m).nodes node.1 in
         let few = speaks.few in
         let is = ap (λ o. option_map_or (λ (run : NodeRun). run.state.admitted) o 0) node.1 in
@@ -504,7 +513,7 @@ module _ (k : Known) (W : PlainWorkload) (laid : IsLaidOut W) (least : MIN_SIZE 
 
     work_few : (i : ℕ) → i < nodes → work_at run_of i ≤ sum_to (λ c. size_of (place_of clients i c)) clients + all_of
     work_few i low =
-        let node = later_at k W laid m i low in
+        let node = later_at m i low in
         let is = ap (λ o. option_map_or (λ (run : NodeRun). work clients run.state.log) o 0) node.1 in
         let items = sum_le (of_client node.0.state.log) (λ c. size_of (place_of clients i c)) clients (taken_few i node.0 node.1) in
         let asks =
@@ -517,7 +526,7 @@ module _ (k : Known) (W : PlainWorkload) (laid : IsLaidOut W) (least : MIN_SIZE 
 
     heard_few : (i : ℕ) → i < nodes → heard_at run_of i ≤ load_at run_of i
     heard_few i low =
-        let node = later_at k W laid m i low in
+        let node = later_at m i low in
         let most = (fits k W m.journal).messages (record { 0 = i }) in
         let said = ap (λ o. option_map_or (λ (run : NodeRun). length run.state.said) o 0) node.1 in
         let is = ap (λ o. option_map_or load o 0) node.1 in
@@ -541,29 +550,15 @@ module _ (k : Known) (W : PlainWorkload) (laid : IsLaidOut W) (least : MIN_SIZE 
   closing_case n m true e on = e
   closing_case n m false e on = on e
 
-  closing_bare : (fuel n made : ℕ) (m : Machine) → rounds_of W ≤ made → Going k W laid made 0 m → Worked n (followed W m.journal) → 2 * (all_of + nodes * all_of) < n + fuel → is_bare (played W (closing fuel W m).journal) ≡ true
-  closing_bare zero n made m enough g w high = let few = passes_few m n w in absurd (omega (arith, few, high))
-  closing_bare (suc fuel) n made m enough g w high =
-      let gone = all_gone k W laid made m enough g in
-      let done : (place : ℕ) → place < length W.clients → done_at m place ≡ length (operations_at W place) =
-      λ place low.
-      let none : 0 ≤ place = omega arith in
-      let is = g.still place none low in
-      let cover = all_covered k W laid place low in
-      let more = mul-le-mul_right W.settings.stride enough in
-      omega (arith, is, cover, more)
-      in
-      closing_case fuel m (is_bare (played W m.journal)) refl
-      (λ unbare.
-      closing_bare fuel (n + 1) (made + 1) (passes W m) (omega (arith, enough)) (pass_going k W laid made m gone) (pass_more made m gone n done unbare w) (omega (arith, high)))
+  closing_bare : (fuel n : ℕ) (m : Machine) → IsReached W m → ((place : ℕ) → place < length W.clients → done_at m place ≡ length (operations_at W place)) → Worked n (followed W m.journal)
+      → 2 * (all_of + nodes * all_of) < n + fuel → is_bare (played W (closing fuel W m).journal) ≡ true
+  closing_bare zero n m r done w high = let few = passes_few m n w in absurd (omega (arith, few, high))
+  closing_bare (suc fuel) n m r done w high =
+      closing_case fuel m (is_bare (played W m.journal)) refl (λ unbare. closing_bare fuel (n + 1) (passes W m) (standing.pass_on W m r) done (pass_more m r n done unbare w) (omega (arith, high)))
 
   -- ---- the clause
 
-  -- nothing was worked on up to here
-  abbrev Even : ℕ → Machine → Type 0
-  Even made m = Worked 0 (followed W m.journal)
-
-  even_start : Even 0 (machine_start W)
+  even_start : Worked 0 (followed W (machine_start W).journal)
   even_start =
       subst (Worked 0) (starts_at k W)
       (record { enough = let loads = sum_le (load_at (run_start W (machine_start W).journal)) (λ i. 0) nodes (λ i low. none_at i (slice_get (run_start W (machine_start W).journal).nodes i) refl) in let none = sum_const 0 nodes in let zeroes : nodes * 0 ≡ 0 = omega arith in omega (arith, loads, none, zeroes) })
@@ -577,12 +572,12 @@ module _ (k : Known) (W : PlainWorkload) (laid : IsLaidOut W) (least : MIN_SIZE 
           start_at run (n ∷ numbers) zero e = let same = ap load (same_Some (node_start W (machine_start W).journal n) run e) in omega (arith, same)
           start_at run (n ∷ numbers) (suc i) e = start_at run numbers i e
 
-  even_client : (made gone : ℕ) (m : Machine) → gone < length W.clients → Going k W laid made gone m → Even made m → Even made (client_goes W m gone)
-  even_client made gone m below g w =
+  even_client : (gone : ℕ) (m : Machine) → IsReached W m → Worked 0 (followed W m.journal) → Worked 0 (followed W (client_goes W m gone).journal)
+  even_client gone m r w =
       let new = (client_goes W m gone).journal in
       subst (Worked 0)
       (draws_are k W m gone (min (done_at m gone + W.settings.stride) (length (operations_at W gone)))
-      (draws_in W m (gone / W.settings.clients) (pages_started W gone (min (done_at m gone + W.settings.stride) (length (operations_at W gone))) - pages_started W gone (done_at m gone))) g.offers.done)
+      (draws_in W m (gone / W.settings.clients) (pages_started W gone (min (done_at m gone + W.settings.stride) (length (operations_at W gone))) - pages_started W gone (done_at m gone))) (kept k W m r).done)
       (let loads = sum_le (load_at (run_behind W m.journal new (followed W m.journal))) (load_at (followed W m.journal)) nodes (λ i low. let same = load_same i in omega (arith, same)) in
       let works = sum_le (work_at (followed W m.journal)) (work_at (run_behind W m.journal new (followed W m.journal))) nodes (λ i low. let same = work_same i in omega (arith, same)) in
       let enough = w.enough in
@@ -603,10 +598,27 @@ module _ (k : Known) (W : PlainWorkload) (laid : IsLaidOut W) (least : MIN_SIZE 
           kept None = refl
           kept (Some run) = refl
 
+  clients_even : (first places : ℕ) (m : Machine) → first + places ≤ length W.clients → IsReached W m → Worked 0 (followed W m.journal) → Worked 0 (followed W (fold (client_goes W) m (range_with_len first places)).journal)
+  clients_even first zero m few r w = w
+  clients_even first (suc places) m few r w = clients_even (first + 1) places (client_goes W m first) (omega (arith, few)) (reaching.Goes m first (omega (arith, few)) r) (even_client first m r w)
+
+  rounds_even : (n : ℕ) (m : Machine) → IsReached W m → Worked 0 (followed W m.journal) → Worked 0 (followed W (rounds n W m).journal)
+  rounds_even zero m r w = w
+  rounds_even (suc n) m r w =
+      let gone = ((standing.machines_lead_on W).each m r).clients in
+      rounds_even n (round W m) (standing.pass_on W (clients_go W m) gone) (pass_even (clients_go W m) gone 0 (clients_even 0 (length W.clients) m (omega arith) r w))
+
   pub bare_all : is_bare (played W (lockstep W)) ≡ true
   bare_all =
-      let e = rounds_end k W laid Even even_client (λ made m g w. pass_even made m g 0 w) even_start in
-      closing_bare (closing_limit W) 0 e.made (rounds (rounds_of W) W (machine_start W)) e.enough e.going e.holds (omega arith)
+      let m = rounds (rounds_of W) W (machine_start W) in
+      closing_bare (closing_limit W) 0 m (standing.rounds_on W (rounds_of W) (machine_start W) reaching.Starts)
+      (λ place low.
+      let is = (rounds_go k W laid (rounds_of W) 0 (machine_start W) (begins k W laid)).done place low in
+      let cover = all_covered k W laid place low in
+      let zeroth : 0 + rounds_of W ≡ rounds_of W = omega arith in
+      let product = ap (λ n. n * W.settings.stride) zeroth in
+      omega (arith, is, cover, product))
+      (rounds_even (rounds_of W) (machine_start W) reaching.Starts even_start) (omega arith)
 
 pub schedule_is_bare : Known → ScheduleIsBare
 schedule_is_bare k W runs = bare_all k W runs.laid runs.size runs.weights

@@ -42,3 +42,6 @@ pub mod Fitting
 pub mod Telling
 pub mod Starting
 pub mod Ending
+pub mod Came
+pub mod Hears
+pub mod PassFrom

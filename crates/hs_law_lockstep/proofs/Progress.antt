@@ -6,10 +6,8 @@ use Rattle.hs_journal.specs.declared.journal.Step.TheVariants as steps
 use Rattle.hs_law_lockstep.proofs.Followed.{number_is, enough_of, left_is, steps_there, StepsThere, hear_there, IsDone}
 use Rattle.hs_law_journal.proofs.Groups.{Spoken, all_spoken}
 use Rattle.hs_law_lockstep.proofs.Held.{IsHeld}
-use Rattle.hs_law_lockstep.proofs.Keeping.{own_sends}
-use Rattle.hs_law_lockstep.proofs.Offers.{done_given, done_taken}
+use Rattle.hs_law_lockstep.proofs.Keeping.{own_sends, Keeps, take_keeps_held, give_keeps_held}
 use Rattle.hs_law_lockstep.proofs.Pins.{HaveWeights, can_report}
-use Rattle.hs_law_lockstep.proofs.Rounds.{Going}
 use Rattle.hs_law_lockstep.proofs.Takes.{before_turn, all_takes}
 use Rattle.hs_law_lockstep.proofs.Walks.{Walked, IsThrough, IsEmptied, takes_keep, gives_keep}
 use Rattle.hs_law_lockstep.proofs.Working.{work, load, Works, step_works, give_works}
@@ -28,7 +26,7 @@ module _ (k : Known) (W : PlainWorkload) (laid : IsLaidOut W) (least : MIN_SIZE 
     pub told : length node.state.said ≤ length later.state.said
     pub calm : work clients later.state.log ≤ work clients node.state.log → (node.state.pinned ≡ []) ⊎ (load later < load node)
 
-  module _ (made : ℕ) (m : Machine) (g : Going k W laid made (length W.clients) m) where
+  module _ (m : Machine) (g : Keeps k W m) where
     abbrev before : Run
     before = followed W m.journal
 
@@ -42,7 +40,7 @@ module _ (k : Known) (W : PlainWorkload) (laid : IsLaidOut W) (least : MIN_SIZE 
 
     can_at : (i : ℕ) (node : NodeRun) → slice_get before.nodes i ≡ Some node → (place : ℕ) (others : List ℕ) → node.state.pinned ≡ place ∷ others → CanReport W.settings node.state
     can_at i node stands =
-        let held = all_at (IsHeld W.settings) before.nodes i node g.keeps.held stands in
+        let held = all_at (IsHeld W.settings) before.nodes i node g.held stands in
         let number = number_is k W m.journal i node stands in
         let sends = own_sends k W m.journal i node stands ∙ ap (node_sends W m.journal) number in
         let speaks = all_at _ before.nodes i node (spoken m).nodes stands in
@@ -78,13 +76,13 @@ module _ (k : Known) (W : PlainWorkload) (laid : IsLaidOut W) (least : MIN_SIZE 
     take_node i node stands =
         let behind = node_behind W m.journal taken.journal node in
         let number = number_is k W m.journal i node stands in
-        let left = left_is k W m (pass_steps W m before) g.offers.done i node stands in
+        let left = left_is k W m (pass_steps W m before) g.done i node stands in
         let long = ap length left in
         let w =
         takes_keep k.noted W.settings before.heard (Taking i node stands) (taking_keeps i node stands) (pass_steps W m before node) behind left
         (all_append (λ (step : Step). is_offer step ≡ false) (before_turn W m before node) (steps.Turn ∷ [])
         (all_takes (λ (step : Step). is_offer step ≡ false) (λ client. refl) (λ client. refl) (λ client. refl) refl W m before node) (refl, tt))
-        (enough_of k W m g.offers.done i node stands)
+        (enough_of k W m g.done i node stands)
         (record {
           number = number;
           count = omega (arith, long);
@@ -117,16 +115,16 @@ module _ (k : Known) (W : PlainWorkload) (laid : IsLaidOut W) (least : MIN_SIZE 
                 absurd (omega (arith, log, none, count, turn))
             calm_case (inr rest) = rest
 
-    take_works : StepsThere k W m (pass_steps W m before) g.offers.done ThroughTook
+    take_works : StepsThere k W m (pass_steps W m before) g.done ThroughTook
     take_works =
-        steps_there k W m (pass_steps W m before) g.offers.done ThroughTook (λ node e. e.0)
+        steps_there k W m (pass_steps W m before) g.done ThroughTook (λ node e. e.0)
         (all_map (Walked W.settings before.heard ThroughTook) (node_behind W m.journal taken.journal) before.nodes
         (all_by_place (λ (node : NodeRun). Walked W.settings before.heard ThroughTook (node_behind W m.journal taken.journal node)) before.nodes take_node))
 
     -- ---- they give
 
     taken_done : IsDone W taken
-    taken_done = done_taken k W m g.offers
+    taken_done = (take_keeps_held k W m g).done
 
     abbrev middle : Run
     middle = followed W taken.journal
@@ -170,7 +168,7 @@ module _ (k : Known) (W : PlainWorkload) (laid : IsLaidOut W) (least : MIN_SIZE 
         (all_by_place (λ (node : NodeRun). Walked W.settings middle.heard EmptiedGave (node_behind W taken.journal given.journal node)) middle.nodes give_node))
 
     given_done : IsDone W given
-    given_done = done_given k W m g.offers
+    given_done = (give_keeps_held k W taken (take_keeps_held k W m g)).done
 
     -- ---- a node in a pass
 
