@@ -1,11 +1,11 @@
 -- The clauses that the loops of a run keep by themselves: the shape, whole passes, passes enough, that the journal can be followed, and
 -- that nothing is left over.
 use Rattle.std.proofs.Common.{◌≡◌, ℕ, zero, suc, ◌+◌, ◌<◌, ◌≤◌, Bool, true, ◌&&◌, ◌==◌, List, [], ◌∷◌, length, refl, sym, ap, ◌∙◌, Some, arith, map, slice_get, count_by, eq-eqb, nat_eq, nat_le, le-leb, zip}
-use Rattle.hs_law_run.proofs.Prelude.{AllByRecursion, range_with_len, list_all, and_from, length-map, length-range_with_len, length-filter, list_all_range_below, all_at, all_each, message, PlainJournal, EventsAddThis, start, pages_of, PlainWorkload, Sent, ClientSends, client_sends, node_sends, items_of, rounds_of, Chunks, Crumbs, Triggers, Asks, taken, asks_to, is_from, log_at, NodeRun, Run, is_done, passes_of, queues_of, NodeDoings, Doings, all_events, steps_of, last_state, all_heard, journal_of, node_at_end, run_of, IsPass, IsPlayable, ArePlayable, HaveRounds, DoingsAreFollowed, passes_are}
+use Rattle.hs_law_run.proofs.Prelude.{AllByRecursion, range_with_len, list_all, and_from, length-map, length-range_with_len, length-filter, list_all_range_below, all_at, all_each, message, PlainJournal, EventsAddThis, start, pages_of, PlainWorkload, Sent, ClientSends, client_sends, node_sends, items_of, rounds_of, Chunks, Crumbs, Triggers, Asks, taken, asks_to, is_from, log_at, NodeRun, Run, is_done, passes_of, queues_of, NodeDoings, Doings, all_events, steps_of, last_state, all_heard, journal_of, node_at_end, run_of, IsPass, ArePlayable, HaveRounds, DoingsAreFollowed, passes_are, HasNothingLeft}
 use Rattle.hs_law_journal.specs.Ends.{took_all, is_left_bare}
 use Rattle.hs_law_journal.specs.Passes.{is_whole_pass}
 use Rattle.hs_law_journal.specs.Shape.{same_counts}
-use Rattle.hs_law_run.specs.Facts.{HavePasses, HaveNothingPinned}
+use Rattle.hs_law_run.specs.Facts.{HavePasses}
 use Rattle.hs_law_run.specs.Playing.{CanBeFollowed, HaveShape, AreWholePasses, AreEnough, AreBare}
 use Rattle.hs_law_run.proofs.Following.{taken_chunks, taken_crumbs, taken_triggers, taken_asks}
 use Rattle.hs_law_run.proofs.Nodes.{node_there, log_there, own_log}
@@ -88,14 +88,14 @@ are_enough W d facts passes rounds =
 
 -- ---- L10
 
-module _ (adds : EventsAddThis) (W : PlainWorkload) (d : Doings) (facts : ArePlayable W d) (unpinned : HaveNothingPinned W d) where
+module _ (adds : EventsAddThis) (W : PlainWorkload) (d : Doings) where
   abbrev K : PlainJournal
   K = journal_of W d
 
   items_long : {A : Type 0} (items : List (Sent A)) → length (items_of items) ≡ length items
   items_long items = length-map items (λ item. item.item)
 
-  client_bare : (n : NodeDoings) → IsPlayable W d n → (client : ℕ) → client < W.settings.clients → took_all (steps_of (all_events n)) client (client_sends W K n.node client) ≡ true
+  client_bare : (n : NodeDoings) → HasNothingLeft W d n → (client : ℕ) → client < W.settings.clients → took_all (steps_of (all_events n)) client (client_sends W K n.node client) ≡ true
   client_bare n p client low =
       let events = all_events n in
       let log = steps_of events in
@@ -107,7 +107,7 @@ module _ (adds : EventsAddThis) (W : PlainWorkload) (d : Doings) (facts : ArePla
       (eq-eqb (taken (Crumbs client) log) (length s.crumbs) (taken_crumbs client events ∙ ap length t.crumbs ∙ items_long s.crumbs)))
       (eq-eqb (taken (Triggers client) log) (length s.triggers) (taken_triggers client events ∙ ap length t.triggers ∙ items_long s.triggers))
 
-  clients_bare : (n : NodeDoings) → IsPlayable W d n → (start count : ℕ) → start + count ≤ W.settings.clients
+  clients_bare : (n : NodeDoings) → HasNothingLeft W d n → (start count : ℕ) → start + count ≤ W.settings.clients
       → list_all (λ (c : ℕ × ClientSends). took_all (steps_of (all_events n)) c.0 c.1) (zip (range_with_len start (length (map (client_sends W K n.node) (range_with_len start count)))) (map (client_sends W K n.node) (range_with_len start count))) ≡ true
   clients_bare n p start zero few = refl
   clients_bare n p start (suc count) few =
@@ -116,8 +116,8 @@ module _ (adds : EventsAddThis) (W : PlainWorkload) (d : Doings) (facts : ArePla
       (zip (range_with_len (start + 1) (length (map (client_sends W K n.node) (range_with_len (start + 1) count)))) (map (client_sends W K n.node) (range_with_len (start + 1) count))))
       (client_bare n p start (omega (arith, few))) (clients_bare n p (start + 1) count (omega (arith, few)))
 
-  node_bare : (n : NodeDoings) → IsPlayable W d n → length (last_state W.settings n).pinned ≡ 0 → is_left_bare (run_of W d) (node_at_end W K n) ≡ true
-  node_bare n p none =
+  node_bare : (n : NodeDoings) → HasNothingLeft W d n → is_left_bare (run_of W d) (node_at_end W K n) ≡ true
+  node_bare n p =
       let state = last_state W.settings n in
       let log : state.log ≡ steps_of (all_events n) = own_log adds W.settings n.node (all_events n) in
       let clients = list_all (λ (c : ℕ × ClientSends). took_all state.log c.0 c.1) (zip (range_with_len 0 (length (node_sends W K n.node))) (node_sends W K n.node)) in
@@ -132,14 +132,12 @@ module _ (adds : EventsAddThis) (W : PlainWorkload) (d : Doings) (facts : ArePla
       (ap (λ log. list_all (λ (c : ℕ × ClientSends). took_all log c.0 c.1) (zip (range_with_len 0 (length (node_sends W K n.node))) (node_sends W K n.node))) log ∙ clients_bare n p 0 W.settings.clients (omega arith))
       (eq-eqb (taken Asks state.log) (length (asks_to n.node (all_heard d))) (ap (taken Asks) log ∙ taken_asks (all_events n) ∙ ap length p.asked)))
       (eq-eqb (count_by (is_from (record { 0 = n.node })) (all_heard d)) (length state.said) long))
-      (eq-eqb (length state.pinned) 0 none)
+      (eq-eqb (length state.pinned) 0 p.unpinned)
 
-  nodes_bare : (ns : List NodeDoings) → AllByRecursion (IsPlayable W d) ns → AllByRecursion (λ (n : NodeDoings). length (last_state W.settings n).pinned ≡ 0) ns
-      → list_all (is_left_bare (run_of W d)) (map (node_at_end W K) ns) ≡ true
-  nodes_bare [] each none = refl
-  nodes_bare (n ∷ ns) each none =
-      and_from (is_left_bare (run_of W d) (node_at_end W K n)) (list_all (is_left_bare (run_of W d)) (map (node_at_end W K) ns)) (node_bare n each.0 none.0) (nodes_bare ns each.1 none.1)
+  nodes_bare : (ns : List NodeDoings) → AllByRecursion (HasNothingLeft W d) ns → list_all (is_left_bare (run_of W d)) (map (node_at_end W K) ns) ≡ true
+  nodes_bare [] left = refl
+  nodes_bare (n ∷ ns) left = and_from (is_left_bare (run_of W d) (node_at_end W K n)) (list_all (is_left_bare (run_of W d)) (map (node_at_end W K) ns)) (node_bare n left.0) (nodes_bare ns left.1)
 
 pub are_bare : DoingsAreFollowed → EventsAddThis → AreBare
-are_bare follows adds W d facts unpinned =
-    ap (λ (run : Run). list_all (is_left_bare run) run.nodes) (follows W d facts) ∙ nodes_bare adds W d facts unpinned d.nodes facts.each unpinned
+are_bare follows adds W d facts left =
+    ap (λ (run : Run). list_all (is_left_bare run) run.nodes) (follows W d facts) ∙ nodes_bare adds W d d.nodes left

@@ -1,9 +1,9 @@
 -- What a story does, as doings told pass by pass.
-use Rattle.std.proofs.Common.{◌≡◌, ℕ, suc, ◌+◌, ◌<◌, ◌≤◌, Bool, true, false, List, [], ◌∷◌, length, refl, sym, ap, subst, ◌∙◌, Option, Some, unwrap_or, arith, map, filter, slice_get, count_by, nat_lt, ltb-true, ltb-false}
-use Rattle.hs_law_run.proofs.Prelude.{AllByRecursion, range_with_len, map_range_at, all_each, all_by_place, message, Draw, PlainJournal, sheets_of, AgentState, start, AgentEvent, after, PlainWorkload, ClientSends, client_sends, draws_at, place_of, ops_of, items_of, IsTogether, asks_to, is_from, draw_answer, IsValid, NodeDoings, all_events, events_in, state_after, last_state, chunks_in, crumbs_in, triggers_in, asks_in, heard_in, all_heard, journal_of, IsPass, IsOwn, HandsReady, EndsPass, IsPlayable, EndOffersFrom, AreTurns, PoolEndsGoOn, Story, added, node_doings, doings_of, draws_of, sends_at, IsQueueStory, sent_by, IsStory}
+use Rattle.std.proofs.Common.{◌≡◌, ℕ, suc, ◌<◌, ◌≤◌, List, [], length, sym, ap, subst, ◌∙◌, Option, unwrap_or, arith, map, filter, slice_get, count_by, append-nil}
+use Rattle.hs_law_run.proofs.Prelude.{AllByRecursion, range_with_len, map_range_at, all_each, all_by_place, message, Draw, PlainJournal, sheets_of, AgentState, start, AgentEvent, after, PlainWorkload, ClientSends, client_sends, draws_at, place_of, ops_of, items_of, IsTogether, asks_to, is_from, draw_answer, IsValid, NodeDoings, all_events, events_in, state_after, last_state, chunks_in, crumbs_in, triggers_in, asks_in, heard_in, all_heard, journal_of, IsPass, IsOwn, HandsReady, EndsPass, IsPlayable, AreTurns, PoolEndsGoOn, Story, added, node_doings, doings_of, draws_of, sends_at, IsStory, HasNothingLeft, EndsPasses, IsFront}
 use Rattle.hs_law_sends.specs.Sending.{sends_of}
 use Rattle.hs_law_run.specs.Facts.{TookAllOf}
-use Rattle.hs_law_run.specs.Stories.{NodeStory, state_by, TakesFrom, TalksWith, PoolsWith, IsNodeStory}
+use Rattle.hs_law_run.specs.Stories.{state_by, IsNodeStory}
 use Rattle.hs_law_run.specs.Stories as stories
 use Rattle.hs_law_run.proofs.PoolOf.{IsDrawnFor, IsPoolOf}
 use Rattle.hs_law_run.proofs.Grown.{mapped_long, unmapped_at, grown, grown_all, grown_beyond}
@@ -60,39 +60,19 @@ module _ (W : PlainWorkload) (s : Story) (story : IsStory W s) where
 
     -- ---- what may be told
 
-    said_before : (k : ℕ) → count_by (is_from (record { 0 = node })) (heard_in (doings_of W s) k) ≤ length (state_after W.settings (node_doings s node) k).said
-    said_before k = either (nat_lt s.passes k) refl
-      where
-        either : (b : Bool) → nat_lt s.passes k ≡ b → count_by (is_from (record { 0 = node })) (heard_in (doings_of W s) k) ≤ length (state_after W.settings (node_doings s node) k).said
-        either true e =
-            let high = ltb-true s.passes k e in
-            let h = ap (count_by (is_from (record { 0 = node }))) (heard_beyond k (omega (arith, high))) in
-            let t = ap (λ (events : List AgentEvent). length (after W.settings node events).said) (events_beyond k (omega (arith, high))) in
-            let all = (story.each node low).talks.said_before s.passes (omega arith) in
-            omega (arith, h, t, all)
-        either false e =
-            let few = ltb-false s.passes k e in
-            let h = ap (count_by (is_from (record { 0 = node }))) (heard_are k few) in
-            let t = ap (λ (state : AgentState). length state.said) (state_there k few) in
-            let some = (story.each node low).talks.said_before k few in
-            omega (arith, h, t, some)
+    said_before : (k : ℕ) → k ≤ s.passes → count_by (is_from (record { 0 = node })) (heard_in (doings_of W s) k) ≤ length (state_after W.settings (node_doings s node) k).said
+    said_before k few =
+        let h = ap (count_by (is_from (record { 0 = node }))) (heard_are k few) in
+        let t = ap (λ (state : AgentState). length state.said) (state_there k few) in
+        let some = (story.each node low).talks.said_before k few in
+        omega (arith, h, t, some)
 
-    asked_before : (k : ℕ) → length (asks_in (events_in (node_doings s node) (suc k))) ≤ length (asks_to node (heard_in (doings_of W s) k))
-    asked_before k = either (nat_lt k s.passes) refl
-      where
-        either : (b : Bool) → nat_lt k s.passes ≡ b → length (asks_in (events_in (node_doings s node) (suc k))) ≤ length (asks_to node (heard_in (doings_of W s) k))
-        either true e =
-            let few = ltb-true k s.passes e in
-            let h = ap (λ heard. length (asks_to node heard)) (heard_are k (omega (arith, few))) in
-            let t = ap (λ (events : List AgentEvent). length (asks_in events)) (events_are (suc k) (omega (arith, few))) in
-            let some = (story.each node low).talks.asked_before k few in
-            omega (arith, h, t, some)
-        either false e =
-            let high = ltb-false k s.passes e in
-            let h = ap (λ heard. length (asks_to node heard)) (heard_beyond k high) in
-            let t = ap (λ (events : List AgentEvent). length (asks_in events)) (events_beyond (suc k) (omega (arith, high))) in
-            let all = ap length (story.each node low).talks.asks_all in
-            omega (arith, h, t, all)
+    asked_before : (k : ℕ) → k < s.passes → length (asks_in (events_in (node_doings s node) (suc k))) ≤ length (asks_to node (heard_in (doings_of W s) k))
+    asked_before k few =
+        let h = ap (λ heard. length (asks_to node heard)) (heard_are k (omega (arith, few))) in
+        let t = ap (λ (events : List AgentEvent). length (asks_in events)) (events_are (suc k) (omega (arith, few))) in
+        let some = (story.each node low).talks.asked_before k few in
+        omega (arith, h, t, some)
 
     took : IsValid W → (client : ℕ) → client < W.settings.clients → TookAllOf W (journal_of W (doings_of W s)) (node_doings s node) client
     took valid client few =
@@ -104,16 +84,30 @@ module _ (W : PlainWorkload) (s : Story) (story : IsStory W s) where
           triggers = ap (triggers_in client) all_events_are ∙ t.triggers_all ∙ ap (λ (c : ClientSends). items_of c.triggers) sends;
         }
 
-    pub is_playable : IsValid W → IsPlayable W (doings_of W s) (node_doings s node)
-    is_playable valid =
+    pub nothing_left : IsValid W → HasNothingLeft W (doings_of W s) (node_doings s node)
+    nothing_left valid =
         record {
-          own = subst (AllByRecursion (IsOwn W)) (sym all_events_are) (story.each node low).own;
           took = took valid;
           asked = ap asks_in all_events_are ∙ (story.each node low).talks.asks_all ∙ ap (asks_to node) (sym all_heard_are);
           heard = ap (filter (is_from (record { 0 = node }))) all_heard_are ∙ (story.each node low).talks.said_all ∙ ap (λ (state : AgentState). map (message (record { 0 = node })) state.said) (sym state_is);
+          unpinned = ap (λ (state : AgentState). length state.pinned) state_is ∙ (story.each node low).unpinned;
+        }
+
+    whole : {A : Type 0} {a b : List A} → a ≡ b → IsFront a b
+    whole {A} {a} {b} e = record { more = []; is = sym e ∙ sym (append-nil a) }
+
+    pub is_playable : IsValid W → IsPlayable W (doings_of W s) (node_doings s node)
+    is_playable valid =
+        let left = nothing_left valid in
+        let count = long in
+        record {
+          own = subst (AllByRecursion (IsOwn W)) (sym all_events_are) (story.each node low).own;
+          took = λ client few. let t = left.took client few in record { chunks = whole t.chunks; crumbs = whole t.crumbs; triggers = whole t.triggers };
+          asked = whole left.asked;
+          heard = whole left.heard;
           hands = subst (HandsReady W.settings node (start W.settings)) (sym all_events_are) (story.each node low).hands;
-          asked_before = asked_before;
-          said_before = said_before;
+          asked_before = λ k few. asked_before k (omega (arith, few, count));
+          said_before = λ k few. said_before k (omega (arith, few, count));
         }
 
     -- ---- passes
@@ -123,24 +117,11 @@ module _ (W : PlainWorkload) (s : Story) (story : IsStory W s) where
         all_by_place (IsPass W) (node_doings s node).passes
         (λ k pass h. let at = unmapped_at (added (s.nodes node).events) s.passes k pass h in subst (IsPass W) at.is ((story.each node low).ends k at.low).is_pass)
 
-    offers_from : (place : ℕ) (passes : List (List AgentEvent)) → ((i : ℕ) (pass : List AgentEvent) → slice_get passes i ≡ Some pass → EndsPass W (state_after W.settings (node_doings s node) (suc (place + i))) pass) → EndOffersFrom W (node_doings s node) place passes
-    offers_from place [] each = tt
-    offers_from place (pass ∷ passes) each =
-        let zeroth : place + 0 ≡ place = omega arith in (
-          subst (λ m. EndsPass W (state_after W.settings (node_doings s node) (suc m)) pass) zeroth (each 0 pass refl),
-          offers_from (suc place) passes (λ i p h. let next : place + suc i ≡ suc place + i = omega arith in subst (λ m. EndsPass W (state_after W.settings (node_doings s node) (suc m)) p) next (each (suc i) p h)),
-        )
-
-    ends_offers : (k : ℕ) (pass : List AgentEvent) → slice_get (node_doings s node).passes k ≡ Some pass → EndsPass W (state_after W.settings (node_doings s node) (suc (0 + k))) pass
-    ends_offers k pass h =
+    pub all_offers : EndsPasses W (node_doings s node)
+    all_offers k pass h =
         let at = unmapped_at (added (s.nodes node).events) s.passes k pass h in
-        let zeroth : k ≡ 0 + k = omega arith in
         let there = state_there (suc k) (let few = at.low in omega (arith, few)) in
-        subst (λ m. EndsPass W (state_after W.settings (node_doings s node) (suc m)) pass) zeroth
-        (subst (EndsPass W (state_after W.settings (node_doings s node) (suc k))) at.is (subst (λ (state : AgentState). EndsPass W state (added (s.nodes node).events k)) (sym there) ((story.each node low).ends k at.low)))
-
-    pub all_offers : EndOffersFrom W (node_doings s node) 0 (node_doings s node).passes
-    all_offers = offers_from 0 (node_doings s node).passes ends_offers
+        subst (EndsPass W (state_after W.settings (node_doings s node) (suc k))) at.is (subst (λ (state : AgentState). EndsPass W state (added (s.nodes node).events k)) (sym there) ((story.each node low).ends k at.low))
 
     -- ---- the pool
 

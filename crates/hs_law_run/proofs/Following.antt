@@ -1,6 +1,6 @@
 -- What was done, told pass by pass, is an order in which the journal is followed: each step is ready when it comes.
 use Rattle.std.proofs.Common.{◌≡◌, inl, inr, ℕ, zero, suc, ◌+◌, ◌<◌, ◌≤◌, Bool, true, false, ◌&&◌, cond, List, [], ◌∷◌, ◌++◌, length, set, take, drop, refl, sym, ap, subst, ◌∙◌, Option, Some, None, IsSome, arith, map, filter, option_map, slice_get, unwrap_or, count_by, eq-eqb, nat_eq, append-nil, append_assoc, take_all, ◌==◌}
-use Rattle.hs_law_run.proofs.Prelude.{AllByRecursion, flat_map, range_with_len, list_all, option_and_then, flat_map-append, filter-append, length-append, map-append, slice_get-map, same_Some, all_at, all_back, range_at, NodeId, Message, Messages, message, Step, PlainJournal, noted_as, EventsAddThis, AgentState, start, Chunk, Crumbed, Triggered, Asked, Answered, Given, Missed, Unread, AgentEvent, Took, Gave, after_event, after_from, after, step_of_answer, PlainSettings, PlainWorkload, Sent, ClientSends, client_sends, node_sends, items_of, Queue, Chunks, Crumbs, Triggers, Asks, taken, asks_behind, asks_to, NodeRun, Run, log_at, is_from, is_done, asks_more, joined, NodeDoings, Doings, all_events, events_in, steps_of, state_after, last_state, chunk_in, crumb_in, trigger_in, chunks_in, crumbs_in, triggers_in, asks_in, heard_in, all_heard, journal_of, node_at_end, run_of, IsOwn, HandsReady, IsPlayable, ArePlayable, DoingsAreFollowed}
+use Rattle.hs_law_run.proofs.Prelude.{AllByRecursion, flat_map, range_with_len, list_all, option_and_then, flat_map-append, filter-append, length-append, map-append, slice_get-map, same_Some, all_at, all_back, range_at, NodeId, Message, Messages, message, Step, PlainJournal, noted_as, EventsAddThis, AgentState, start, Chunk, Crumbed, Triggered, Asked, Answered, Given, Missed, Unread, AgentEvent, Took, Gave, after_event, after_from, after, step_of_answer, PlainSettings, PlainWorkload, Sent, ClientSends, client_sends, node_sends, items_of, Queue, Chunks, Crumbs, Triggers, Asks, taken, asks_behind, asks_to, NodeRun, Run, log_at, is_from, is_done, asks_more, joined, NodeDoings, Doings, all_events, events_in, steps_of, state_after, last_state, chunk_in, crumb_in, trigger_in, chunks_in, crumbs_in, triggers_in, asks_in, heard_in, all_heard, journal_of, node_at_end, run_of, IsOwn, HandsReady, IsPlayable, ArePlayable, DoingsAreFollowed, IsFront, slice_get_within}
 use Rattle.std.specs.Option.{option_to_list}
 use Rattle.std.proofs.lemmas.List.{drop_all}
 use Rattle.std.proofs.lemmas.List.Sums.{sum_by-cons, sum_by-append}
@@ -134,19 +134,23 @@ taken_asks events = counts_items Asks ask_in ask_counts events
 -- ---- one event
 
 -- the item that comes next is the one at this place
-item_at : {A : Type 0} (f : AgentEvent → List A) (before : List AgentEvent) (event : AgentEvent) (behind : List AgentEvent) (x : A) (all : List A) → f event ≡ x ∷ [] → flat_map f (before ++ event ∷ behind) ≡ all
+item_at : {A : Type 0} (f : AgentEvent → List A) (before : List AgentEvent) (event : AgentEvent) (behind : List AgentEvent) (x : A) (all : List A) → f event ≡ x ∷ [] → IsFront (flat_map f (before ++ event ∷ behind)) all
     → slice_get all (length (flat_map f before)) ≡ Some x
-item_at f before event behind x all is same =
-    ap (λ items. slice_get items (length (flat_map f before))) (sym same ∙ flat_map-append f before (event ∷ behind) ∙ ap (λ own. flat_map f before ++ (own ++ flat_map f behind)) is)
-    ∙ get_behind (flat_map f before) (flat_map f behind) x
+item_at f before event behind x all is front =
+    ap (λ items. slice_get items (length (flat_map f before)))
+    (front.is ∙ ap (λ first. first ++ front.more) (flat_map-append f before (event ∷ behind) ∙ ap (λ own. flat_map f before ++ (own ++ flat_map f behind)) is) ∙ append_assoc (flat_map f before) (x ∷ flat_map f behind) front.more)
+    ∙ get_behind (flat_map f before) (flat_map f behind ++ front.more) x
 
 next_item : {A : Type 0} (queue : Queue) (state : AgentState) (f : AgentEvent → List A) (before : List AgentEvent) (event : AgentEvent) (behind : List AgentEvent) (x : A) (items : List (Sent A)) → f event ≡ x ∷ [] → state.log ≡ steps_of before
-    → taken queue (steps_of before) ≡ length (flat_map f before) → flat_map f (before ++ event ∷ behind) ≡ items_of items → next_of queue state items ≡ Some x
+    → taken queue (steps_of before) ≡ length (flat_map f before) → IsFront (flat_map f (before ++ event ∷ behind)) (items_of items) → next_of queue state items ≡ Some x
 next_item queue state f before event behind x items is log count same =
     sym (slice_get-map (λ (item : Sent _). item.item) items (taken queue state.log))
     ∙ ap (λ l. slice_get (items_of items) (taken queue l)) log
     ∙ ap (slice_get (items_of items)) count
     ∙ item_at f before event behind x (items_of items) is same
+
+front_so : {A : Type 0} {a b c : List A} → a ≡ b → IsFront b c → IsFront a c
+front_so {A} {a} {b} {c} e f = record { more = f.more; is = f.is ∙ ap (λ first. first ++ f.more) (sym e) }
 
 own_item : {A : Type 0} (client : ℕ) (x : A) → cond (nat_eq client client) (x ∷ []) [] ≡ x ∷ []
 own_item client x = ap (λ b. cond b (x ∷ []) []) (eq-eqb client client refl)
@@ -184,23 +188,23 @@ module _ (adds : EventsAddThis) (on : EventsGoOn) (W : PlainWorkload) (d : Doing
         ap (option_and_then (λ (s : ClientSends). option_map (λ sheet. Took (Chunk client sheet)) (next_of (Chunks client) (after settings n.node before) s.chunks))) (sends_at n client low)
         ∙ ap (option_map (λ sheet. Took (Chunk client sheet)))
         (next_item (Chunks client) (after settings n.node before) (chunk_in client) before (Took (Chunk client sheet)) behind sheet sends.chunks (own_item client sheet) (own_log adds settings n.node before) (taken_chunks client before)
-        (ap (chunks_in client) (sym all) ∙ (p.took client low).chunks))
+        (front_so (ap (chunks_in client) (sym all)) (p.took client low).chunks))
     step_ready before (Took (Crumbed client crumb)) behind left all few =
         let low = (all_back (IsOwn W) before (Took (Crumbed client crumb) ∷ behind) (subst (AllByRecursion (IsOwn W)) all p.own)).0 in
         let sends = client_sends W J n.node client in
         ap (option_and_then (λ (s : ClientSends). option_map (λ crumb. Took (Crumbed client crumb)) (next_of (Crumbs client) (after settings n.node before) s.crumbs))) (sends_at n client low)
         ∙ ap (option_map (λ crumb. Took (Crumbed client crumb)))
         (next_item (Crumbs client) (after settings n.node before) (crumb_in client) before (Took (Crumbed client crumb)) behind crumb sends.crumbs (own_item client crumb) (own_log adds settings n.node before) (taken_crumbs client before)
-        (ap (crumbs_in client) (sym all) ∙ (p.took client low).crumbs))
+        (front_so (ap (crumbs_in client) (sym all)) (p.took client low).crumbs))
     step_ready before (Took (Triggered client trigger)) behind left all few =
         let low = (all_back (IsOwn W) before (Took (Triggered client trigger) ∷ behind) (subst (AllByRecursion (IsOwn W)) all p.own)).0 in
         let sends = client_sends W J n.node client in
         ap (option_and_then (λ (s : ClientSends). option_map (λ trigger. Took (Triggered client trigger)) (next_of (Triggers client) (after settings n.node before) s.triggers))) (sends_at n client low)
         ∙ ap (option_map (λ trigger. Took (Triggered client trigger)))
         (next_item (Triggers client) (after settings n.node before) (trigger_in client) before (Took (Triggered client trigger)) behind trigger sends.triggers (own_item client trigger) (own_log adds settings n.node before) (taken_triggers client before)
-        (ap (triggers_in client) (sym all) ∙ (p.took client low).triggers))
+        (front_so (ap (triggers_in client) (sym all)) (p.took client low).triggers))
     step_ready before (Took (Asked ask)) behind left all few =
-        let at = item_at ask_in before (Took (Asked ask)) behind ask (asks_to n.node (all_heard d)) refl (ap asks_in (sym all) ∙ p.asked) in
+        let at = item_at ask_in before (Took (Asked ask)) behind ask (asks_to n.node (all_heard d)) refl (front_so (ap asks_in (sym all)) p.asked) in
         let parts : asks_to n.node (all_heard d) ≡ asks_to n.node heard ++ asks_behind n.node heard more = ap (asks_to n.node) whole ∙ asks_more n.node [] heard more in
         let count = ap length (flat_map-append ask_in before (Took (Asked ask) ∷ [])) ∙ length-append (asks_in before) (ask ∷ []) in
         let low : length (asks_in before) < length (asks_to n.node heard) = omega (arith, few, count) in
@@ -280,7 +284,7 @@ module _ (adds : EventsAddThis) (on : EventsGoOn) (W : PlainWorkload) (d : Doing
         let events_are : events_in n (suc k) ≡ events_in n k ++ pass = take_next n.passes k pass h in
         let all : all_events n ≡ events_in n k ++ (pass ++ joined (drop (suc k) n.passes)) = sym (parted n.passes k) ∙ ap (λ rest. events_in n k ++ rest) (drop_next n.passes k pass h) in
         let few : length (asks_in (events_in n k ++ pass)) ≤ length (asks_to n.node heard) =
-        subst (λ events. length (asks_in events) ≤ length (asks_to n.node heard)) events_are (subst (λ messages. length (asks_in (events_in n (suc k))) ≤ length (asks_to n.node messages)) (sym is) (p.asked_before k))
+        subst (λ events. length (asks_in events) ≤ length (asks_to n.node heard)) events_are (subst (λ messages. length (asks_in (events_in n (suc k))) ≤ length (asks_to n.node messages)) (sym is) (p.asked_before k (slice_get_within n.passes k pass h)))
         in
         subst (λ events. Leads settings (with_nodes (front ++ behind_passes k n ∷ rest) told heard) (with_nodes (front ++ node_at n events left ∷ rest) told heard)) (sym events_are)
         (subst (λ steps. Leads settings (with_nodes (front ++ node_at n (events_in n k) steps ∷ rest) told heard) (with_nodes (front ++ node_at n (events_in n k ++ pass) left ∷ rest) told heard)) (sym steps_are)
@@ -364,21 +368,23 @@ module _ (adds : EventsAddThis) (on : EventsGoOn) (W : PlainWorkload) (d : Doing
             let name : record { 0 = n.node } ≡ node = ap (λ v. record { 0 = v }) found.2 in
             let own : is_from node m ≡ true = eq-eqb node.0 node.0 refl in
             let before = heard_in d k ++ a in
-            let filtered : map (message node) (last_state settings n).said ≡ filter (is_from node) before ++ m ∷ filter (is_from node) (b ++ rest) =
+            let filtered : map (message node) (last_state settings n).said ≡ filter (is_from node) before ++ m ∷ (filter (is_from node) (b ++ rest) ++ p.heard.more) =
             ap (λ node. map (message node) (last_state settings n).said) (sym name)
-            ∙ sym p.heard
-            ∙ ap (λ node. filter (is_from node) (all_heard d)) name
-            ∙ ap (filter (is_from node)) all
+            ∙ p.heard.is
+            ∙ ap (λ node. filter (is_from node) (all_heard d) ++ p.heard.more) name
+            ∙ ap (λ first. first ++ p.heard.more)
+            (ap (filter (is_from node)) all
             ∙ filter-append (is_from node) before (m ∷ (b ++ rest))
-            ∙ ap (λ t. filter (is_from node) before ++ cond t (m ∷ filter (is_from node) (b ++ rest)) (filter (is_from node) (b ++ rest))) own
+            ∙ ap (λ t. filter (is_from node) before ++ cond t (m ∷ filter (is_from node) (b ++ rest)) (filter (is_from node) (b ++ rest))) own)
+            ∙ append_assoc (filter (is_from node) before) (m ∷ filter (is_from node) (b ++ rest)) p.heard.more
             in
             let at : slice_get (map (message node) (last_state settings n).said) (length (filter (is_from node) before)) ≡ Some m =
-            ap (λ items. slice_get items (length (filter (is_from node) before))) filtered ∙ get_behind (filter (is_from node) before) (filter (is_from node) (b ++ rest)) m
+            ap (λ items. slice_get items (length (filter (is_from node) before))) filtered ∙ get_behind (filter (is_from node) before) (filter (is_from node) (b ++ rest) ++ p.heard.more) m
             in
             let count : count_by (is_from node) before ≡ length (filter (is_from node) before) = counted (is_from node) before in
             let said = said_begins n (suc k) in
             let few : count_by (is_from node) (heard_in d (suc k)) ≤ length (state_after settings n (suc k)).said =
-            subst (λ (node : NodeId). count_by (is_from node) (heard_in d (suc k)) ≤ length (state_after settings n (suc k)).said) name (p.said_before (suc k))
+            subst (λ (node : NodeId). count_by (is_from node) (heard_in d (suc k)) ≤ length (state_after settings n (suc k)).said) name (p.said_before (suc k) (low_pass d.nodes node.0 n facts.passes found.1))
             in
             let parts : count_by (is_from node) (heard_in d (suc k)) ≡ count_by (is_from node) before + count_by (is_from node) (m ∷ b) =
             ap (count_by (is_from node)) (next_is ∙ ap (λ c. heard_in d k ++ c) is ∙ sym (append_assoc (heard_in d k) a (m ∷ b))) ∙ sum_by-append (λ (m : Message). cond (is_from node m) 1 0) before (m ∷ b)
@@ -391,6 +397,9 @@ module _ (adds : EventsAddThis) (on : EventsGoOn) (W : PlainWorkload) (d : Doing
             ∙ ap (λ i. option_map (message node) (slice_get (last_state settings n).said i)) count
             ∙ told_of node (last_state settings n).said (length (filter (is_from node) before)) m at
           where
+            low_pass : (ns : List NodeDoings) (v : ℕ) (n : NodeDoings) → AllByRecursion (λ (n : NodeDoings). length n.passes ≡ length d.heard) ns → slice_get ns v ≡ Some n → suc k ≤ length n.passes
+            low_pass ns v n each h = let long = all_at (λ (n : NodeDoings). length n.passes ≡ length d.heard) ns v n each h in let within = slice_get_within d.heard k chunk there in omega (arith, long, within)
+
             counted : (test : Message → Bool) (ms : Messages) → count_by test ms ≡ length (filter test ms)
             counted test [] = refl
             counted test (m ∷ ms) = sum_by-cons (λ (m : Message). cond (test m) 1 0) m ms ∙ either (test m) (counted test ms)

@@ -1,6 +1,6 @@
 -- A story has all that makes its journal lawful.
 use Rattle.std.proofs.Common.{◌≡◌, ℕ, zero, suc, ◌+◌, ◌*◌, ◌<◌, ◌≤◌, List, [], ◌∷◌, length, refl, sym, ap, subst, ◌∙◌, Option, Some, unwrap_or, arith, map, slice_get, count_by, nat_lt}
-use Rattle.hs_law_run.proofs.Prelude.{AllByRecursion, range_with_len, length-map, length-reverse, all_each, all_by_place, filter_few, Message, EventsAddThis, AgentState, AgentEvent, pages_of, Operation, PlainWorkload, count_started, TimedPagesAreTimely, Sent, ClientSends, client_sends, sent_within, place_of, ops_of, TimedPage, timed_pages, asks_to, is_from, IsValid, NodeDoings, events_in, last_state, chunks_in, crumbs_in, triggers_in, asks_in, journal_of, node_at_end, run_of, IsPass, IsPlayable, ArePlayable, HaveRounds, EndOffersFrom, IsToldInRounds, TakesInPace, AsksInPace, KeepsPace, draw_answer, IsPooled, IsPooledUnread, done_by, agent_of, Story, added, node_doings, doings_of, draws_of, sends_at, IsQueueStory, sent_by, IsStory}
+use Rattle.hs_law_run.proofs.Prelude.{AllByRecursion, range_with_len, length-map, length-reverse, all_each, all_by_place, filter_few, Message, EventsAddThis, AgentState, AgentEvent, pages_of, Operation, PlainWorkload, count_started, TimedPagesAreTimely, Sent, ClientSends, client_sends, sent_within, place_of, ops_of, TimedPage, timed_pages, asks_to, is_from, IsValid, NodeDoings, events_in, chunks_in, crumbs_in, triggers_in, asks_in, journal_of, node_at_end, run_of, IsPass, IsPlayable, ArePlayable, HaveRounds, IsToldInRounds, TakesInPace, AsksInPace, KeepsPace, draw_answer, IsPooled, IsPooledUnread, done_by, agent_of, Story, added, node_doings, doings_of, draws_of, sends_at, IsQueueStory, sent_by, IsStory, HasNothingLeft, EndsPasses}
 use Rattle.std.proofs.lemmas.Simd.{map-map}
 use Rattle.hs_law_sends.specs.Laws.{TimedPagesAreThePages}
 use Rattle.hs_law_sends.specs.SoFar.{AllChunksAreSent, AllCrumbsAreSent, AllTriggersAreSent}
@@ -14,7 +14,8 @@ use Rattle.hs_law_run.proofs.Workloads.{fit_of, rounds_low, node_client}
 use Rattle.hs_law_run.proofs.Queues.{within_all, queue_in_rounds}
 use Rattle.hs_law_run.proofs.Meeting.{meets_in_rounds}
 use Rattle.hs_law_run.proofs.UnreadShown.{is_pooled_unread}
-use Rattle.hs_law_run.proofs.Doing.{heard_are, all_heard_are, own_sends, events_are, events_beyond, state_is, state_there, long, is_playable, each_pass, all_offers, pool_of}
+use Rattle.hs_law_run.proofs.Doing.{heard_are, all_heard_are, own_sends, events_are, events_beyond, state_is, state_there, long, nothing_left, is_playable, each_pass, all_offers, pool_of}
+use Rattle.hs_law_run.specs.Pools.{ClosedPoolsKeep}
 
 -- what is known of what clients send
 pub record Known : Type 0 where
@@ -24,6 +25,7 @@ pub record Known : Type 0 where
   pub crumbs : AllCrumbsAreSent
   pub triggers : AllTriggersAreSent
   pub adds : EventsAddThis
+  pub keep : ClosedPoolsKeep
 
 module _ (known : Known) (W : PlainWorkload) (valid : IsValid W) (s : Story) (story : IsStory W s) where
   pub fit : IsFit W
@@ -155,6 +157,9 @@ module _ (known : Known) (W : PlainWorkload) (valid : IsValid W) (s : Story) (st
       (λ node low.
       is_pooled_unread known.adds known.timely W (fit_of W valid) (journal_of W (doings_of W s)) (node_doings s node) s.rounds (pool_of W s story node low valid) (each_pass W s story node low))
 
+  keep : ClosedPoolsKeep
+  keep = known.keep
+
   pub are_lawful : AreLawfulDoings W (doings_of W s)
   are_lawful =
       record {
@@ -162,10 +167,10 @@ module _ (known : Known) (W : PlainWorkload) (valid : IsValid W) (s : Story) (st
         drawn = have_drawn;
         passes = every (λ (n : NodeDoings). AllByRecursion (IsPass W) n.passes) (λ node low. each_pass W s story node low);
         rounds = have_rounds;
-        unpinned = every (λ (n : NodeDoings). length (last_state W.settings n).pinned ≡ 0) (λ node low. ap (λ (state : AgentState). length state.pinned) (state_is W s story node low) ∙ (story.each node low).unpinned);
-        offers = every (λ (n : NodeDoings). EndOffersFrom W n 0 n.passes) (λ node low. all_offers W s story node low);
+        left = every (HasNothingLeft W (doings_of W s)) (λ node low. nothing_left W s story node low valid);
+        offers = every (EndsPasses W) (λ node low. all_offers W s story node low);
         pace = every (KeepsPace W (doings_of W s)) (λ node low. keeps_pace node low);
-        pools = all_each (IsPooledUnread W (journal_of W (doings_of W s))) (IsPooled W (journal_of W (doings_of W s))) (doings_of W s).nodes (λ n p. p.pool) are_pooled_unread;
+        pools = keep W (doings_of W s) are_playable (all_each (IsPooledUnread W (journal_of W (doings_of W s))) (IsPooled W (journal_of W (doings_of W s))) (doings_of W s).nodes (λ n p. p.pool) are_pooled_unread);
       }
 
   -- where the agents stand in the run to which the journal leads

@@ -4,6 +4,7 @@ pub mod Following
 pub mod Clauses
 pub mod Behind
 pub mod Offers
+pub mod Quiet
 pub mod Pace
 pub mod Answers
 pub mod Pools

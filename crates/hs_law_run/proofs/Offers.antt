@@ -1,6 +1,6 @@
 -- A pass that offers until its hand is empty, or until an offer is unread, makes all its offers.
-use Rattle.std.proofs.Common.{◌≡◌, ◌⊎◌, inl, inr, ℕ, zero, suc, ◌+◌, ◌-◌, true, false, ◌||◌, ◌==◌, not, List, [], ◌∷◌, ◌++◌, length, take, drop, refl, sym, ap, subst, ◌∙◌, arith, map, zip, append_assoc, eq-eqb}
-use Rattle.hs_law_run.proofs.Prelude.{AllByRecursion, range_with_len, list_all, list_any, and_from, length-append, map-append, all_append, Step, PlainJournal, EventsAddThis, AgentState, Answered, Given, Missed, Unread, AgentEvent, step_of_answer, PlainWorkload, NodeRun, Run, queues_of, is_unread, steps_in, state_behind, NodeDoings, steps_of, state_after, journal_of, node_at_end, IsPass, EndsPass, EndOffersFrom, DoingsAreFollowed}
+use Rattle.std.proofs.Common.{◌≡◌, ◌⊎◌, inl, inr, ℕ, zero, suc, ◌+◌, ◌-◌, true, false, ◌||◌, ◌==◌, not, List, [], ◌∷◌, ◌++◌, length, take, drop, refl, sym, ap, subst, ◌∙◌, arith, map, zip, append_assoc, eq-eqb, slice_get, Some}
+use Rattle.hs_law_run.proofs.Prelude.{AllByRecursion, range_with_len, list_all, list_any, and_from, length-append, map-append, all_append, Step, PlainJournal, EventsAddThis, AgentState, Answered, Given, Missed, Unread, AgentEvent, step_of_answer, PlainWorkload, NodeRun, Run, queues_of, is_unread, steps_in, state_behind, NodeDoings, steps_of, state_after, journal_of, node_at_end, IsPass, EndsPass, DoingsAreFollowed, EndsPasses, all_by_place, all_each}
 use Rattle.std.proofs.lemmas.Bool.{or_right}
 use Rattle.hs_journal.specs.declared.journal.Step.TheVariants as steps
 use Rattle.hs_law_journal.specs.Passes.{is_offer, but_last, last_of, pass_ends, offers_end}
@@ -62,11 +62,10 @@ last_is log last = let long = length-append log (last ∷ []) in let less : leng
     back (step ∷ log) = back log
 
 module _ (adds : EventsAddThis) (W : PlainWorkload) (J : PlainJournal) (n : NodeDoings) where
-  all_passes : (place : ℕ) (passes : List (List AgentEvent)) → EndOffersFrom W n place passes → AllByRecursion (IsPass W) passes
-  all_passes place [] all = tt
-  all_passes place (pass ∷ passes) all = (all.0.is_pass, all_passes (suc place) passes all.1)
+  module _ (all : EndsPasses W n) where
+    all_passes : AllByRecursion (IsPass W) n.passes
+    all_passes = all_by_place (IsPass W) n.passes (λ k pass h. (all k pass h).is_pass)
 
-  module _ (all : EndOffersFrom W n 0 n.passes) where
     abbrev run : NodeRun
     run = node_at_end W J n
 
@@ -86,7 +85,7 @@ module _ (adds : EventsAddThis) (W : PlainWorkload) (J : PlainJournal) (n : Node
         either (inl both) =
             let is : steps_of pass ≡ items W pass e.is_pass ++ steps.Turn ∷ offers_of e.before = e.is_pass.steps_are ∙ ap (λ offers. items W pass e.is_pass ++ steps.Turn ∷ offers_of offers) both.0 in
             let none : NoUnread (steps_of pass) = subst NoUnread (sym is) front in
-            let hand : length (state_behind W.settings run (steps_in cut (suc place))).hand ≡ 0 = ap (λ (s : AgentState). length s.hand) (state_there adds W J n (all_passes 0 n.passes all) (suc place)) ∙ ap length both.1 in
+            let hand : length (state_behind W.settings run (steps_in cut (suc place))).hand ≡ 0 = ap (λ (s : AgentState). length s.hand) (state_there adds W J n all_passes (suc place)) ∙ ap length both.1 in
             and_from (not (list_any is_unread (but_last (steps_of pass)))) _
             (ap not (none_any (but_last (steps_of pass)) (none_taken (length (steps_of pass) - 1) (steps_of pass) none)))
             (or_right (list_any is_unread (last_of (steps_of pass))) _ (eq-eqb (length (state_behind W.settings run (steps_in cut (suc place))).hand) 0 hand))
@@ -102,28 +101,27 @@ module _ (adds : EventsAddThis) (W : PlainWorkload) (J : PlainJournal) (n : Node
             (ap (λ log. not (list_any is_unread (but_last log))) is ∙ ap (λ log. not (list_any is_unread log)) (but_last_is log steps.Unread) ∙ ap not (none_any log front))
             (ap (λ found. found || (length (state_behind W.settings run (steps_in cut (suc place))).hand == 0)) (ap (λ log. list_any is_unread (last_of log)) is ∙ ap (list_any is_unread) (last_is log steps.Unread)))
 
-    ends_from : (place : ℕ) (passes : List (List AgentEvent)) → EndOffersFrom W n place passes
+    ends_from : (place : ℕ) (passes : List (List AgentEvent)) → ((i : ℕ) (pass : List AgentEvent) → slice_get passes i ≡ Some pass → EndsPass W (state_after W.settings n (suc (place + i))) pass)
         → list_all (λ (pass : ℕ × List Step). pass_ends W.settings run cut pass.0 pass.1) (zip (range_with_len (suc place) (length (map steps_of passes))) (map steps_of passes)) ≡ true
-    ends_from place [] all = refl
-    ends_from place (pass ∷ passes) all =
+    ends_from place [] each = refl
+    ends_from place (pass ∷ passes) each =
         let more : suc place + 1 ≡ suc (suc place) = omega arith in
+        let zeroth : place + 0 ≡ place = omega arith in
         and_from (pass_ends W.settings run cut (suc place) (steps_of pass)) (list_all (λ (pass : ℕ × List Step). pass_ends W.settings run cut pass.0 pass.1) (zip (range_with_len (suc place + 1) (length (map steps_of passes))) (map steps_of passes)))
-        (ends_at place pass all.0)
-        (ap (λ start. list_all (λ (pass : ℕ × List Step). pass_ends W.settings run cut pass.0 pass.1) (zip (range_with_len start (length (map steps_of passes))) (map steps_of passes))) more ∙ ends_from (suc place) passes all.1)
+        (ends_at place pass (subst (λ m. EndsPass W (state_after W.settings n (suc m)) pass) zeroth (each 0 pass refl)))
+        (ap (λ start. list_all (λ (pass : ℕ × List Step). pass_ends W.settings run cut pass.0 pass.1) (zip (range_with_len start (length (map steps_of passes))) (map steps_of passes))) more
+        ∙ ends_from (suc place) passes (λ i p h. let next : place + suc i ≡ suc place + i = omega arith in subst (λ m. EndsPass W (state_after W.settings n (suc m)) p) next (each (suc i) p h)))
 
     offers_made : offers_end W.settings run ≡ true
     offers_made =
-        ap (λ passes. list_all (λ (pass : ℕ × List Step). pass_ends W.settings run passes pass.0 pass.1) (zip (range_with_len 1 (length passes)) passes)) (log_passes adds W J n (all_passes 0 n.passes all))
-        ∙ ends_from 0 n.passes all
+        ap (λ passes. list_all (λ (pass : ℕ × List Step). pass_ends W.settings run passes pass.0 pass.1) (zip (range_with_len 1 (length passes)) passes)) (log_passes adds W J n all_passes)
+        ∙ ends_from 0 n.passes (λ k pass h. let zeroth : k ≡ 0 + k = omega arith in subst (λ m. EndsPass W (state_after W.settings n (suc m)) pass) zeroth (all k pass h))
 
-  pub made : EndOffersFrom W n 0 n.passes → offers_end W.settings (node_at_end W J n) ≡ true
+  pub made : EndsPasses W n → offers_end W.settings (node_at_end W J n) ≡ true
   made all = offers_made all
-
-each_makes : EventsAddThis → (W : PlainWorkload) (J : PlainJournal) (ns : List NodeDoings) → AllByRecursion (λ (n : NodeDoings). EndOffersFrom W n 0 n.passes) ns → AllByRecursion (λ (n : NodeDoings). offers_end W.settings (node_at_end W J n) ≡ true) ns
-each_makes adds W J [] all = tt
-each_makes adds W J (n ∷ ns) all = (made adds W J n all.0, each_makes adds W J ns all.1)
 
 pub make_their_offers : DoingsAreFollowed → EventsAddThis → MakeTheirOffers
 make_their_offers follows adds W d facts offers =
     ap (λ (run : Run). list_all (offers_end W.settings) run.nodes) (follows W d facts)
-    ∙ mapped_true (offers_end W.settings) (node_at_end W (journal_of W d)) d.nodes (each_makes adds W (journal_of W d) d.nodes offers)
+    ∙ mapped_true (offers_end W.settings) (node_at_end W (journal_of W d)) d.nodes
+    (all_each (EndsPasses W) (λ (n : NodeDoings). offers_end W.settings (node_at_end W (journal_of W d) n) ≡ true) d.nodes (λ n all. made adds W (journal_of W d) n all) offers)

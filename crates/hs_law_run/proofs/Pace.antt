@@ -108,7 +108,7 @@ module _ (settings : PlainSettings) (passes : List (List AgentEvent)) where
           let next : suc j + 1 ≡ suc (suc j) = omega arith in
           let first = ap count less in
           let last = ap count next in
-          let takes = enough (λ k. length (sent_within (k * settings.stride) items)) count t.told j (more j) (t.hears j) (t.takes (suc j) below) in
+          let takes = enough (λ k. length (sent_within (k * settings.stride) items)) count t.told j (more j) (t.hears j (omega (arith, below))) (t.takes (suc j) below) in
           le-leb (min (length (sent_within (suc j * settings.stride) items)) (taken_in cut queue (suc j - 1) + MAX_TAKEN)) (taken_in cut queue (suc j + 1)) (omega (arith, before, behind, first, last, takes))
 
       queue_true : queue_in_pace settings cut queue items ≡ true

@@ -9,8 +9,9 @@ use Rattle.hs_words.specs.PoolHistory as pool
 use Rattle.hs_law_journal.specs.Pooled.{event_drawn, drawn_event, buffer_of, given_event, missed_event, pool_history}
 use Rattle.hs_law_journal.specs.Shape.{node_draws, draw_stamps, node_stamps, are_numbered, node_has_stamps}
 use Rattle.hs_law_run.specs.Playing.{AreStamped, AreHistories}
+use Rattle.hs_law_run.specs.Pools.{KeepsPool}
 use Rattle.hs_law_run.proofs.Answers.{own as own_of, answers, answers_are, at_stamp, stamps, stamps_rise, drawers, everyone, as_many, one_at, just_one, drawers_last, drawers_earlier, at_last, at_earlier}
-use Rattle.hs_law_run.proofs.Nodes.{node_there, log_there, own_log}
+use Rattle.hs_law_run.proofs.Nodes.{node_there, own_log}
 
 -- ---- stamps
 
@@ -76,21 +77,18 @@ module _ (W : PlainWorkload) (J : PlainJournal) (n : NodeDoings) (p : IsPooled W
       and_from (rise (draw_stamps (draws_at J (place_of clients n.node start)))) (list_all (λ list. rise (draw_stamps list)) (map (λ number. draws_at J (place_of clients n.node number)) (range_with_len (start + 1) count)))
       (ap rise (draw_stamps_are (draws_at J (place_of clients n.node start)) ∙ ap stamps (client_draws start (omega (arith, few)))) ∙ stamps_rise (suc start) p.log) (draws_rise (start + 1) count (omega (arith, few)))
 
-  node_stamped : log_at J n.node ≡ steps_of (all_events n) → node_has_stamps W J n.node ≡ true
+  pub node_stamped : log_at J n.node ≡ steps_of (all_events n) → node_has_stamps W J n.node ≡ true
   node_stamped log =
       and_from (are_numbered (node_stamps W J n.node) && list_all (λ list. rise (draw_stamps list)) (node_draws W J n.node)) (rise (log_stamps (log_at J n.node)))
       (and_from (are_numbered (node_stamps W J n.node)) (list_all (λ list. rise (draw_stamps list)) (node_draws W J n.node)) (numbered log) (draws_rise 0 clients (omega arith)))
       (ap (λ l. rise (log_stamps l)) log ∙ ap rise given_stamps ∙ stamps_rise 0 p.log)
 
 pub are_stamped : AreStamped
-are_stamped W d facts pooled =
+are_stamped W d facts pools =
     list_all_range_below (node_has_stamps W (journal_of W d)) 0 W.settings.nodes
     (λ v low.
     let found = node_there W d facts v (omega (arith, low)) in
-    let n = found.0 in
-    let p = all_at (IsPooled W (journal_of W d)) d.nodes v n pooled found.1 in
-    let log : log_at (journal_of W d) n.node ≡ steps_of (all_events n) = ap (log_at (journal_of W d)) found.2 ∙ log_there W d facts v n found.1 in
-    ap (node_has_stamps W (journal_of W d)) (sym found.2) ∙ node_stamped W (journal_of W d) n p log)
+    ap (node_has_stamps W (journal_of W d)) (sym found.2) ∙ (all_at (KeepsPool W (journal_of W d)) d.nodes v found.0 pools found.1).stamped)
 
 -- ---- the events of the pool
 
@@ -343,10 +341,10 @@ module _ (adds : EventsAddThis) (W : PlainWorkload) (J : PlainJournal) (n : Node
   pub is_history : IsPoolHistory W.settings.buffers (pool_history run)
   is_history = subst (IsHistoryBack W.settings.buffers) (sym (ap reverse history_there ∙ reverse-reverse (events_of p.log))) p.lawful
 
-histories_at : EventsAddThis → (W : PlainWorkload) (J : PlainJournal) (ns : List NodeDoings) → AllByRecursion (IsPooled W J) ns → AllByRecursion (λ (run : NodeRun). IsPoolHistory W.settings.buffers (pool_history run)) (map (node_at_end W J) ns)
-histories_at adds W J [] all = tt
-histories_at adds W J (n ∷ ns) all = (is_history adds W J n all.0, histories_at adds W J ns all.1)
+histories_at : (W : PlainWorkload) (J : PlainJournal) (ns : List NodeDoings) → AllByRecursion (KeepsPool W J) ns → AllByRecursion (λ (run : NodeRun). IsPoolHistory W.settings.buffers (pool_history run)) (map (node_at_end W J) ns)
+histories_at W J [] all = tt
+histories_at W J (n ∷ ns) all = (all.0.history, histories_at W J ns all.1)
 
-pub are_histories : DoingsAreFollowed → EventsAddThis → AreHistories
-are_histories follows adds W d facts pooled =
-    subst (λ (run : Run). AllByRecursion (λ (run : NodeRun). IsPoolHistory W.settings.buffers (pool_history run)) run.nodes) (sym (follows W d facts)) (histories_at adds W (journal_of W d) d.nodes pooled)
+pub are_histories : DoingsAreFollowed → AreHistories
+are_histories follows W d facts pools =
+    subst (λ (run : Run). AllByRecursion (λ (run : NodeRun). IsPoolHistory W.settings.buffers (pool_history run)) run.nodes) (sym (follows W d facts)) (histories_at W (journal_of W d) d.nodes pools)

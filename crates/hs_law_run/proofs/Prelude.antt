@@ -23,7 +23,7 @@ pub use Rattle.hs_law_journal.specs.Shape.{log_stamps, rise, rise_above, step_st
 pub use Rattle.hs_law_journal.specs.Turns.{AreTurns, Lent}
 pub use Rattle.hs_law_journal.specs.Unreads.{round_of}
 pub use Rattle.hs_law_run.specs.Ends.{done_by, PoolEndsGoOn}
-pub use Rattle.hs_law_run.specs.Facts.{ArePlayable, AsksInPace, EndOffersFrom, HaveRounds, IsPlayable, IsToldInRounds, KeepsPace, MeetsInRounds, pages_at, TakesInPace}
+pub use Rattle.hs_law_run.specs.Facts.{ArePlayable, AsksInPace, EndsPasses, HasNothingLeft, HaveRounds, IsFront, IsPlayable, IsToldInRounds, KeepsPace, MeetsInRounds, pages_at, TakesInPace}
 pub use Rattle.hs_law_run.specs.Laws.{agent_of}
 pub use Rattle.hs_law_run.specs.Playing.{DoingsAreFollowed}
 pub use Rattle.hs_law_run.specs.Pools.{draw_answer, give_at, give_of, IsPooled, miss_in}

@@ -48,7 +48,7 @@ module _ (settings : PlainSettings) (rounds passes : ℕ) (taken sent : ℕ → 
   queue_in_rounds taken' sent' same beyond sends few count is =
       record {
         told = known;
-        hears = λ k. hears k (nat_lt k rounds) refl;
+        hears = λ k low. hears k (nat_lt k rounds) refl;
         takes = λ k low. takes k (omega (arith, low, is)) (nat_lt k rounds) refl;
       }
     where

@@ -1,15 +1,17 @@
 -- A give answers the draw of its chunk: it spends the lease of that draw, and nothing happens at the buffer between the two.
 use Rattle.std.proofs.Common.{◌≡◌, inl, inr, ℕ, zero, suc, ◌+◌, ◌<◌, Bool, true, false, ◌&&◌, ◌==◌, not, cond, List, [], ◌∷◌, ◌++◌, length, refl, sym, ap, subst, ◌∙◌, Option, Some, None, arith, map, filter, filter_map, eqb-true, nat_lt, ltb-true, lt-ltb}
-use Rattle.hs_law_run.proofs.Prelude.{AllByRecursion, cons_option, list_all, option_and_then, option_map_or, and_from, and_parts, same_Some, list_all_from, list_any_none, all_each, all_append, all_map, Draw, PlainJournal, EventsAddThis, GivenPlace, PlainWorkload, DrawnPage, Deed, Answer, answer_to, is_any_given, IsDeedAt, PoolEvent, is_missed, at_below, NodeRun, Run, StampedPoolEvent, given_page, pool_events, NodeDoings, journal_of, node_at_end, DoingsAreFollowed, give_of, give_at, IsPooled}
+use Rattle.hs_law_run.proofs.Prelude.{AllByRecursion, cons_option, list_all, option_and_then, option_map_or, and_from, and_parts, same_Some, list_all_from, list_any_none, all_each, all_append, all_map, Draw, PlainJournal, EventsAddThis, GivenPlace, PlainWorkload, DrawnPage, Deed, Answer, answer_to, is_any_given, IsDeedAt, PoolEvent, is_missed, at_below, NodeRun, Run, StampedPoolEvent, given_page, pool_events, NodeDoings, journal_of, node_at_end, DoingsAreFollowed, give_of, give_at, IsPooled, all_by_place, all_at, log_at, steps_of, all_events}
 use Rattle.hs_lists.proofs.Alls.{all_each_both}
 use Rattle.hs_journal.specs.declared.journal.Draw.TheVariants as draws
 use Rattle.hs_words.specs.Ends.{IsGot, Names, NoneSince, Spends, EachSpends}
 use Rattle.hs_words.specs.PoolHistory as pool
 use Rattle.hs_law_journal.specs.Pooled.{has_buffer, is_touched, answers_draw, gives_answer}
 use Rattle.hs_law_run.specs.Playing.{GivesAnswer}
+use Rattle.hs_law_run.specs.Pools.{KeepsPool, ClosedPoolsKeep}
 use Rattle.hs_law_run.proofs.Answers.{own, answers, answers_are, drawers}
 use Rattle.hs_law_run.proofs.Clauses.{mapped_true}
-use Rattle.hs_law_run.proofs.Pools.{pool_is, pool_event, ordered, gives_in, misses_in}
+use Rattle.hs_law_run.proofs.Nodes.{number_is, log_there}
+use Rattle.hs_law_run.proofs.Pools.{pool_is, pool_event, ordered, gives_in, misses_in, node_stamped, is_history}
 
 -- ---- deeds and their places
 
@@ -165,16 +167,24 @@ module _ (adds : EventsAddThis) (W : PlainWorkload) (J : PlainJournal) (n : Node
       by_page None e t = let no : None ≡ Some known.0 = e in absurd cc
       by_page (Some page) e t = by_draw page.draw e t
 
-  node_answers : gives_answer run ≡ true
+  pub node_answers : gives_answer run ≡ true
   node_answers =
       list_all_from (λ (given : GivenPlace). option_map_or (λ (d : DrawnPage). answers_draw (pool_events run) given.stamp d.draw) (given_page run run.state given.place) false) run.state.given
       (all_each_both (λ (given : GivenPlace). (a : Answer) × (give_at run given ≡ Some a)) (λ (given : GivenPlace). (a : Answer) → give_at run given ≡ Some a → IsTrue p.log a)
       (λ (given : GivenPlace). option_map_or (λ (d : DrawnPage). answers_draw (pool_events run) given.stamp d.draw) (given_page run run.state given.place) false ≡ true) run.state.given give_answers p.known all_given_true)
 
-nodes_answer : EventsAddThis → (W : PlainWorkload) (J : PlainJournal) (ns : List NodeDoings) → AllByRecursion (IsPooled W J) ns → AllByRecursion (λ (n : NodeDoings). gives_answer (node_at_end W J n) ≡ true) ns
-nodes_answer adds W J [] all = tt
-nodes_answer adds W J (n ∷ ns) all = (node_answers adds W J n all.0, nodes_answer adds W J ns all.1)
+pub gives_answer_draws : DoingsAreFollowed → GivesAnswer
+gives_answer_draws follows W d facts pools =
+    ap (λ (run : Run). list_all gives_answer run.nodes) (follows W d facts)
+    ∙ mapped_true gives_answer (node_at_end W (journal_of W d)) d.nodes
+    (all_each (KeepsPool W (journal_of W d)) (λ (n : NodeDoings). gives_answer (node_at_end W (journal_of W d) n) ≡ true) d.nodes (λ n keeps. keeps.answers) pools)
 
-pub gives_answer_draws : DoingsAreFollowed → EventsAddThis → GivesAnswer
-gives_answer_draws follows adds W d facts pooled =
-    ap (λ (run : Run). list_all gives_answer run.nodes) (follows W d facts) ∙ mapped_true gives_answer (node_at_end W (journal_of W d)) d.nodes (nodes_answer adds W (journal_of W d) d.nodes pooled)
+-- ---- the promise of a pool that was closed
+
+pub closed_keep : EventsAddThis → ClosedPoolsKeep
+closed_keep adds W d facts pooled =
+    all_by_place (KeepsPool W (journal_of W d)) d.nodes
+    (λ v n h.
+    let p = all_at (IsPooled W (journal_of W d)) d.nodes v n pooled h in
+    let log : log_at (journal_of W d) n.node ≡ steps_of (all_events n) = ap (log_at (journal_of W d)) (number_is W d facts v n h) ∙ log_there W d facts v n h in
+    record { stamped = node_stamped W (journal_of W d) n p log; history = is_history adds W (journal_of W d) n p; answers = node_answers adds W (journal_of W d) n p })

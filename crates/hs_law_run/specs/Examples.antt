@@ -6,8 +6,8 @@ use Rattle.hs_law_sends.specs.Drawn.{DrawnPage}
 use Rattle.hs_law_journal.specs.Following.{followed}
 use Rattle.hs_law_journal.specs.Journals.{of_one_point}
 use Rattle.hs_law_journal.specs.Workloads.{one_point}
-use Rattle.hs_law_journal.specs.Doings.{Doings, events_in, chunks_in, journal_of, run_of}
-use Rattle.hs_law_run.specs.Facts.{HaveDrawn, HaveRounds, HaveNothingPinned, pages_at}
+use Rattle.hs_law_journal.specs.Doings.{Doings, events_in, chunks_in, journal_of, last_state, run_of}
+use Rattle.hs_law_run.specs.Facts.{HaveDrawn, HaveRounds, pages_at}
 use Rattle.hs_law_journal.specs.LoopPassExamples.{one_pass}
 
 abbrev of_one : Doings
@@ -26,8 +26,8 @@ drawn_for_each_page = refl
 one_round : HaveRounds one_point of_one
 one_round = lit≤ tt
 
-none_pinned : HaveNothingPinned one_point of_one
-none_pinned = (refl, tt)
+none_pinned : (last_state one_point.settings (record { node = 0; passes = one_pass ∷ [] })).pinned ≡ []
+none_pinned = refl
 
 its_pages : map (λ (page : DrawnPage). page.number) (pages_at one_point of_one_point 0) ≡ 0 ∷ []
 its_pages = refl

@@ -1,6 +1,6 @@
 -- The facts about what clients, agents and coordinator did that make the journal of it lawful. Each is what one part of a run
 -- promises by itself: a client, a link, an agent, the coordinator, or the loop of a pass.
-use Rattle.std.specs.Prelude.{◌≡◌, ℕ, suc, ◌+◌, ◌*◌, ◌<◌, ◌≤◌, min, List, [], ◌∷◌, length, map, filter, slice_get, count_by, Some}
+use Rattle.std.specs.Prelude.{◌≡◌, ℕ, suc, ◌+◌, ◌*◌, ◌<◌, ◌≤◌, min, List, ◌++◌, length, map, filter, slice_get, count_by, Some}
 use Rattle.std.specs.List.{AllByRecursion, flat_map, range_with_len}
 use Rattle.hs_base.specs.declared.limits.TheConstants.{MAX_TAKEN}
 use Rattle.hs_coord.specs.Messages.{Message, message}
@@ -21,7 +21,17 @@ use Rattle.hs_law_journal.specs.LoopPasses.{EndsPass, HandsReady, IsOwn, IsPass}
 
 -- ---- what an agent takes
 
--- A link gives its receiver what was sent, in order; and in the end nothing is left in it.
+pub record IsFront {A : Type 0} (front whole : List A) : Type 0 where
+  pub more : List A
+  pub is : whole ≡ front ++ more
+
+-- A link gives its receiver what was sent, in order.
+pub record TookFrontOf (W : PlainWorkload) (J : PlainJournal) (n : NodeDoings) (client : ℕ) : Type 0 where
+  pub chunks : IsFront (chunks_in client (all_events n)) (items_of (client_sends W J n.node client).chunks)
+  pub crumbs : IsFront (crumbs_in client (all_events n)) (items_of (client_sends W J n.node client).crumbs)
+  pub triggers : IsFront (triggers_in client (all_events n)) (items_of (client_sends W J n.node client).triggers)
+
+-- In the end nothing is left in it.
 pub record TookAllOf (W : PlainWorkload) (J : PlainJournal) (n : NodeDoings) (client : ℕ) : Type 0 where
   pub chunks : chunks_in client (all_events n) ≡ items_of (client_sends W J n.node client).chunks
   pub crumbs : crumbs_in client (all_events n) ≡ items_of (client_sends W J n.node client).crumbs
@@ -29,16 +39,17 @@ pub record TookAllOf (W : PlainWorkload) (J : PlainJournal) (n : NodeDoings) (cl
 
 -- ---- what may be told pass by pass
 
--- Of a node: its agent took what its clients sent and what it was asked, all of it, and all that it said was heard. What it was asked
--- in a pass follows from what the coordinator took behind earlier passes, and what is taken of it was said in the passes before.
+-- Of a node, as far as its passes have come: its agent took the first of what its clients sent and of what it was asked, and of what it
+-- said the first was heard. What it was asked in a pass follows from what the coordinator took behind earlier passes, and what is taken
+-- of it was said in the passes before.
 pub record IsPlayable (W : PlainWorkload) (d : Doings) (n : NodeDoings) : Type 0 where
   pub own : AllByRecursion (IsOwn W) (all_events n)
-  pub took : (client : ℕ) → client < W.settings.clients → TookAllOf W (journal_of W d) n client
-  pub asked : asks_in (all_events n) ≡ asks_to n.node (all_heard d)
-  pub heard : filter (is_from (record { 0 = n.node })) (all_heard d) ≡ map (message (record { 0 = n.node })) (last_state W.settings n).said
+  pub took : (client : ℕ) → client < W.settings.clients → TookFrontOf W (journal_of W d) n client
+  pub asked : IsFront (asks_in (all_events n)) (asks_to n.node (all_heard d))
+  pub heard : IsFront (filter (is_from (record { 0 = n.node })) (all_heard d)) (map (message (record { 0 = n.node })) (last_state W.settings n).said)
   pub hands : HandsReady W.settings n.node (start W.settings) (all_events n)
-  pub asked_before : (k : ℕ) → length (asks_in (events_in n (suc k))) ≤ length (asks_to n.node (heard_in d k))
-  pub said_before : (k : ℕ) → count_by (is_from (record { 0 = n.node })) (heard_in d k) ≤ length (state_after W.settings n k).said
+  pub asked_before : (k : ℕ) → k < length n.passes → length (asks_in (events_in n (suc k))) ≤ length (asks_to n.node (heard_in d k))
+  pub said_before : (k : ℕ) → k ≤ length n.passes → count_by (is_from (record { 0 = n.node })) (heard_in d k) ≤ length (state_after W.settings n k).said
 
 -- Of all: each node made as many passes, and whom the coordinator heard is a node.
 pub record ArePlayable (W : PlainWorkload) (d : Doings) : Type 0 where
@@ -61,18 +72,23 @@ HavePasses W d = AllByRecursion (λ (n : NodeDoings). AllByRecursion (IsPass W) 
 abbrev pub HaveRounds : PlainWorkload → Doings → Type 0
 HaveRounds W d = rounds_of W ≤ length d.heard
 
--- In the end nothing is pinned.
-abbrev pub HaveNothingPinned : PlainWorkload → Doings → Type 0
-HaveNothingPinned W d = AllByRecursion (λ (n : NodeDoings). length (last_state W.settings n).pinned ≡ 0) d.nodes
+-- In the end all that was sent and asked was taken, all that was said was heard, and nothing is pinned.
+pub record HasNothingLeft (W : PlainWorkload) (d : Doings) (n : NodeDoings) : Type 0 where
+  pub took : (client : ℕ) → client < W.settings.clients → TookAllOf W (journal_of W d) n client
+  pub asked : asks_in (all_events n) ≡ asks_to n.node (all_heard d)
+  pub heard : filter (is_from (record { 0 = n.node })) (all_heard d) ≡ map (message (record { 0 = n.node })) (last_state W.settings n).said
+  pub unpinned : length (last_state W.settings n).pinned ≡ 0
+
+abbrev pub HaveNothingLeft : PlainWorkload → Doings → Type 0
+HaveNothingLeft W d = AllByRecursion (HasNothingLeft W d) d.nodes
 
 -- ---- the offers of a pass
 
-abbrev pub EndOffersFrom : PlainWorkload → NodeDoings → ℕ → List (List AgentEvent) → Type 0
-EndOffersFrom W n place [] = Unit {0}
-EndOffersFrom W n place (pass ∷ passes) = EndsPass W (state_after W.settings n (suc place)) pass × EndOffersFrom W n (suc place) passes
+abbrev pub EndsPasses : PlainWorkload → NodeDoings → Type 0
+EndsPasses W n = (k : ℕ) (pass : List AgentEvent) → slice_get n.passes k ≡ Some pass → EndsPass W (state_after W.settings n (suc k)) pass
 
 abbrev pub HaveOffers : PlainWorkload → Doings → Type 0
-HaveOffers W d = AllByRecursion (λ (n : NodeDoings). EndOffersFrom W n 0 n.passes) d.nodes
+HaveOffers W d = AllByRecursion (EndsPasses W) d.nodes
 
 -- ---- the pace
 
@@ -94,7 +110,7 @@ pub record MeetsInRounds (W : PlainWorkload) (J : PlainJournal) (n : NodeDoings)
 -- before; and a pass takes what the agent was told of, or as many items as it may.
 pub record IsToldInRounds (settings : PlainSettings) (passes : ℕ) (taken sent : ℕ → ℕ) : Type 0 where
   pub told : ℕ → ℕ
-  pub hears : (k : ℕ) → min (sent (suc k)) (taken k + MAX_TAKEN) ≤ told (suc k)
+  pub hears : (k : ℕ) → k < passes → min (sent (suc k)) (taken k + MAX_TAKEN) ≤ told (suc k)
   pub takes : (k : ℕ) → k < passes → min (told k) (taken k + MAX_TAKEN) ≤ taken (suc k)
 
 pub record TakesInPace (W : PlainWorkload) (J : PlainJournal) (n : NodeDoings) (client : ℕ) : Type 0 where

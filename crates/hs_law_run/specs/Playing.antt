@@ -14,8 +14,8 @@ use Rattle.hs_law_journal.specs.Shape.{has_shape, has_stamps}
 use Rattle.hs_law_journal.specs.Unreads.{has_unreads}
 use Rattle.hs_words.specs.PoolHistory.{IsPoolHistory}
 use Rattle.hs_law_journal.specs.Doings.{Doings, journal_of, run_of}
-use Rattle.hs_law_run.specs.Pools.{ArePooled}
-use Rattle.hs_law_run.specs.Facts.{ArePlayable, HaveDrawn, HavePasses, HaveRounds, HaveNothingPinned, HaveOffers, KeepPace}
+use Rattle.hs_law_run.specs.Pools.{KeepPools}
+use Rattle.hs_law_run.specs.Facts.{ArePlayable, HaveDrawn, HavePasses, HaveRounds, HaveNothingLeft, HaveOffers, KeepPace}
 
 abbrev pub DoingsAreFollowed : Type 0
 DoingsAreFollowed = (W : PlainWorkload) (d : Doings) → ArePlayable W d → followed W (journal_of W d) ≡ run_of W d
@@ -38,7 +38,7 @@ AreEnough = (W : PlainWorkload) (d : Doings) → ArePlayable W d → HavePasses 
 
 -- L10: nothing is left over
 abbrev pub AreBare : Type 0
-AreBare = (W : PlainWorkload) (d : Doings) → ArePlayable W d → HaveNothingPinned W d → is_bare (played W (journal_of W d)) ≡ true
+AreBare = (W : PlainWorkload) (d : Doings) → ArePlayable W d → HaveNothingLeft W d → is_bare (played W (journal_of W d)) ≡ true
 
 -- L6: all offers are made
 abbrev pub MakeTheirOffers : Type 0
@@ -50,16 +50,16 @@ AreInPace = (W : PlainWorkload) (d : Doings) → ArePlayable W d → HavePasses 
 
 -- L2: stamps number the events of each node
 abbrev pub AreStamped : Type 0
-AreStamped = (W : PlainWorkload) (d : Doings) → ArePlayable W d → ArePooled W d → has_stamps (played W (journal_of W d)) ≡ true
+AreStamped = (W : PlainWorkload) (d : Doings) → ArePlayable W d → KeepPools W d → has_stamps (played W (journal_of W d)) ≡ true
 
 -- L3: which are a history of its pool
 abbrev pub AreHistories : Type 0
 AreHistories =
-    (W : PlainWorkload) (d : Doings) → ArePlayable W d → ArePooled W d → AllByRecursion (λ (run : NodeRun). IsPoolHistory W.settings.buffers (pool_history run)) (followed W (journal_of W d)).nodes
+    (W : PlainWorkload) (d : Doings) → ArePlayable W d → KeepPools W d → AllByRecursion (λ (run : NodeRun). IsPoolHistory W.settings.buffers (pool_history run)) (followed W (journal_of W d)).nodes
 
 -- L4: a give answers the draw of its chunk
 abbrev pub GivesAnswer : Type 0
-GivesAnswer = (W : PlainWorkload) (d : Doings) → ArePlayable W d → ArePooled W d → has_answers (played W (journal_of W d)) ≡ true
+GivesAnswer = (W : PlainWorkload) (d : Doings) → ArePlayable W d → KeepPools W d → has_answers (played W (journal_of W d)) ≡ true
 
 -- ---- all clauses
 
@@ -69,10 +69,10 @@ pub record AreLawfulDoings (W : PlainWorkload) (d : Doings) : Type 0 where
   pub drawn : HaveDrawn W d
   pub passes : HavePasses W d
   pub rounds : HaveRounds W d
-  pub unpinned : HaveNothingPinned W d
+  pub left : HaveNothingLeft W d
   pub offers : HaveOffers W d
   pub pace : KeepPace W d
-  pub pools : ArePooled W d
+  pub pools : KeepPools W d
 
 -- Then the journal is lawful, if what is unread could be.
 abbrev pub DoingsAreLawful : Type 0

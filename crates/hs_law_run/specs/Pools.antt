@@ -1,5 +1,6 @@
--- What is known of a node's pool once all its ends are closed, beside the draws of its clients and the log of its agent. All that
--- its ends did is one list of deeds, the last first. The draws of each client are the answers of one drawer, and the gives and
+-- What a node's pool promises of its events: that stamps number them, that they are a history, and that a give answers the draw of its
+-- chunk. And what is known of a pool that keeps this promise because all its ends were closed. All that its ends did is one list of
+-- deeds, the last first. The draws of each client are the answers of one drawer, and the gives and
 -- misses of the agent those of the giver, each in order.
 use Rattle.std.specs.Prelude.{◌≡◌, ◌⊎◌, ℕ, suc, ◌<◌, ◌≤◌, true, List, map, reverse, filter, filter_map, Option, Some, None, [], ◌∷◌, refl}
 use Rattle.std.specs.List.{AllByRecursion}
@@ -14,11 +15,12 @@ use Rattle.hs_records.specs.Plain.{PlainWorkload}
 use Rattle.hs_law_sends.specs.Drawn.{DrawnPage}
 use Rattle.hs_law_sends.specs.Sending.{client_sends, draws_at, place_of}
 use Rattle.hs_words.specs.Ends.{Deed, Answer, events_of, answers_by, is_any_given, EachSpends, four_deeds}
-use Rattle.hs_words.specs.PoolHistory.{Got, Empty, Given, Missed, is_missed, IsHistoryBack}
+use Rattle.hs_words.specs.PoolHistory.{Got, Empty, Given, Missed, is_missed, IsHistoryBack, IsPoolHistory}
 use Rattle.hs_law_journal.specs.Following.{NodeRun}
-use Rattle.hs_law_journal.specs.Pooled.{given_page}
-use Rattle.hs_law_journal.specs.Shape.{log_stamps}
+use Rattle.hs_law_journal.specs.Pooled.{given_page, gives_answer, pool_history}
+use Rattle.hs_law_journal.specs.Shape.{log_stamps, node_has_stamps}
 use Rattle.hs_law_journal.specs.Doings.{NodeDoings, Doings, all_events, steps_of, journal_of, node_at_end}
+use Rattle.hs_law_run.specs.Facts.{ArePlayable}
 
 -- a draw as its drawer was answered
 abbrev pub draw_answer : Draw → Answer
@@ -58,8 +60,19 @@ pub record IsPooled (W : PlainWorkload) (J : PlainJournal) (n : NodeDoings) : Ty
   pub misses : filter_map miss_in (steps_of (all_events n)) ≡ filter (λ (a : Answer). is_missed a.event) (answers_to 0 log)
   pub stamps : log_stamps (steps_of (all_events n)) ≡ map (λ (a : Answer). a.stamp) (answers_to 0 log)
 
-abbrev pub ArePooled : PlainWorkload → Doings → Type 0
-ArePooled W d = AllByRecursion (IsPooled W (journal_of W d)) d.nodes
+-- ---- the promise of a pool
+
+pub record KeepsPool (W : PlainWorkload) (J : PlainJournal) (n : NodeDoings) : Type 0 where
+  pub stamped : node_has_stamps W J n.node ≡ true
+  pub history : IsPoolHistory W.settings.buffers (pool_history (node_at_end W J n))
+  pub answers : gives_answer (node_at_end W J n) ≡ true
+
+abbrev pub KeepPools : PlainWorkload → Doings → Type 0
+KeepPools W d = AllByRecursion (KeepsPool W (journal_of W d)) d.nodes
+
+-- What closing a pool tells keeps it.
+abbrev pub ClosedPoolsKeep : Type 0
+ClosedPoolsKeep = (W : PlainWorkload) (d : Doings) → ArePlayable W d → AllByRecursion (IsPooled W (journal_of W d)) d.nodes → KeepPools W d
 
 -- ---- examples
 

@@ -1,14 +1,15 @@
 -- What an offer shows that was unread. At that moment the giver's answers are those to the offers before it, the gives among them are of
 -- the chunks that the agent gave back by then, and the giver was told of each draw of the rounds before, while a draw of a later round is
 -- above all that was answered.
-use Rattle.std.specs.Prelude.{◌≡◌, ◌<◌, ◌==◌, true, List, ◌∷◌, ◌++◌, map, reverse, filter, filter_map, count_by}
+use Rattle.std.specs.Prelude.{◌≡◌, ◌<◌, ◌==◌, true, false, List, ◌∷◌, ◌++◌, map, reverse, filter, filter_map, count_by}
 use Rattle.std.specs.List.{AllByRecursion, list_any}
 use Rattle.hs_journal.specs.Views.{PlainJournal}
+use Rattle.hs_law_agent.specs.Laws.{noted_as}
 use Rattle.hs_law_agent.specs.Stepping.{Unread, AgentEvent, Gave, after}
 use Rattle.hs_records.specs.Plain.{PlainWorkload}
 use Rattle.hs_law_sends.specs.Drawn.{DrawnPage, stamp_of}
 use Rattle.hs_words.specs.Ends.{Answer, GiverTurn, answers_in, told_in, is_any_given, IsUnread}
-use Rattle.hs_law_journal.specs.Passes.{is_turn}
+use Rattle.hs_law_journal.specs.Passes.{is_turn, is_unread}
 use Rattle.hs_law_journal.specs.Played.{played}
 use Rattle.hs_law_journal.specs.Shape.{log_stamps}
 use Rattle.hs_law_journal.specs.Unreads.{round_of, has_unreads}
@@ -32,6 +33,14 @@ pub record IsPooledUnread (W : PlainWorkload) (J : PlainJournal) (n : NodeDoings
 
 abbrev pub ArePooledUnread : PlainWorkload → Doings → Type 0
 ArePooledUnread W d = AllByRecursion (IsPooledUnread W (journal_of W d)) d.nodes
+
+-- where no offer is unread, nothing has to be shown
+abbrev pub IsRead : AgentEvent → Type 0
+IsRead event = is_unread (noted_as event) ≡ false
+
+abbrev pub NoneIsUnread : Type 0
+NoneIsUnread =
+    (W : PlainWorkload) (d : Doings) → ArePlayable W d → AllByRecursion (λ (n : NodeDoings). AllByRecursion IsRead (all_events n)) d.nodes → has_unreads (played W (journal_of W d)) ≡ true
 
 -- L7: what is unread could be
 abbrev pub UnreadCouldBe : Type 0

@@ -1,6 +1,7 @@
 //! Why what is done in a run is lawful, and why a story of it is. These functions do nothing: their contracts say it.
 
-ghost use Rattle.hs_law_run.specs.Unread.{UnreadCouldBe};
+ghost use Rattle.hs_law_run.specs.Unread.{UnreadCouldBe, NoneIsUnread};
+ghost use Rattle.hs_law_run.specs.Pools.{ClosedPoolsKeep};
 ghost use Rattle.hs_law_run.specs.Playing.{DoingsAreFollowed, CanBeFollowed, HaveShape, AreWholePasses, AreEnough, AreBare, MakeTheirOffers, AreInPace, AreStamped, AreHistories, GivesAnswer, DoingsAreLawful};
 ghost use Rattle.hs_law_run.specs.Laws.{StoriesAreLawful};
 
@@ -10,7 +11,7 @@ use hs_law_sends::laws::{
     all_is_sent_in_the_end, timed_pages_are_the_pages, timed_pages_are_timely,
 };
 
-/// What may be told pass by pass is what its journal leads to when it is followed.
+/// What may be told pass by pass, as far as it has come, is what its journal leads to when it is followed.
 pub fn doings_are_followed()
     ensures { DoingsAreFollowed }
 {
@@ -43,7 +44,7 @@ pub fn doings_are_enough()
     ensures { AreEnough }
 {}
 
-/// L10: where nothing is pinned in the end, nothing is left over.
+/// L10: where all was taken and heard in the end and nothing is pinned, nothing is left over.
 pub fn doings_are_bare()
     ensures { AreBare }
 {
@@ -67,25 +68,30 @@ pub fn doings_are_in_pace()
     events_add_this();
 }
 
-/// L2: by what closing the pools tells, stamps number the events of each node.
+/// What closing the pools tells keeps the promise of each pool.
+pub fn closed_pools_keep()
+    ensures { ClosedPoolsKeep }
+{
+    events_add_this();
+}
+
+/// L2: by the promise of the pools, stamps number the events of each node.
 pub fn doings_are_stamped()
     ensures { AreStamped }
 {}
 
-/// L3: by what closing the pools tells, the events of each node are a history of its pool.
+/// L3: by the promise of the pools, the events of each node are a history of its pool.
 pub fn doings_are_histories()
     ensures { AreHistories }
 {
     doings_are_followed();
-    events_add_this();
 }
 
-/// L4: by what closing the pools tells, each give answers the draw of its chunk.
+/// L4: by the promise of the pools, each give answers the draw of its chunk.
 pub fn doings_answer_draws()
     ensures { GivesAnswer }
 {
     doings_are_followed();
-    events_add_this();
 }
 
 /// All that the parts of a run promise makes its journal lawful, if what is unread could be.
@@ -104,6 +110,14 @@ pub fn doings_are_lawful()
     doings_are_in_pace();
 }
 
+/// L7: where no offer is unread, nothing has to be shown of unread offers.
+pub fn none_is_unread()
+    ensures { NoneIsUnread }
+{
+    doings_are_followed();
+    events_add_this();
+}
+
 /// L7: by what the ring tells of an offer that was unread, what is unread could be.
 pub fn unread_could_be()
     ensures { UnreadCouldBe }
@@ -119,6 +133,7 @@ pub fn stories_are_lawful()
 {
     doings_are_followed();
     doings_are_lawful();
+    closed_pools_keep();
     unread_could_be();
     events_add_this();
     all_is_sent_in_the_end();

@@ -12,6 +12,6 @@ returns c W d all unreads =
       L7 = unreads;
       L8 = c.doings_can_be_followed.ensures W d all.playable;
       L9 = c.doings_are_enough.ensures W d all.playable all.passes all.rounds;
-      L10 = c.doings_are_bare.ensures W d all.playable all.unpinned;
+      L10 = c.doings_are_bare.ensures W d all.playable all.left;
       L11 = c.doings_are_in_pace.ensures W d all.playable all.passes all.pace;
     }

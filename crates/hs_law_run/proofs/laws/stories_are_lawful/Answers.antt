@@ -14,6 +14,7 @@ returns c W s valid story =
       crumbs = c.all_is_sent_in_the_end.ensures.crumbs;
       triggers = c.all_is_sent_in_the_end.ensures.triggers;
       adds = c.events_add_this.ensures;
+      keep = c.closed_pools_keep.ensures;
     }
     in
     record {
