@@ -11,9 +11,10 @@ use Rattle.hs_journal.specs.declared.journal.Step.TheVariants as steps
 use Rattle.hs_law_agent.specs.Laws.{EventsGoOn, StepsSayWhatTheyTell}
 use Rattle.hs_law_agent.specs.State as model
 use Rattle.hs_law_agent.specs.Stepping.{Turn, told_by}
-use Rattle.hs_law_journal.specs.Following.{takes, node_start, run_start, next_of, event_of, perform, step_node, message_of}
+use Rattle.hs_law_journal.specs.Following.{node_start, run_start, next_of, event_of, perform, step_node, message_of}
 use Rattle.hs_law_journal.specs.Orders.{Leads, Stays, Goes, OrdersAgree, DoneIsAtRest}
 use Rattle.hs_law_journal.specs.Doings.{ask_in}
+pub use Rattle.hs_law_journal.proofs.ItemsTaken.{taken_chunks, taken_crumbs, taken_triggers, taken_asks}
 use Rattle.hs_law_run.proofs.Nodes.{node_there, own_log}
 
 -- ---- lists
@@ -46,90 +47,6 @@ module _ {X : Type 0} where
   parted lists zero = refl
   parted [] (suc k) = refl
   parted (x ∷ lists) (suc k) = append_assoc x (joined (take k lists)) (joined (drop k lists)) ∙ ap (λ rest. x ++ rest) (parted lists k)
-
--- ---- how many items were taken
-
--- as many items as steps
-counts_items : {A : Type 0} (queue : Queue) (f : AgentEvent → List A) → ((event : AgentEvent) → length (f event) ≡ one (takes queue (noted_as event))) → (events : List AgentEvent) → taken queue (steps_of events) ≡ length (flat_map f events)
-counts_items queue f each [] = refl
-counts_items queue f each (event ∷ events) =
-    let first = each event in
-    let rest = counts_items queue f each events in
-    let sum = sum_by-cons (λ (step : Step). cond (takes queue step) 1 0) (noted_as event) (steps_of events) in
-    let all = length-append (f event) (flat_map f events) in
-    omega (arith, first, rest, sum, all)
-
--- none is taken by an offer
-none_offered : (queue : Queue) (answer : Answered) → 0 ≡ one (takes queue (step_of_answer answer))
-none_offered queue (Given stamp) = plain queue
-  where
-    plain : (queue : Queue) → 0 ≡ one (takes queue (steps.Given stamp))
-    plain (Chunks c) = refl
-    plain (Crumbs c) = refl
-    plain (Triggers c) = refl
-    plain Asks = refl
-none_offered queue (Missed stamp) = plain queue
-  where
-    plain : (queue : Queue) → 0 ≡ one (takes queue (steps.Missed stamp))
-    plain (Chunks c) = refl
-    plain (Crumbs c) = refl
-    plain (Triggers c) = refl
-    plain Asks = refl
-none_offered queue Unread = plain queue
-  where
-    plain : (queue : Queue) → 0 ≡ one (takes queue steps.Unread)
-    plain (Chunks c) = refl
-    plain (Crumbs c) = refl
-    plain (Triggers c) = refl
-    plain Asks = refl
-
-kept_length : {A : Type 0} (b : Bool) (x : A) → length (cond b (x ∷ []) []) ≡ one b
-kept_length true x = refl
-kept_length false x = refl
-
-chunk_counts : (client : ℕ) (event : AgentEvent) → length (chunk_in client event) ≡ one (takes (Chunks client) (noted_as event))
-chunk_counts client (Took (Chunk other sheet)) = kept_length (nat_eq other client) sheet
-chunk_counts client (Took (Crumbed other crumb)) = refl
-chunk_counts client (Took (Triggered other trigger)) = refl
-chunk_counts client (Took (Asked ask)) = refl
-chunk_counts client (Took Turn) = refl
-chunk_counts client (Gave answer) = none_offered (Chunks client) answer
-
-crumb_counts : (client : ℕ) (event : AgentEvent) → length (crumb_in client event) ≡ one (takes (Crumbs client) (noted_as event))
-crumb_counts client (Took (Chunk other sheet)) = refl
-crumb_counts client (Took (Crumbed other crumb)) = kept_length (nat_eq other client) crumb
-crumb_counts client (Took (Triggered other trigger)) = refl
-crumb_counts client (Took (Asked ask)) = refl
-crumb_counts client (Took Turn) = refl
-crumb_counts client (Gave answer) = none_offered (Crumbs client) answer
-
-trigger_counts : (client : ℕ) (event : AgentEvent) → length (trigger_in client event) ≡ one (takes (Triggers client) (noted_as event))
-trigger_counts client (Took (Chunk other sheet)) = refl
-trigger_counts client (Took (Crumbed other crumb)) = refl
-trigger_counts client (Took (Triggered other trigger)) = kept_length (nat_eq other client) trigger
-trigger_counts client (Took (Asked ask)) = refl
-trigger_counts client (Took Turn) = refl
-trigger_counts client (Gave answer) = none_offered (Triggers client) answer
-
-ask_counts : (event : AgentEvent) → length (ask_in event) ≡ one (takes Asks (noted_as event))
-ask_counts (Took (Chunk other sheet)) = refl
-ask_counts (Took (Crumbed other crumb)) = refl
-ask_counts (Took (Triggered other trigger)) = refl
-ask_counts (Took (Asked ask)) = refl
-ask_counts (Took Turn) = refl
-ask_counts (Gave answer) = none_offered Asks answer
-
-pub taken_chunks : (client : ℕ) (events : List AgentEvent) → taken (Chunks client) (steps_of events) ≡ length (chunks_in client events)
-taken_chunks client events = counts_items (Chunks client) (chunk_in client) (chunk_counts client) events
-
-pub taken_crumbs : (client : ℕ) (events : List AgentEvent) → taken (Crumbs client) (steps_of events) ≡ length (crumbs_in client events)
-taken_crumbs client events = counts_items (Crumbs client) (crumb_in client) (crumb_counts client) events
-
-pub taken_triggers : (client : ℕ) (events : List AgentEvent) → taken (Triggers client) (steps_of events) ≡ length (triggers_in client events)
-taken_triggers client events = counts_items (Triggers client) (trigger_in client) (trigger_counts client) events
-
-pub taken_asks : (events : List AgentEvent) → taken Asks (steps_of events) ≡ length (asks_in events)
-taken_asks events = counts_items Asks ask_in ask_counts events
 
 -- ---- one event
 

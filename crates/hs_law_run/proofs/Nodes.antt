@@ -1,6 +1,7 @@
 -- The nodes of what was done stand by their numbers, and their logs in the journal.
-use Rattle.std.proofs.Common.{◌≡◌, ℕ, ◌+◌, ◌<◌, List, [], ◌∷◌, ◌++◌, append-nil, append_assoc, length, refl, sym, ap, ◌∙◌, Option, Some, None, arith, map, option_map, slice_get, unwrap_or}
-use Rattle.hs_law_run.proofs.Prelude.{slice_get-map, slice_get_within, length-map, length-range_with_len, same_Some, range_at, Step, noted_as, EventsAddThis, AgentState, start, AgentEvent, after_event, after_from, after, PlainSettings, PlainWorkload, log_at, NodeDoings, Doings, all_events, steps_of, journal_of, ArePlayable}
+use Rattle.std.proofs.Common.{◌≡◌, ℕ, ◌+◌, ◌<◌, List, [], length, refl, sym, ap, ◌∙◌, Option, Some, None, arith, map, option_map, slice_get, unwrap_or}
+use Rattle.hs_law_run.proofs.Prelude.{slice_get-map, slice_get_within, length-map, length-range_with_len, same_Some, range_at, Step, PlainWorkload, log_at, NodeDoings, Doings, all_events, steps_of, journal_of, ArePlayable}
+pub use Rattle.hs_law_journal.proofs.ItemsTaken.{own_log}
 
 module _ (W : PlainWorkload) (d : Doings) (facts : ArePlayable W d) where
   pub node_there : (v : ℕ) → v < W.settings.nodes → (n : NodeDoings) × (slice_get d.nodes v ≡ Some n) × (n.node ≡ v)
@@ -24,16 +25,3 @@ module _ (W : PlainWorkload) (d : Doings) (facts : ArePlayable W d) where
   pub log_there : (v : ℕ) (n : NodeDoings) → slice_get d.nodes v ≡ Some n → log_at (journal_of W d) v ≡ steps_of (all_events n)
   log_there v n h =
       ap (λ (o : Option (List Step)). unwrap_or o []) (slice_get-map (λ (n : NodeDoings). steps_of (all_events n)) d.nodes v ∙ ap (option_map (λ (n : NodeDoings). steps_of (all_events n))) h)
-
--- ---- logs
-
--- each event is noted
-pub log_on : EventsAddThis → (settings : PlainSettings) (node : ℕ) (events : List AgentEvent) (state : AgentState) → (after_from settings node state events).log ≡ state.log ++ steps_of events
-log_on adds settings node [] state = sym (append-nil state.log)
-log_on adds settings node (event ∷ events) state =
-    log_on adds settings node events (after_event settings node state event)
-    ∙ ap (λ log. log ++ steps_of events) ((adds settings node state).log event)
-    ∙ append_assoc state.log (noted_as event ∷ []) (steps_of events)
-
-pub own_log : EventsAddThis → (settings : PlainSettings) (node : ℕ) (events : List AgentEvent) → (after settings node events).log ≡ steps_of events
-own_log adds settings node events = log_on adds settings node events (start settings)

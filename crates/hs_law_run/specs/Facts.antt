@@ -17,13 +17,10 @@ use Rattle.hs_law_journal.specs.Following.{asks_to, is_from}
 use Rattle.hs_law_journal.specs.Shape.{log_stamps}
 use Rattle.hs_law_journal.specs.Unreads.{round_of}
 use Rattle.hs_law_journal.specs.Doings.{NodeDoings, Doings, all_events, events_in, steps_of, state_after, last_state, chunks_in, crumbs_in, triggers_in, asks_in, heard_in, all_heard, journal_of}
+pub use Rattle.hs_law_journal.specs.Fronts.{IsFront}
 use Rattle.hs_law_journal.specs.LoopPasses.{EndsPass, HandsReady, IsOwn, IsPass}
 
 -- ---- what an agent takes
-
-pub record IsFront {A : Type 0} (front whole : List A) : Type 0 where
-  pub more : List A
-  pub is : whole ≡ front ++ more
 
 -- A link gives its receiver what was sent, in order.
 pub record TookFrontOf (W : PlainWorkload) (J : PlainJournal) (n : NodeDoings) (client : ℕ) : Type 0 where
