@@ -1,6 +1,7 @@
 -- What performed steps add to a node: an event for each step, and the steps to its log.
-use Rattle.std.proofs.Common.{◌≡◌, List, [], ◌∷◌, ◌++◌, append-nil, append_assoc, sym, ap, subst, ◌∙◌, Some, refl, map}
+use Rattle.std.proofs.Common.{◌≡◌, List, length, drop, [], ◌∷◌, ◌++◌, append-nil, append_assoc, sym, ap, subst, ◌∙◌, Some, refl, map}
 use Rattle.hs_law_lockstep.proofs.Prelude.{same_Some, Messages, Step, EventsAddThis, noted_as, AgentEvent, PlainSettings, NodeRun, perform, after_steps}
+use Rattle.hs_lists.proofs.Parts.{drop_front}
 use Rattle.hs_law_journal.proofs.Extending.{noted_step}
 use Rattle.hs_law_lockstep.proofs.Performed.{first_of_steps}
 
@@ -25,3 +26,6 @@ came adds settings heard (step ∷ rest) run later e =
           ∙ ap (λ (log : List Step). log ++ rest) ((adds settings run.node run.state).log f.event ∙ ap (λ (s : Step). run.state.log ++ s ∷ []) noted)
           ∙ append_assoc run.state.log (step ∷ []) rest;
     }
+
+pub added_is : {X : Type 0} (xs ys new : List X) → ys ≡ xs ++ new → drop (length xs) ys ≡ new
+added_is xs ys new e = ap (drop (length xs)) e ∙ drop_front xs new

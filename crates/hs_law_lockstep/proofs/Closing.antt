@@ -1,16 +1,16 @@
 -- Closing ends: each pass that finds something to do works something off, and there is only so much. So nothing is left over.
 use Rattle.std.proofs.Common.{◌≡◌, ◌⊎◌, inl, inr, ℕ, zero, suc, ◌+◌, ◌-◌, ◌*◌, ◌/◌, ◌<◌, ◌≤◌, min, Bool, true, false, cond, List, [], ◌∷◌, ◌++◌, length, refl, sym, ap, subst, ◌∙◌, Option, Some, None, arith, map, fold, filter, option_map, slice_get, unwrap_or, count_by, eq-eqb, ltb, lt-ltb, ltb-true}
-use Rattle.hs_law_lockstep.proofs.Prelude.{AllByRecursion, range_with_len, option_map_or, both_true, suc-mul, mul-le-mul_right, and_parts, length-map, length-range_with_len, mul-add-lt, slice_get-map, slice_get_within, same_Some, filter_few, all_by_place, all_each, all_at, count_append, list_all_from, range_at, ClientId, MIN_SIZE, MAX_TAKEN, Message, Draw, Step, pages_of, PlainWorkload, DrawnPage, has_buffer, drawn_from, Sent, ClientSends, sent_chunks, sent_within, client_sends, node_sends, operations_at, draws_at, place_of, TimedPage, timed_pages, is_bare, rounds_of, Queue, Chunks, Crumbs, Triggers, Asks, takes, taken, asks_to, is_from, NodeRun, Run, node_start, run_start, followed, node_behind, run_behind, played, sent_to, supply, IsLaidOut, ScheduleIsBare, Known, Machine, machine_start, done_at, draws_in, pages_started, client_goes, pass_steps, passes, rounds, closing, closing_limit, lockstep, sum_to, sum_le, sum_lt, admitted_at, is_known, Speaks, get_there, IsReached, clients_go, round}
+use Rattle.hs_law_lockstep.proofs.Prelude.{AllByRecursion, range_with_len, option_map_or, both_true, suc-mul, and_parts, length-map, length-range_with_len, mul-add-lt, slice_get-map, slice_get_within, same_Some, filter_few, all_by_place, all_each, all_at, count_append, list_all_from, range_at, ClientId, MIN_SIZE, MAX_TAKEN, Message, Draw, Step, pages_of, PlainWorkload, DrawnPage, has_buffer, drawn_from, Sent, ClientSends, sent_chunks, sent_within, client_sends, node_sends, operations_at, draws_at, place_of, TimedPage, timed_pages, is_bare, rounds_of, Queue, Chunks, Crumbs, Triggers, Asks, takes, taken, asks_to, is_from, NodeRun, Run, node_start, run_start, followed, node_behind, run_behind, played, sent_to, supply, IsLaidOut, ScheduleIsBare, Known, Machine, machine_start, done_at, draws_in, pages_started, client_goes, pass_steps, passes, rounds, closing, closing_limit, lockstep, sum_to, sum_le, sum_lt, admitted_at, is_known, Speaks, get_there, IsReached, clients_go, round}
 use Rattle.std.specs.Prelude.{sum_by}
 use Rattle.std.proofs.lemmas.List.Sums.{sum_by-cons}
 use Rattle.hs_law_journal.specs.Ends.{took_all, is_left_bare}
 use Rattle.hs_law_lockstep.specs.Reaching as reaching
-use Rattle.hs_law_lockstep.proofs.Beside.{zipped_all}
+use Rattle.hs_law_lockstep.proofs.Lists.{zipped_all}
 use Rattle.hs_law_lockstep.proofs.FewAsks.{asks_few, IsNumbered}
 use Rattle.hs_law_lockstep.proofs.Followed.{number_is, count_nodes, fits, draws_are, starts_at}
 use Rattle.hs_law_journal.proofs.Groups.{triggers_in}
 use Rattle.hs_law_lockstep.proofs.Items.{IsWithin, timely_at, crumbs_within, triggers_within, chunks_all, drawn_all, in_time, chunks_taken, crumbs_taken, triggers_taken, asks_taken}
-use Rattle.hs_law_lockstep.proofs.Passing.{gives}
+use Rattle.hs_law_lockstep.proofs.Takes.{gives}
 use Rattle.hs_law_lockstep.proofs.Pins.{HaveWeights}
 use Rattle.hs_law_lockstep.proofs.Progress.{IsWorked, pass_works, spoken}
 use Rattle.hs_law_lockstep.proofs.Hears.{more, heard_more, heard_now}

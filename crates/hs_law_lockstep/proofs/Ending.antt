@@ -12,7 +12,7 @@ use Rattle.hs_law_journal.proofs.Sizes.{client_few}
 
 -- ---- rounds
 
-rounds_last : (W : PlainWorkload) (n : ℕ) (m : Machine) → rounds n W (round W m) ≡ round W (rounds n W m)
+pub rounds_last : (W : PlainWorkload) (n : ℕ) (m : Machine) → rounds n W (round W m) ≡ round W (rounds n W m)
 rounds_last W zero m = refl
 rounds_last W (suc n) m = rounds_last W n (round W m)
 
@@ -70,11 +70,11 @@ module _ (W : PlainWorkload) (start : Machine) where
   abbrev bare_at : ℕ → Bool
   bare_at n = is_bare (played W (passed n W start).journal)
 
-  record Closes (limit : ℕ) (m : Machine) : Type 0 where
-    count : ℕ
-    waits : (n : ℕ) → n < count → bare_at n ≡ false
-    most : count ≤ limit
-    is : m ≡ passed count W start
+  pub record Closes (limit : ℕ) (m : Machine) : Type 0 where
+    pub count : ℕ
+    pub waits : (n : ℕ) → n < count → bare_at n ≡ false
+    pub most : count ≤ limit
+    pub is : m ≡ passed count W start
 
   wait_more : (j : ℕ) → ((n : ℕ) → n < j → bare_at n ≡ false) → bare_at j ≡ false → (n : ℕ) → n < suc j → bare_at n ≡ false
   wait_more j waits here n low = either (same_or n j low)
@@ -94,7 +94,7 @@ module _ (W : PlainWorkload) (start : Machine) where
   close_case limit fuel j true e low waits on = record { count = j; waits = waits; most = low; is = refl }
   close_case limit fuel j false e low waits on = on e
 
-  closes : (limit fuel j : ℕ) → j + fuel ≤ limit → ((n : ℕ) → n < j → bare_at n ≡ false) → Closes limit (closing fuel W (passed j W start))
+  pub closes : (limit fuel j : ℕ) → j + fuel ≤ limit → ((n : ℕ) → n < j → bare_at n ≡ false) → Closes limit (closing fuel W (passed j W start))
   closes limit zero j low waits = record { count = j; waits = waits; most = omega (arith, low); is = refl }
   closes limit (suc fuel) j low waits = close_case limit fuel j (bare_at j) refl (omega (arith, low)) waits (λ here. closes limit fuel (suc j) (omega (arith, low)) (wait_more j waits here))
 

@@ -1,18 +1,15 @@
 -- The schedule is followed to its end, piece by piece: each time a client has drawn, agents have taken or given, or the coordinator
 -- has heard, the run of the longer journal is that of the shorter one with these steps performed.
 use Rattle.std.proofs.Common.{◌≡◌, ℕ, zero, suc, ◌+◌, ◌-◌, ◌/◌, min, ◌<◌, ◌≤◌, true, false, List, [], ◌∷◌, ◌++◌, length, set, drop, replicate, refl, sym, ap, subst, ◌∙◌, Option, Some, None, arith, map, option_map, slice_get, unwrap_or, count_by, append-nil, eq-eqb, nat_eq}
-use Rattle.hs_law_lockstep.proofs.Prelude.{AllByRecursion, flat_map, range_with_len, both_true, option_map_or, length-map, length-replicate, length-range_with_len, slice_get-map, slice_get_within, all_by_place, all_map, all_append, all_each, all_at, drop_length, count_append, list_all_from, NodeId, Messages, Draw, Step, PlainJournal, PlainWorkload, draws_at, operations_at, node_behind, run_behind, IsOfJournal, Queue, takes, taken, is_from, NodeRun, Run, log_at, node_start, run_start, followed, Leads, Stays, is_offer, played, pool_events, supply, said_at, same_supply, Known, Machine, machine_start, done_at, draws_in, pages_started, client_goes, pass_steps, give_steps, with_steps, agents_take, agents_give, told_of, coordinator_hears, passes, lockstep}
+use Rattle.hs_law_lockstep.proofs.Prelude.{AllByRecursion, flat_map, range_with_len, both_true, option_map_or, length-map, length-replicate, length-range_with_len, slice_get-map, slice_get_within, all_by_place, all_map, all_append, all_each, all_at, drop_length, count_append, list_all_from, NodeId, Messages, Draw, Step, PlainJournal, PlainWorkload, draws_at, operations_at, node_behind, run_behind, IsOfJournal, Queue, takes, taken, is_from, NodeRun, Run, log_at, node_start, run_start, followed, Leads, Stays, is_offer, pool_events, supply, said_at, same_supply, Known, Machine, machine_start, done_at, draws_in, pages_started, client_goes, pass_steps, give_steps, with_steps, agents_take, agents_give, told_of, coordinator_hears}
 use Rattle.hs_lists.proofs.Ranges.{range_found}
 use Rattle.hs_lists.proofs.Parts.{drop_front}
 use Rattle.hs_journal.specs.declared.journal.Step.TheVariants as steps
-use Rattle.hs_law_journal.specs.Ends.{is_followed}
 use Rattle.hs_law_journal.specs.Extending.{HasMore, GoesOn, NodesAreOfJournal}
 use Rattle.hs_law_journal.specs.Following.{is_done}
 use Rattle.hs_law_journal.specs.Supply.{TakesWhatIsThere}
-use Rattle.hs_law_lockstep.specs.Clauses.{ScheduleIsFollowed}
 use Rattle.hs_law_lockstep.specs.Lockstep.{with_draws}
 use Rattle.hs_law_lockstep.proofs.Lists.{length_extended, extended_at, extended_more}
-use Rattle.hs_law_lockstep.proofs.Machines.{clients_keep, end_keeps, machine_end}
 use Rattle.hs_law_lockstep.proofs.Rooms.{pass_fits, told_fits}
 use Rattle.hs_law_lockstep.proofs.Takes.{before_turn, all_takes}
 use Rattle.hs_law_lockstep.proofs.Walks.{leads_on, with_nodes, Walked, walk_all, Enough, IsThrough, takes_walk, IsEmptied, gives_walk, EnoughSaid, is_node, hears_all}
@@ -310,9 +307,6 @@ module _ (k : Known) (W : PlainWorkload) where
 
   -- ---- the whole
 
-  pub pass_keeps : (m : Machine) → IsDone W m → IsDone W (passes W m)
-  pass_keeps m h = hear_keeps (agents_give W (agents_take W m)) (give_keeps (agents_take W m) (take_keeps m h))
-
   pub client_keeps : (m : Machine) (place : ℕ) → IsDone W m → IsDone W (client_goes W m place)
   client_keeps m place h =
       draws_keep m place (min (done_at m place + W.settings.stride) (length (operations_at W place)))
@@ -335,12 +329,3 @@ module _ (k : Known) (W : PlainWorkload) where
 
   pub begins : IsDone W (machine_start W)
   begins = record { logs = length-replicate W.settings.nodes []; over = subst IsOver starts_at starts_over }
-
-  pub ends_done : IsDone W (machine_end W)
-  ends_done = end_keeps W (IsDone W) (clients_keep W (IsDone W) client_keeps) pass_keeps begins
-
-  pub ends_followed : is_followed (played W (lockstep W)) ≡ true
-  ends_followed = over_done (followed W (lockstep W)) ends_done.over
-
-pub schedule_is_followed : Known → ScheduleIsFollowed
-schedule_is_followed k W = ends_followed k W

@@ -122,7 +122,7 @@ module _ (k : Known) (settings : PlainSettings) (heard : Messages) where
 -- ---- they give
 
 module _ (k : Known) (W : PlainWorkload) (m : Machine) (r : IsReached W m) where
-  gives_there : StepsThere k W m give_steps (done k W m r) (CameBy k W m r give_steps)
+  pub gives_there : StepsThere k W m give_steps (done k W m r) (CameBy k W m r give_steps)
   gives_there =
       all_came k W m r give_steps
       (λ i node stands.

@@ -149,10 +149,6 @@ pub record IsAnswered (events : List StampedPoolEvent) (buffer from to : ℕ) : 
   pub past : to < length events
   pub untouched : AllByRecursion (λ (e : StampedPoolEvent). has_buffer buffer e.event ≡ true → from < e.stamp → e.stamp < to → ⊥) events
 
-zero_one : (b : Bool) → one b ≡ 0 → b ≡ true → ⊥
-zero_one true h e = omega (arith, h)
-zero_one false h e = let no : false ≡ true = e in absurd cc
-
 module _ (n : ℕ) (a b : List StampedPoolEvent) (event : PoolEvent) (p : IsPooled n (before a b event)) where
   abbrev was : List StampedPoolEvent
   was = before a b event

@@ -1,5 +1,5 @@
 -- What the coordinator hears in a pass: of each node what it said, or as many messages as it may.
-use Rattle.std.proofs.Common.{◌≡◌, ℕ, zero, suc, ◌+◌, ◌-◌, ◌<◌, ◌≤◌, min, Bool, true, false, List, [], ◌∷◌, ◌++◌, length, refl, sym, ap, subst, ◌∙◌, Option, Some, None, arith, map, slice_get, replicate, count_by, eqb, eqb-true, eq-eqb}
+use Rattle.std.proofs.Common.{◌≡◌, ℕ, zero, suc, ◌+◌, ◌-◌, ◌<◌, ◌≤◌, min, Bool, true, false, List, [], ◌∷◌, ◌++◌, length, refl, sym, ap, subst, ◌∙◌, Some, None, arith, map, slice_get, replicate, count_by, eqb, eqb-true, eq-eqb}
 use Rattle.hs_law_lockstep.proofs.Prelude.{flat_map, range_with_len, slice_get-map, same_Some, one_if, count_cons, count_append, option_unmap, NodeId, MAX_TAKEN, Messages, PlainWorkload, node_behind, is_from, NodeRun, Run, followed, Known, Machine, agents_take, agents_give, told_of, coordinator_hears, passes}
 use Rattle.hs_law_lockstep.proofs.Followed.{number_is, count_nodes, nodes_of_journal, take_there, give_there, hear_there, IsDone}
 use Rattle.hs_law_lockstep.proofs.Keeping.{Keeps, take_keeps_held, give_keeps_held}
@@ -106,7 +106,7 @@ module _ (k : Known) (W : PlainWorkload) (m : Machine) (g : Keeps k W m) where
   given_done = (give_keeps_held k W (agents_take W m) (take_keeps_held k W m g)).done
 
   -- the agents let the coordinator be
-  heard_given : (followed W given.journal).heard ≡ before.heard
+  pub heard_given : (followed W given.journal).heard ≡ before.heard
   heard_given = (give_there k W (agents_take W m) (take_keeps_held k W m g).done).heard ∙ (take_there k W m g.done).heard
 
   abbrev pub more : Messages

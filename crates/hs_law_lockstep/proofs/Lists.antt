@@ -1,6 +1,6 @@
 -- Lists that are extended, tested and counted.
-use Rattle.std.proofs.Common.{◌≡◌, ℕ, zero, suc, ◌+◌, ◌<◌, Bool, false, List, [], ◌∷◌, ◌++◌, length, set, refl, sym, ap, arith, map, slice_get, unwrap_or, count_by, append-nil}
-use Rattle.hs_law_lockstep.proofs.Prelude.{AllByRecursion, one_if, count_cons, count_append, all_append, extended}
+use Rattle.std.proofs.Common.{◌≡◌, ℕ, zero, suc, ◌+◌, ◌<◌, Bool, List, [], ◌∷◌, ◌++◌, length, set, refl, sym, ap, arith, slice_get, unwrap_or, append-nil, Some, true, zip, ◌∙◌}
+use Rattle.hs_law_lockstep.proofs.Prelude.{extended, both_true, list_all, range_with_len}
 
 module _ {X : Type 0} where
   -- ---- places
@@ -9,38 +9,12 @@ module _ {X : Type 0} where
   set_at [] x y behind = refl
   set_at (z ∷ front) x y behind = ap (λ rest. z ∷ rest) (set_at front x y behind)
 
-  -- ---- counts
-
-  pub count_none : (p : X → Bool) (xs : List X) → AllByRecursion (λ x. p x ≡ false) xs → count_by p xs ≡ 0
-  count_none p [] all = refl
-  count_none p (x ∷ xs) all =
-      let first = count_cons p x xs in
-      let here = ap one_if all.0 in
-      let rest = count_none p xs all.1 in
-      omega (arith, first, here, rest)
-
   -- ---- lists that are extended
 
   pub length_extended : (lists more : List (List X)) → length (extended lists more) ≡ length lists
   length_extended [] more = refl
   length_extended (items ∷ lists) [] = refl
   length_extended (items ∷ lists) (behind ∷ more) = ap suc (length_extended lists more)
-
-  pub all_extended : (P : X → Type 0) (lists more : List (List X)) → AllByRecursion (AllByRecursion P) lists → AllByRecursion (AllByRecursion P) more → AllByRecursion (AllByRecursion P) (extended lists more)
-  all_extended P [] more a b = tt
-  all_extended P (items ∷ lists) [] a b = a
-  all_extended P (items ∷ lists) (behind ∷ more) a b = (all_append P items behind a.0 b.0, all_extended P lists more a.1 b.1)
-
-  pub count_extended : (p : X → Bool) (k j : ℕ) (lists more : List (List X)) → length lists ≡ length more → AllByRecursion (λ xs. count_by p xs ≡ k) lists → AllByRecursion (λ xs. count_by p xs ≡ j) more
-      → AllByRecursion (λ xs. count_by p xs ≡ k + j) (extended lists more)
-  count_extended p k j [] more same a b = tt
-  count_extended p k j (items ∷ lists) [] same a b = let no : suc (length lists) ≡ 0 = same in absurd (omega (arith, no))
-  count_extended p k j (items ∷ lists) (behind ∷ more) same a b =
-      let tails : suc (length lists) ≡ suc (length more) = same in
-      let both = count_append p items behind in
-      let first = a.0 in
-      let second = b.0 in
-      (omega (arith, both, first, second), count_extended p k j lists more (omega (arith, tails)) a.1 b.1)
 
   pub extended_at : (lists more : List (List X)) (i : ℕ) → i < length lists → i < length more
       → unwrap_or (slice_get (extended lists more) i) [] ≡ unwrap_or (slice_get lists i) [] ++ unwrap_or (slice_get more i) []
@@ -56,7 +30,11 @@ module _ {X : Type 0} where
   extended_more (items ∷ lists) (behind ∷ more) zero = (behind, refl)
   extended_more (items ∷ lists) (behind ∷ more) (suc i) = extended_more lists more i
 
-module _ {X Y : Type 0} where
-  pub all_map : (P : Y → Type 0) (f : X → Y) (xs : List X) → ((x : X) → P (f x)) → AllByRecursion P (map f xs)
-  all_map P f [] on = tt
-  all_map P f (x ∷ xs) on = (on x, all_map P f xs on)
+-- ---- tests
+
+pub zipped_all : {X : Type 0} (p : ℕ × X → Bool) (start : ℕ) (xs : List X) → ((n : ℕ) (x : X) → slice_get xs n ≡ Some x → p (start + n, x) ≡ true) → list_all p (zip (range_with_len start (length xs)) xs) ≡ true
+zipped_all p start [] each = refl
+zipped_all p start (x ∷ xs) each =
+    let here : start + 0 ≡ start = omega arith in
+    both_true (ap (λ (n : ℕ). p (n, x)) (sym here) ∙ each 0 x refl)
+    (zipped_all p (start + 1) xs (λ n y h. let there : start + 1 + n ≡ start + suc n = omega arith in ap (λ (n : ℕ). p (n, y)) there ∙ each (suc n) y h))

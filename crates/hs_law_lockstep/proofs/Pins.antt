@@ -1,6 +1,6 @@
 -- What is pinned can be reported: its group is of a declared trigger id, which has a share, and the budget of a share pays for a page.
 use Rattle.std.proofs.Common.{◌≡◌, ℕ, zero, suc, ◌+◌, ◌*◌, ◌<◌, ◌≤◌, Bool, true, false, ◌||◌, cond, List, [], ◌∷◌, refl, sym, ap, subst, ◌∙◌, Option, Some, None, arith, option_map, slice_get, find, eqb, eqb-true, eq-eqb}
-use Rattle.hs_law_lockstep.proofs.Prelude.{AllByRecursion, list_any, range_with_len, option_map_or, suc-mul, and_parts, length-map, length-range_with_len, slice_get-map, slice_get_within, same_Some, all_at, range_at, is_declared, MIN_SIZE, TriggerRule, PlainJournal, count_of, PlacesMatch, ListsHaveTheirChunks, sheets_of, CanReport, Taken, stands, PlainWorkload, ClientSends, sheet_of, client_sends, node_sends, operations_at, draws_at, place_of, timed_pages, NodeRun, ComesByEvents, is_known, Speaks}
+use Rattle.hs_law_lockstep.proofs.Prelude.{AllByRecursion, list_any, range_with_len, option_map_or, suc-mul, and_parts, length-map, length-range_with_len, slice_get-map, slice_get_within, same_Some, all_at, range_at, is_declared, MIN_SIZE, TriggerRule, PlainJournal, count_of, PlacesMatch, ListsHaveTheirChunks, sheets_of, CanReport, Taken, stands, PlainWorkload, ClientSends, sheet_of, client_sends, node_sends, operations_at, draws_at, place_of, timed_pages, NodeRun, ComesByEvents, is_known, Speaks, ClientId, Draw, DrawnPage, TimedPage, drawn_from}
 use Rattle.hs_base.specs.declared.ids.TriggerId.{TriggerId}
 use Rattle.hs_base.specs.declared.told.Group.{Group}
 use Rattle.hs_base.specs.Ids.{same_trace}
@@ -12,10 +12,31 @@ use Rattle.hs_sched.specs.declared.share.Share.{Share}
 use Rattle.hs_sched.specs.Visits.{budget_of}
 use Rattle.hs_law_sends.specs.Laws.{PagesFit}
 use Rattle.hs_words.specs.Chunks.{used_of}
-use Rattle.hs_law_lockstep.proofs.Beside.{drawn_at}
 use Rattle.hs_law_journal.proofs.Groups.{AreOfRules}
 use Rattle.hs_law_lockstep.proofs.Held.{HoldsAt}
 use Rattle.hs_law_lockstep.proofs.Holding.{page_found}
+
+-- a page that was drawn is one of the pages, with one of the draws
+record DrawnAt (pages : List TimedPage) (draws : List Draw) (j : ℕ) (d : DrawnPage) : Type 0 where
+  page : TimedPage
+  there : slice_get pages j ≡ Some page
+  plain : d.page ≡ page.page
+  started : d.started ≡ page.started
+  draw : slice_get draws j ≡ Some d.draw
+
+drawn_at : (client : ClientId) (k : ℕ) (pages : List TimedPage) (draws : List Draw) (j : ℕ) (d : DrawnPage) → slice_get (drawn_from client k pages draws) j ≡ Some d → DrawnAt pages draws j d
+drawn_at client k [] draws j d h = let never : None ≡ Some d = h in absurd cc
+drawn_at client k (page ∷ pages) [] j d h = let never : None ≡ Some d = h in absurd cc
+drawn_at client k (page ∷ pages) (draw ∷ draws) zero d h =
+    let same = same_Some _ d h in
+    record {
+      page = page;
+      there = refl;
+      plain = ap (λ (d : DrawnPage). d.page) (sym same);
+      started = ap (λ (d : DrawnPage). d.started) (sym same);
+      draw = ap (λ (d : DrawnPage). Some d.draw) same;
+    }
+drawn_at client k (page ∷ pages) (draw ∷ draws) (suc j) d h = let rest = drawn_at client (k + 1) pages draws j d h in record { page = rest.page; there = rest.there; plain = rest.plain; started = rest.started; draw = rest.draw }
 
 -- each trigger id has a weight
 abbrev pub HaveWeights : List TriggerRule → Type 0

@@ -19,13 +19,12 @@ pub use Rattle.hs_law_journal.proofs.Sizes.{all_few}
 pub use Rattle.hs_law_journal.proofs.Sums.{sum_le, sum_lt, sum_to}
 pub use Rattle.hs_law_journal.proofs.Supplied.{same_supply}
 pub use Rattle.hs_law_journal.specs.Ends.{is_bare, rounds_for, rounds_of}
-pub use Rattle.hs_law_journal.specs.Extending.{IsOfJournal, node_behind, run_behind, RunsAreOfTheJournal, StepsAreNoted}
+pub use Rattle.hs_law_journal.specs.Extending.{IsOfJournal, node_behind, run_behind, StepsAreNoted}
 pub use Rattle.hs_law_journal.specs.Following.{ask_by, Asks, asks_behind, asks_to, Chunks, Crumbs, event_of, followed, hear, is_from, log_at, message_of, next_of, node_start, NodeRun, perform, Queue, Run, run_start, step_node, step_of, taken, takes, Triggers}
 pub use Rattle.hs_law_journal.specs.Known.{Known}
 pub use Rattle.hs_law_journal.specs.Laws.{ComesByEvents}
 pub use Rattle.hs_law_journal.specs.Orders.{FollowingPlaysOut, Goes, Leads, Performs, Stays}
-pub use Rattle.hs_law_journal.specs.Pace.{asks_in_pace, gives_in_pace, items_in_pace}
-pub use Rattle.hs_law_journal.specs.Passes.{ends_between, is_offer, is_turn, is_unread, is_whole_pass, passes_of, put_step, queues_of, steps_in, taken_in}
+pub use Rattle.hs_law_journal.specs.Passes.{is_offer, is_unread, queues_of}
 pub use Rattle.hs_law_journal.specs.Performing.{after_steps}
 pub use Rattle.hs_law_journal.specs.Played.{played}
 pub use Rattle.hs_law_journal.specs.Pooled.{answers_draw, buffer_of, by_stamp, drawn_event, event_drawn, given_page, missed_event, node_pages, page_of, pool_events, pool_history, StampedPoolEvent}
@@ -42,11 +41,11 @@ pub use Rattle.hs_law_sends.specs.Sending.{client_sends, ClientSends, draws_at, 
 pub use Rattle.hs_law_sends.specs.Timing.{timed_pages, TimedPage}
 pub use Rattle.hs_lists.proofs.Alls.{all_append, all_at, all_by_place, all_each, all_flat_map, all_front, all_map, all_replicate}
 pub use Rattle.hs_lists.proofs.Counts.{count_append, count_cons, one_if}
-pub use Rattle.hs_lists.proofs.Filters.{filter_all, filter_few, filter_none}
+pub use Rattle.hs_lists.proofs.Filters.{filter_all, filter_few}
 pub use Rattle.hs_lists.proofs.Options.{option_unmap}
 pub use Rattle.hs_lists.proofs.Parts.{drop_length}
 pub use Rattle.hs_lists.proofs.Places.{get_front, get_mid, get_there, unwrap_other, unwrap_set}
-pub use Rattle.hs_lists.proofs.Ranges.{list_all_range, list_all_range_below, range_at}
+pub use Rattle.hs_lists.proofs.Ranges.{list_all_range_below, range_at}
 pub use Rattle.hs_lists.proofs.Tests.{list_all_from}
 pub use Rattle.hs_records.specs.Pages.{pages_of}
 pub use Rattle.hs_records.specs.Plain.{Operation, PlainSettings, PlainWorkload}

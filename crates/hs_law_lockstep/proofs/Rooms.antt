@@ -20,10 +20,6 @@ module _ {X : Type 0} where
       let rest = count_replicate p n x false h in
       omega (arith, first, here, rest)
 
-  filter_case : (x : X) (kept : List X) (n : ℕ) (b : Bool) → length kept ≤ n → length (cond b (x ∷ kept) kept) ≤ suc n
-  filter_case x kept n true h = omega (arith, h)
-  filter_case x kept n false h = omega (arith, h)
-
 -- ---- sums over numbered items
 
 -- the weights of the items of the wanted number

@@ -12,7 +12,7 @@ use Rattle.hs_law_journal.specs.Shape.{same_counts, has_shape}
 use Rattle.hs_law_lockstep.specs.Clauses.{ScheduleHasShape}
 use Rattle.hs_law_lockstep.proofs.Lists.{length_extended}
 use Rattle.hs_law_lockstep.proofs.Machines.{closing_keeps, machine_end}
-use Rattle.hs_law_lockstep.proofs.Turns.{nodes_counted}
+use Rattle.hs_law_lockstep.proofs.Followed.{count_nodes}
 
 -- ---- lists
 
@@ -27,10 +27,6 @@ module _ {X : Type 0} where
   filter_more : (p q : X → Bool) (xs : List X) → ((x : X) → p x ≡ true → q x ≡ true) → length (filter p xs) ≤ length (filter q xs)
   filter_more p q [] on = omega arith
   filter_more p q (x ∷ xs) on = more_case x (filter p xs) (filter q xs) (p x) (q x) (on x) (filter_more p q xs on)
-
-  few_case : (x : X) (a xs : List X) (b : Bool) → length a ≤ length xs → length (cond b (x ∷ a) a) ≤ suc (length xs)
-  few_case x a xs true h = omega (arith, h)
-  few_case x a xs false h = omega (arith, h)
 
   filter_none : (p : X → Bool) (xs : List X) → ((x : X) → p x ≡ false) → length (filter p xs) ≡ 0
   filter_none p [] none = refl
@@ -134,7 +130,7 @@ module _ (k : Known) (W : PlainWorkload) (laid : IsLaidOut W) where
   pub draws_counted : (m : Machine) (place n : ℕ) → place < count → length (draws_in W m (place / W.settings.clients) n) ≡ n
   draws_counted m place n below =
       let low = node_there place below in
-      let all = nodes_counted k.plays k.runs W m.journal in
+      let all = count_nodes k W m.journal in
       let node = get_there (followed W m.journal).nodes (place / W.settings.clients) (omega (arith, low, all)) in
       ap (λ (o : Option NodeRun). length (option_map_or (draws_by W n) o [])) node.1 ∙ length_next n _ _
 

@@ -70,6 +70,13 @@ module _ (k : Known) (W : PlainWorkload) where
   pub number_at : (m : Machine) (i : ℕ) (run : NodeRun) → slice_get (followed W m.journal).nodes i ≡ Some run → run.node ≡ i
   number_at m i run at = number_is k W m.journal i run at
 
+  -- whom the coordinator heard is noted
+  pub told_is : (m : Machine) → IsReached W m → names_of (followed W m.journal).heard ≡ m.journal.told
+  told_is m r =
+      sym (append-nil (names_of (followed W m.journal).heard))
+      ∙ ap (λ (left : List NodeId). names_of (followed W m.journal).heard ++ left) (sym (kept m r).done.over.left)
+      ∙ leads_named W.settings (run_start W m.journal) (followed W m.journal) (k.plays W m.journal).leads
+
   module _ (laid : IsLaidOut W) where
     pub record Standing (m : Machine) : Type 0 where
       pub drawn : HasDrawn k W laid m
@@ -157,10 +164,7 @@ module _ (k : Known) (W : PlainWorkload) where
           count = count_nodes k W m.journal;
           each = performed_at m r;
           left = left;
-          told =
-              sym (append-nil (names_of (followed W m.journal).heard))
-              ∙ ap (λ (left : List NodeId). names_of (followed W m.journal).heard ++ left) (sym left)
-              ∙ leads_named W.settings (run_start W m.journal) (followed W m.journal) (k.plays W m.journal).leads;
+          told = told_is m r;
           drawn = s.drawn.drawn;
           within = s.within;
         }

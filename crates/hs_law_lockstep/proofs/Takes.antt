@@ -1,5 +1,5 @@
 -- What an agent takes in a pass: steps that take from a queue, and no others before its turn.
-use Rattle.std.proofs.Common.{ℕ, List, ◌++◌, length, zip}
+use Rattle.std.proofs.Common.{ℕ, List, map, ◌++◌, length, zip}
 use Rattle.hs_law_lockstep.proofs.Prelude.{AllByRecursion, range_with_len, all_append, all_replicate, all_flat_map, Step, PlainWorkload, ClientSends, place_of, sent_within, Chunks, Crumbs, Triggers, Asks, NodeRun, Run, asks_to, Machine, takes_from, takes_of, takes_all, done_at}
 use Rattle.hs_journal.specs.declared.journal.Step.TheVariants as steps
 
@@ -22,3 +22,7 @@ module _ (P : Step → Type 0) (chunk : (client : ℕ) → P (steps.Chunk client
       (all_flat_map P (λ (c : ℕ × ClientSends). takes_of node c.0 c.1 (done_at m (place_of W.settings.clients node.node c.0))) (zip (range_with_len 0 (length node.sends)) node.sends)
       (λ c. client_takes node c.0 c.1 (done_at m (place_of W.settings.clients node.node c.0))))
       (all_replicate P _ steps.Ask ask)
+
+-- what an agent gives, by its stamps
+abbrev pub gives : List ℕ → List Step
+gives stamps = map (λ (stamp : ℕ). steps.Given stamp) stamps

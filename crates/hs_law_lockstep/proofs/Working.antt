@@ -6,7 +6,7 @@ use Rattle.std.specs.Option.{option_to_list}
 use Rattle.hs_base.specs.declared.told.Told.{Told}
 use Rattle.hs_journal.specs.declared.journal.Step.TheVariants as steps
 use Rattle.hs_law_agent.specs.Laws.{borne, EventsAddFew, StepsSayWhatTheyTell, TurnsReport}
-use Rattle.hs_law_agent.specs.Stepping.{Answered, told_by}
+use Rattle.hs_law_agent.specs.Stepping.{told_by}
 use Rattle.hs_law_agent.specs.Stepping as model
 
 -- ---- what is taken

@@ -61,9 +61,9 @@ ScheduleHasPasses = (W : PlainWorkload) → has_passes (played W (lockstep W)) �
 abbrev pub ScheduleHasOffers : Type 0
 ScheduleHasOffers = (W : PlainWorkload) → has_offers (played W (lockstep W)) ≡ true
 
--- Agents and coordinator keep pace with the clients, where pages have their least size at least.
+-- Agents and coordinator keep pace with the clients.
 abbrev pub ScheduleHasPace : Type 0
-ScheduleHasPace = (W : PlainWorkload) → IsLaidOut W → MIN_SIZE ≤ W.settings.size → has_pace (played W (lockstep W)) ≡ true
+ScheduleHasPace = (W : PlainWorkload) → IsValid W → has_pace (played W (lockstep W)) ≡ true
 
 -- What a whole schedule asks of a workload beside its shape: pages of the least size at least, and a weight for each trigger id. Every
 -- valid workload keeps this.

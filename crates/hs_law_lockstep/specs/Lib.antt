@@ -7,3 +7,4 @@ pub mod Conditions
 pub mod Ending
 pub mod PartExamples
 pub mod Examples
+pub mod Told

@@ -5,10 +5,16 @@ ghost use Rattle.hs_law_lockstep.specs.Reaching.{MachinesAreWhole, MachinesStart
 ghost use Rattle.hs_law_lockstep.specs.Parts.{ClientsGoSo, AgentsTakeSo, AgentsGiveSo, CoordinatorHearsSo};
 ghost use Rattle.hs_law_lockstep.specs.Conditions.{MachinesFit, MachinesTellWithin};
 ghost use Rattle.hs_law_lockstep.specs.Ending.{RoundsEnd, ClosingEnds};
+ghost use Rattle.hs_law_lockstep.specs.Told.{ScheduleIsDoings};
 ghost use Rattle.hs_law_lockstep.specs.Clauses.{ScheduleHasShape, ScheduleHasStamps, ScheduleHasHistory, ScheduleHasAnswers, ScheduleHasPasses, ScheduleHasOffers, ScheduleIsFollowed, ScheduleHasUnreads, ScheduleHasRounds, ScheduleHasPace, ScheduleIsBare, ScheduleIsLawful, ValidWorkloadsRun};
 
 use hs_law_agent::laws::crumbs_lead_below;
-use hs_law_journal::laws::{following_plays_out, known, runs_are_of_the_journal};
+use hs_law_journal::laws::{following_plays_out, known};
+use hs_law_run::laws::{
+    doings_are_enough, doings_are_in_pace, doings_are_whole_passes, doings_can_be_followed,
+    doings_make_their_offers, none_is_unread,
+};
+use hs_law_sends::laws::{the_first_chunks_are_sent, the_first_operations_send};
 use hs_records::pieces_are_counted;
 
 /// A workload has one schedule, whichever version it is written in.
@@ -16,47 +22,43 @@ pub fn versions_have_one_schedule()
     ensures { VersionsHaveOneSchedule }
 {}
 
-/// No offer of the schedule is unread.
-pub fn schedule_has_unreads()
-    ensures { ScheduleHasUnreads }
-{
-    following_plays_out();
-    runs_are_of_the_journal();
-}
-
-/// All agents of the schedule make equally many passes, at least as many as there are rounds.
-pub fn schedule_has_rounds()
-    ensures { ScheduleHasRounds }
-{
-    following_plays_out();
-    runs_are_of_the_journal();
-}
-
-/// Following the schedule leaves no step over.
-pub fn schedule_is_followed()
-    ensures { ScheduleIsFollowed }
+/// The schedule is doings that keep what its parts promise, whatever the workload.
+pub fn schedule_is_doings()
+    ensures { ScheduleIsDoings }
 {
     known();
+}
+
+/// So its journal keeps the clauses on order: each log is a list of whole passes in which all offers are made, none of them is unread, each
+/// step is ready when its turn comes, and all agents make as many passes, as many as there are rounds at least.
+pub fn schedule_has_order()
+    ensures passes { ScheduleHasPasses }
+    ensures offers { ScheduleHasOffers }
+    ensures unreads { ScheduleHasUnreads }
+    ensures followed { ScheduleIsFollowed }
+    ensures rounds { ScheduleHasRounds }
+{
+    schedule_is_doings();
+    doings_are_whole_passes();
+    doings_make_their_offers();
+    none_is_unread();
+    doings_can_be_followed();
+    doings_are_enough();
+}
+
+/// Agents and coordinator of the schedule keep pace with the clients.
+pub fn schedule_has_pace()
+    ensures { ScheduleHasPace }
+{
+    known();
+    the_first_operations_send();
+    the_first_chunks_are_sent();
+    doings_are_in_pace();
 }
 
 /// The schedule has the shape of its workload.
 pub fn schedule_has_shape()
     ensures { ScheduleHasShape }
-{
-    known();
-}
-
-/// Each log of the schedule is a list of whole passes.
-pub fn schedule_has_passes()
-    ensures { ScheduleHasPasses }
-{
-    following_plays_out();
-    runs_are_of_the_journal();
-}
-
-/// In each pass of the schedule all offers are made.
-pub fn schedule_has_offers()
-    ensures { ScheduleHasOffers }
 {
     known();
 }
@@ -82,13 +84,6 @@ pub fn schedule_has_answers()
     known();
 }
 
-/// Agents and coordinator of the schedule keep pace with the clients.
-pub fn schedule_has_pace()
-    ensures { ScheduleHasPace }
-{
-    known();
-}
-
 /// Closing ends, and then nothing is left over.
 pub fn schedule_is_bare()
     ensures { ScheduleIsBare }
@@ -110,11 +105,7 @@ pub fn schedule_is_lawful()
     schedule_has_stamps();
     schedule_has_history();
     schedule_has_answers();
-    schedule_has_passes();
-    schedule_has_offers();
-    schedule_has_unreads();
-    schedule_is_followed();
-    schedule_has_rounds();
+    schedule_has_order();
     schedule_is_bare();
     schedule_has_pace();
 }

@@ -8,11 +8,11 @@ returns c = λ W valid.
       L2 = c.schedule_has_stamps.ensures W runs.laid;
       L3 = c.schedule_has_history.ensures W;
       L4 = c.schedule_has_answers.ensures W;
-      L5 = c.schedule_has_passes.ensures W;
-      L6 = c.schedule_has_offers.ensures W;
-      L7 = c.schedule_has_unreads.ensures W;
-      L8 = c.schedule_is_followed.ensures W;
-      L9 = c.schedule_has_rounds.ensures W;
+      L5 = c.schedule_has_order.ensures.passes W;
+      L6 = c.schedule_has_order.ensures.offers W;
+      L7 = c.schedule_has_order.ensures.unreads W;
+      L8 = c.schedule_has_order.ensures.followed W;
+      L9 = c.schedule_has_order.ensures.rounds W;
       L10 = c.schedule_is_bare.ensures W runs;
-      L11 = c.schedule_has_pace.ensures W runs.laid runs.size;
+      L11 = c.schedule_has_pace.ensures W valid;
     }
