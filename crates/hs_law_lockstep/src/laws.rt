@@ -63,23 +63,12 @@ pub fn schedule_has_shape()
     known();
 }
 
-/// The stamps of each node number the events of its pool.
-pub fn schedule_has_stamps()
-    ensures { ScheduleHasStamps }
-{
-    known();
-}
-
-/// The events of each node's pool are a history of it.
-pub fn schedule_has_history()
-    ensures { ScheduleHasHistory }
-{
-    known();
-}
-
-/// Each give of the schedule answers the draw of its chunk.
-pub fn schedule_has_answers()
-    ensures { ScheduleHasAnswers }
+/// Its pools keep their promise: the stamps of each node number the events of its pool, these are a history of it, and each give answers the
+/// draw of its chunk.
+pub fn schedule_has_pools()
+    ensures stamps { ScheduleHasStamps }
+    ensures history { ScheduleHasHistory }
+    ensures answers { ScheduleHasAnswers }
 {
     known();
 }
@@ -102,9 +91,7 @@ pub fn schedule_is_lawful()
 {
     valid_workloads_run();
     schedule_has_shape();
-    schedule_has_stamps();
-    schedule_has_history();
-    schedule_has_answers();
+    schedule_has_pools();
     schedule_has_order();
     schedule_is_bare();
     schedule_has_pace();

@@ -5,9 +5,9 @@ returns c = λ W valid.
     let runs = c.valid_workloads_run.ensures W valid in
     record {
       L1 = c.schedule_has_shape.ensures W runs.laid;
-      L2 = c.schedule_has_stamps.ensures W runs.laid;
-      L3 = c.schedule_has_history.ensures W;
-      L4 = c.schedule_has_answers.ensures W;
+      L2 = c.schedule_has_pools.ensures.stamps W runs.laid;
+      L3 = c.schedule_has_pools.ensures.history W;
+      L4 = c.schedule_has_pools.ensures.answers W;
       L5 = c.schedule_has_order.ensures.passes W;
       L6 = c.schedule_has_order.ensures.offers W;
       L7 = c.schedule_has_order.ensures.unreads W;
