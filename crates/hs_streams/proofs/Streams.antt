@@ -1,7 +1,10 @@
 -- What a source lost, what a sink gained and what a counter counted, over several calls.
-use Rattle.std.proofs.Common.{◌≡◌, ℕ, List, [], ◌++◌, Option, Some, None, IfSome, ◌↔◌, inl, inr, refl, sym, ap, ◌∙◌, arith, append_assoc}
+use Rattle.std.proofs.Common.{◌≡◌, ℕ, List, [], ◌++◌, Option, Some, None, IfSome, ◌↔◌, ◌⊎◌, inl, inr, refl, sym, ap, ◌∙◌, arith, append_assoc}
 use Rattle.std.proofs.lemmas.List.{append-nil}
 use Rattle.hs_base.specs.Outside.{Rose, Loses, Gains}
+use Rattle.hs_streams.specs.Written.{GainsFront}
+use Rattle.hs_streams.specs.declared.status.Status.{Status}
+use Rattle.hs_streams.specs.declared.status.Status.TheVariants.{WriteFault}
 
 pub Gains-nil : (a : Option (List ℕ)) → Gains a a []
 Gains-nil None = refl
@@ -29,6 +32,18 @@ Loses-trans (Some as') (Some bs) (Some cs) x y p q = p ∙ ap (λ zs. x ++ zs) q
 pub Rose-since : (before mid after : ℕ) → mid ≡ before → Rose mid after → Rose before after
 Rose-since before mid after still (inl p) = inl (omega arith)
 Rose-since before mid after still (inr p) = inr p
+
+-- a text in two parts, of which the first was written whole, and the second whole or in front
+pub both_finished : (due result : Status) (a b c : Option (List ℕ)) (before mid after : ℕ) (front behind : List ℕ) → Gains a b front → mid ≡ before
+    → (result ≡ due × (after ≡ mid) × Gains b c behind) ⊎ (result ≡ WriteFault × Rose mid after × GainsFront b c behind)
+    → (result ≡ due × (after ≡ before) × Gains a c (front ++ behind)) ⊎ (result ≡ WriteFault × Rose before after × GainsFront a c (front ++ behind))
+both_finished due result a b c before mid after front behind gains still (inl (is, quiet, more)) = inl (is, quiet ∙ still, Gains-trans a b c front behind gains more)
+both_finished due result a b c before mid after front behind gains still (inr (is, rose, (first, rest, split, more))) =
+    inr (is, Rose-since before mid after still rose, (front ++ first, rest, ap (λ t. front ++ t) split ∙ sym (append_assoc front first rest), Gains-trans a b c front first gains more))
+
+-- a front of the first part is one of both
+pub front_of_both : (a b : Option (List ℕ)) (front behind : List ℕ) → GainsFront a b front → GainsFront a b (front ++ behind)
+front_of_both a b front behind (first, rest, split, gains) = (first, rest ++ behind, ap (λ t. t ++ behind) split ∙ append_assoc first rest behind, gains)
 
 -- a read that gave nothing at the end of the known bytes left nothing
 pub nothing_left : (old new : Option (List ℕ)) (bytes : List ℕ) → bytes ≡ [] → IfSome old (λ known. known ≡ []) → Loses old new bytes → IfSome new (λ rest. rest ≡ [])

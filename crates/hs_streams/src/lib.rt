@@ -12,4 +12,4 @@ pub use reading::{ReadInput, read_all};
 pub use refusing::{refusal_line, refuse_too_long};
 pub use standard::{StdinSource, StdoutSink};
 pub use status::Status;
-pub use writing::finish;
+pub use writing::{finish, finish_both};

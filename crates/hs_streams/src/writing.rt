@@ -1,6 +1,6 @@
 //! Writing a text to a sink, whatever parts the sink takes.
 
-ghost use Rattle.std.specs.Prelude.{◌≡◌, ◌⊎◌, OnOk, OnErr};
+ghost use Rattle.std.specs.Prelude.{◌≡◌, ◌⊎◌, ◌++◌, OnOk, OnErr};
 ghost use Rattle.hs_base.specs.Outside.{Rose, Gains};
 ghost use Rattle.hs_streams.specs.Written.{GainsFront};
 
@@ -31,6 +31,17 @@ pub fn finish<K: Sink>(sink: &mut K, text: &[u8], status: Status) -> Status
 {
     match write_all(sink, text) {
         Ok(()) => status,
+        Err(_) => Status::WriteFault,
+    }
+}
+
+/// Writes a text in two parts, and answers as `finish` does.
+pub fn finish_both<K: Sink>(sink: &mut K, front: &[u8], behind: &[u8], status: Status) -> Status
+    ensures { (result ≡ status × (K.faults sink.new ≡ K.faults sink.old) × Gains (K.written sink.old) (K.written sink.new) (front.now ++ behind.now))
+        ⊎ (result ≡ Status.WriteFault × Rose (K.faults sink.old) (K.faults sink.new) × GainsFront (K.written sink.old) (K.written sink.new) (front.now ++ behind.now)) }
+{
+    match write_all(sink, front) {
+        Ok(()) => finish(sink, behind, status),
         Err(_) => Status::WriteFault,
     }
 }
