@@ -11,8 +11,8 @@ use hs_text::{
     end_line, push_number, push_spaced, push_spaced_hex, push_spaced_number, push_spaced_trace,
 };
 
-/// Appends a ledger.
-pub(crate) fn push_ledger(out: &mut Vec<u8>, version: u8, ledger: &Ledger) -> Result<(), Memory>
+/// Appends a ledger. The one error is want of memory.
+pub fn push_ledger(out: &mut Vec<u8>, version: u8, ledger: &Ledger) -> Result<(), Memory>
     ensures { OnOk result (out.new.items ≡ out.old.items ++ ledger_text version ledger.now.entries.items ledger.now.totals) }
 {
     out.extend_from_slice(b"ledger")?;

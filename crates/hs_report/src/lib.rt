@@ -10,12 +10,14 @@ mod laws;
 mod ledger;
 mod outcome;
 mod pages;
+mod parts;
 mod text;
 mod writing;
 
 pub use fates::{Fates, Sorted, is_reported};
 pub use gathering::gather;
 pub use laws::journals_can_be_read;
-pub use ledger::push_fate;
+pub use ledger::{push_fate, push_ledger};
 pub use outcome::{Books, Outcome};
+pub use parts::{Behind, Opened, Parts, line_parts, open_behind, open_parts};
 pub use writing::{close_text, open_text, sort_out, write_lines, write_total};

@@ -23,6 +23,7 @@ use crate::text::push_reports;
 use hs_base::{Bytes, Memory, TraceId};
 use hs_journal::write_journal;
 use hs_law_outcome::laws::collected_records_are_whole;
+use hs_ledger::Ledger;
 use hs_text::{end_line, push_spaced_number};
 use std::alloc::Global;
 
@@ -71,11 +72,20 @@ pub fn sort_out(alloc: Global, outcome: &Outcome) -> Result<Sorted, Memory>
 /// About how many bytes the line of a ledger's entry has, where a trace has 16 digits.
 const ENTRY_ROOM: usize = 48;
 
-/// About how many bytes the ledger of an outcome has.
-fn room_for(outcome: &Outcome) -> usize {
-    let wider = if outcome.version == 1 { 0 } else { 16 };
-    let entries = outcome.ledger.entries.len();
+/// About how many bytes a ledger has in a text of this version.
+pub(crate) fn room_for(version: u8, ledger: &Ledger) -> usize {
+    let wider = if version == 1 { 0 } else { 16 };
+    let entries = ledger.entries.len();
     entries.saturating_mul(ENTRY_ROOM + wider)
+}
+
+/// Appends the line that counts the reports.
+pub(crate) fn push_count_line(out: &mut Vec<u8>, count: usize) -> Result<(), Memory>
+    ensures { OnOk result (out.new.items ≡ out.old.items ++ (count_line count ++ 10 ∷ [])) }
+{
+    out.extend_from_slice(b"reports")?;
+    push_spaced_number(out, count as u64)?;
+    end_line(out)
 }
 
 /// The front of an outcome's text: its journal, and the line that counts the reports. The one error is want of memory.
@@ -86,10 +96,8 @@ pub fn open_text(alloc: Global, outcome: &Outcome, count: usize) -> Result<Vec<u
 {
     journals_can_be_read();
     let mut out = write_journal(alloc, &outcome.journal)?.into_vec();
-    out.reserve_exact(room_for(outcome))?;
-    out.extend_from_slice(b"reports")?;
-    push_spaced_number(&mut out, count as u64)?;
-    end_line(&mut out)?;
+    out.reserve_exact(room_for(outcome.version, &outcome.ledger))?;
+    push_count_line(&mut out, count)?;
     Ok(out)
 }
 
