@@ -1,8 +1,10 @@
 //! The text of an outcome in either form: in lines, or with its reports as one line of JSON (`docs/FORMATS.md`, "The outcome").
 #![tactic(auto)]
 
+mod parts;
 mod values;
 mod writing;
 
 pub use hs_law_outcome::Form;
-pub use writing::write_outcome;
+pub use hs_report::Parts;
+pub use writing::{outcome_parts, write_outcome};

@@ -1,6 +1,6 @@
 //! The text of an outcome in either form.
 
-ghost use Rattle.std.specs.Prelude.{◌≡◌, IfOk};
+ghost use Rattle.std.specs.Prelude.{◌≡◌, ◌++◌, IfOk};
 ghost use Rattle.hs_journal.specs.Views.{PlainJournal};
 ghost use Rattle.hs_law_journal.specs.Lawful.{IsLawful};
 ghost use Rattle.hs_law_outcome.specs.OutcomeText.{outcome_text};
@@ -9,10 +9,11 @@ ghost use Rattle.hs_records.specs.Plain.{PlainWorkload};
 ghost use Rattle.hs_report.specs.Outcomes.{IsOutcome};
 ghost use Rattle.hs_workload.specs.Validity.{IsValid};
 
+use crate::parts::json_parts;
 use crate::values::push_json;
 use hs_base::{Bytes, Memory};
 use hs_law_outcome::Form;
-use hs_report::{Outcome, close_text, open_text, sort_out, write_lines};
+use hs_report::{Outcome, Parts, close_text, line_parts, open_text, sort_out, write_lines};
 use std::alloc::Global;
 
 /// The text of an outcome with its reports as JSON.
@@ -46,5 +47,19 @@ pub fn write_outcome(alloc: Global, outcome: &Outcome, form: Form) -> Result<Byt
     match form {
         Form::Text => write_lines(alloc, outcome),
         Form::Json => write_json(alloc, outcome),
+    }
+}
+
+/// The text of an outcome in two parts: that of its journal, and all behind it. The journal is let go as soon as its text is there, so
+/// that less of both is there at once. Else it is as `write_outcome`.
+pub fn outcome_parts(alloc: Global, outcome: Outcome, form: Form) -> Result<Parts, Memory>
+    // Some valid workload and some lawful journal of it come to this outcome.
+    requires { (W : PlainWorkload) × (J : PlainJournal) × IsValid W × IsLawful W J × IsOutcome W J outcome }
+    ensures { IfOk result (λ parts. (W : PlainWorkload) (J : PlainJournal) → IsValid W → IsLawful W J → IsOutcome W J outcome
+        → parts.journal.items ++ parts.behind.items ≡ outcome_text W J form) }
+{
+    match form {
+        Form::Text => line_parts(alloc, outcome),
+        Form::Json => json_parts(alloc, outcome),
     }
 }
