@@ -3,7 +3,8 @@ use Rattle.std.proofs.Common.{◌≡◌, ◌≤◌, ℕ, List, Option, length, s
 use Rattle.hs_base.specs.declared.limits.TheConstants.{MAX_INPUT}
 use Rattle.hs_records.specs.Plain.{PlainWorkload}
 use Rattle.hs_streams.specs.Input.{ReadWhole}
-use Rattle.hs_cli.specs.Answers.{IsSubject, IsFoundIn, IsAnswer}
+use Rattle.hs_journal.specs.Views.{PlainJournal}
+use Rattle.hs_cli.specs.Answers.{IsSubject, IsFoundIn, IsAnswer, IsJudged}
 use Rattle.hs_cli.specs.Endings.{IsReader, IsAbout, AreParts, Due}
 use Rattle.hs_cli.specs.declared.answer.Subject.{Subject}
 use Rattle.hs_cli.specs.declared.answer.Subject.TheVariants.{Found, Refused, TooLong, Fault, NoMemory}
@@ -41,3 +42,14 @@ pub done_answers : (command same : Command) (W : PlainWorkload) (journal : List 
 done_answers command same W journal status out text is done told due =
     subst (λ (s : Status). IsAnswer command W journal s out) (sym done)
     (subst (λ (t : List ℕ). Due command W journal t) (sym told) (subst (λ (c : Command). Due c W journal text) (sym is) due))
+
+-- an answer by its status and its text
+pub answered_as : (command : Command) (W : PlainWorkload) (journal : List ℕ) (status same : Status) (out text : List ℕ) → status ≡ same → out ≡ text
+    → IsAnswer command W journal same text → IsAnswer command W journal status out
+answered_as command W journal status same out text is told answer =
+    subst (λ (s : Status). IsAnswer command W journal s out) (sym is) (subst (λ (t : List ℕ). IsAnswer command W journal same t) (sym told) answer)
+
+-- a verdict by its status and its text
+pub judged_as : (W : PlainWorkload) (J : PlainJournal) (status same : Status) (out text : List ℕ) → status ≡ same → out ≡ text → IsJudged W J same text → IsJudged W J status out
+judged_as W J status same out text is told judged =
+    subst (λ (s : Status). IsJudged W J s out) (sym is) (subst (λ (t : List ℕ). IsJudged W J same t) (sym told) judged)

@@ -1,6 +1,6 @@
 //! The workload that a command is about, and what it answers for it.
 
-ghost use Rattle.std.specs.Prelude.{◌≡◌, ◌≤◌, ◌⊎◌, false, IfOk, length};
+ghost use Rattle.std.specs.Prelude.{◌≡◌, ◌≤◌, ◌⊎◌, ◌++◌, false, IfOk, length};
 ghost use Rattle.hs_base.specs.declared.limits.TheConstants.{MAX_INPUT};
 ghost use Rattle.hs_workload.specs.Validity.{IsValid};
 ghost use Rattle.hs_workload.specs.Views.{workload_of};
@@ -14,7 +14,7 @@ use crate::command::Command;
 use crate::comparing::comparison;
 use hs_base::{Bytes, Gate, Memory, Source};
 use hs_check::split_input;
-use hs_json::write_outcome;
+use hs_json::{Parts, outcome_parts};
 use hs_law_lockstep::laws::schedule_is_lawful;
 use hs_make::make_workload;
 use hs_replay::{into_outcome, replay, write_total};
@@ -40,10 +40,11 @@ pub(crate) enum Subject {
     NoMemory,
 }
 
-/// What a command answers.
+/// What a command answers: its status, and its text in two parts, one behind the other.
 #[derive(Drop)]
 pub(crate) struct Answer {
     pub(crate) status: Status,
+    pub(crate) front: Bytes,
     pub(crate) text: Bytes,
 }
 
@@ -117,14 +118,36 @@ fn found_in(alloc: Global, command: Command, input: &[u8]) -> Subject
     }
 }
 
-/// The command is done, and this is its output.
-fn done(text: Bytes) -> Answer
-    ensures status { result.status ≡ Done }
-    ensures text { result.text ≡ text }
+/// An answer with its text in one part.
+pub(crate) fn whole(alloc: Global, status: Status, text: Bytes) -> Answer
+    ensures status { result.status ≡ status }
+    ensures text { result.front.items ++ result.text.items ≡ text.items }
 {
     Answer {
-        status: Status::Done,
+        status,
+        front: Bytes::new(alloc),
         text,
+    }
+}
+
+/// The command is done, and this is its output.
+fn done(alloc: Global, text: Bytes) -> Answer
+    ensures status { result.status ≡ Done }
+    ensures text { result.front.items ++ result.text.items ≡ text.items }
+{
+    whole(alloc, Status::Done, text)
+}
+
+/// The command is done, and its output is that of an outcome.
+pub(crate) fn done_with(parts: Parts) -> Answer
+    ensures status { result.status ≡ Done }
+    ensures text { result.front.items ++ result.text.items ≡ parts.journal.items ++ parts.behind.items }
+{
+    let Parts { journal, behind } = parts;
+    Answer {
+        status: Status::Done,
+        front: journal,
+        text: behind,
     }
 }
 
@@ -143,19 +166,19 @@ pub(crate) fn answer_for<R: Threads + Sync, G: Gate>(
     requires unwatched { is_watched command ≡ false }
     requires valid { IsValid (workload_of workload) }
     requires short { length journal.now ≤ MAX_INPUT }
-    ensures { IfOk result (λ answer. IsAnswer command (workload_of workload) journal.now answer.status answer.text.items) }
+    ensures { IfOk result (λ answer. IsAnswer command (workload_of workload) journal.now answer.status (answer.front.items ++ answer.text.items)) }
 {
     match command {
         Command::Check => judge(alloc, &workload, journal),
         Command::Replay { form } => {
             schedule_is_lawful();
             let outcome = into_outcome(alloc, workload)?;
-            Ok(done(write_outcome(alloc, &outcome, form)?))
+            Ok(done_with(outcome_parts(alloc, outcome, form)?))
         }
         Command::Run { form } => {
             let outcome = run(rt, alloc, &workload, gate)?;
             drop(workload);
-            Ok(done(write_outcome(alloc, &outcome, form)?))
+            Ok(done_with(outcome_parts(alloc, outcome, form)?))
         }
         Command::Watch => unreachable!(),
         Command::Convert => {
@@ -165,15 +188,15 @@ pub(crate) fn answer_for<R: Threads + Sync, G: Gate>(
                 settings: workload.settings,
                 clients: workload.clients,
             };
-            Ok(done(write_workload(alloc, &widened)?))
+            Ok(done(alloc, write_workload(alloc, &widened)?))
         }
-        Command::Make { seed: _, size: _ } => Ok(done(write_workload(alloc, &workload)?)),
+        Command::Make { seed: _, size: _ } => Ok(done(alloc, write_workload(alloc, &workload)?)),
         Command::Drill { seed: _, size: _ } => {
             let outcome = replay(alloc, &workload)?;
-            Ok(done(write_total(alloc, &outcome)?))
+            Ok(done(alloc, write_total(alloc, &outcome)?))
         }
         Command::Compare { one_in, room } => {
-            Ok(done(comparison(alloc, &workload, one_in, room)?))
+            Ok(done(alloc, comparison(alloc, &workload, one_in, room)?))
         }
     }
 }

@@ -1,6 +1,6 @@
 //! What `check` answers for a workload and the text of a journal.
 
-ghost use Rattle.std.specs.Prelude.{◌≡◌, ◌≤◌, IfOk, length};
+ghost use Rattle.std.specs.Prelude.{◌≡◌, ◌≤◌, ◌++◌, IfOk, length};
 ghost use Rattle.hs_base.specs.declared.limits.TheConstants.{MAX_INPUT};
 ghost use Rattle.hs_journal.specs.Views.{journal_of};
 ghost use Rattle.hs_check.specs.Clauses.{number_of};
@@ -10,11 +10,11 @@ ghost use Rattle.hs_cli.specs.Answers.{IsAnswer, IsJudged};
 ghost use Rattle.hs_cli.specs.Messages.{journal_refusal_text, unlawful_text};
 ghost use Rattle.hs_cli.specs.declared.command.Command.TheVariants.{Check};
 
-use crate::answer::Answer;
+use crate::answer::{Answer, done_with, whole};
 use hs_base::{Bytes, Memory};
 use hs_check::{Clause, Verdict, check};
 use hs_journal::{Journal, JournalError, JournalRefusal, read_journal};
-use hs_json::write_outcome;
+use hs_json::outcome_parts;
 use hs_law_journal::laws::lawful_is_decided;
 use hs_law_outcome::Form;
 use hs_streams::Status;
@@ -25,14 +25,14 @@ use std::alloc::Global;
 pub(crate) fn judge(alloc: Global, workload: &Workload, text: &[u8]) -> Result<Answer, Memory>
     requires valid { IsValid (workload_of workload.now) }
     requires short { length text.now ≤ MAX_INPUT }
-    ensures { IfOk result (λ answer. IsAnswer Check (workload_of workload.now) text.now answer.status answer.text.items) }
+    ensures { IfOk result (λ answer. IsAnswer Check (workload_of workload.now) text.now answer.status (answer.front.items ++ answer.text.items)) }
 {
     match read_journal(alloc, text) {
         Ok(journal) => verdict_on(alloc, workload, &journal),
-        Err(JournalError::Refused(refusal)) => Ok(Answer {
-            status: Status::Refused,
-            text: journal_refusal(alloc, refusal)?,
-        }),
+        Err(JournalError::Refused(refusal)) => {
+            let line = journal_refusal(alloc, refusal)?;
+            Ok(whole(alloc, Status::Refused, line))
+        }
         Err(JournalError::Memory) => Err(Memory),
     }
 }
@@ -40,18 +40,15 @@ pub(crate) fn judge(alloc: Global, workload: &Workload, text: &[u8]) -> Result<A
 /// The outcome of a workload and its lawful journal, or the first clause that fails.
 fn verdict_on(alloc: Global, workload: &Workload, journal: &Journal) -> Result<Answer, Memory>
     requires { IsValid (workload_of workload.now) }
-    ensures { IfOk result (λ answer. IsJudged (workload_of workload.now) (journal_of journal.now) answer.status answer.text.items) }
+    ensures { IfOk result (λ answer. IsJudged (workload_of workload.now) (journal_of journal.now) answer.status (answer.front.items ++ answer.text.items)) }
 {
     lawful_is_decided();
     match check(alloc, workload, journal)? {
-        Verdict::Lawful { outcome } => Ok(Answer {
-            status: Status::Done,
-            text: write_outcome(alloc, &outcome, Form::Text)?,
-        }),
-        Verdict::Unlawful { clause } => Ok(Answer {
-            status: Status::Unlawful,
-            text: clause_line(alloc, clause)?,
-        }),
+        Verdict::Lawful { outcome } => Ok(done_with(outcome_parts(alloc, outcome, Form::Text)?)),
+        Verdict::Unlawful { clause } => {
+            let line = clause_line(alloc, clause)?;
+            Ok(whole(alloc, Status::Unlawful, line))
+        }
     }
 }
 

@@ -11,7 +11,7 @@ use crate::answer::{Subject, answer_for, subject_of};
 use crate::command::{Command, unwatched_in};
 use hs_base::{Gate, Sink, Source};
 use hs_journal::laws::texts_have_one_journal;
-use hs_streams::{Status, finish, refuse_too_long};
+use hs_streams::{Status, finish, finish_both, refuse_too_long};
 use hs_workload::one_workload_a_text;
 use std::alloc::Global;
 use std::marker::Sync;
@@ -39,7 +39,10 @@ fn carry_out<R: Threads + Sync, S: Source, K: Sink, G: Gate>(
     match subject_of(alloc, command, source) {
         Subject::Found(workload, journal) => {
             match answer_for(rt, alloc, gate, command, workload, &journal) {
-                Ok(answer) => finish(sink, answer.text.as_slice(), answer.status),
+                Ok(answer) => {
+                    let front = answer.front.as_slice();
+                    finish_both(sink, front, answer.text.as_slice(), answer.status)
+                }
                 Err(_) => Status::Memory,
             }
         }

@@ -6,31 +6,34 @@ use Rattle.hs_workload.specs.Views.{workload_of}
 use Rattle.hs_check.specs.Clauses.{number_of}
 use Rattle.hs_check.specs.Verdicts.{IsVerdict}
 use Rattle.hs_check.specs.declared.verdict.Verdict.{Verdict}
+use Rattle.hs_streams.specs.declared.status.Status.TheVariants.{Done, Unlawful}
+use Rattle.hs_cli.proofs.Answering.{judged_as}
 use Rattle.hs_cli.proofs.checking.verdict_on.Goals as goal
 
-pub write_outcome-requires : goal.write_outcome-requires
-write_outcome-requires c =
+pub outcome_parts-requires : goal.outcome_parts-requires
+outcome_parts-requires c =
     let W = workload_of c.args.workload.now in
     let J = journal_of c.args.journal.now in
     let lawful : IsLawful W J × IsOutcome W J c.in-Lawful.outcome = subst (λ (verdict : Verdict). IsVerdict W J verdict) c.in-Lawful.is c.in_ok-outcome.ensures in
     (W, J, c.requires, lawful.0, lawful.1)
 
-pub returns-in_ok-write_outcome-in-Lawful : goal.returns-in_ok-write_outcome-in-Lawful
-returns-in_ok-write_outcome-in-Lawful c =
+pub returns-in_ok-outcome_parts-in-Lawful : goal.returns-in_ok-outcome_parts-in-Lawful
+returns-in_ok-outcome_parts-in-Lawful c =
     let W = workload_of c.args.workload.now in
     let J = journal_of c.args.journal.now in
     let lawful : IsLawful W J × IsOutcome W J c.in-Lawful.outcome = subst (λ (verdict : Verdict). IsVerdict W J verdict) c.in-Lawful.is c.in_ok-outcome.ensures in
-    (lawful.0, c.in_ok-write_outcome-in-Lawful.ensures W J c.requires lawful.0 lawful.1)
+    judged_as W J c.done_with.result.status Done _ _ c.done_with.ensures.status c.done_with.ensures.text (lawful.0, c.in_ok-outcome_parts-in-Lawful.ensures W J c.requires lawful.0 lawful.1)
 
-pub returns-in_ok-clause_line-in-Unlawful : goal.returns-in_ok-clause_line-in-Unlawful
-returns-in_ok-clause_line-in-Unlawful c =
+pub returns-in_ok-line-in-Unlawful : goal.returns-in_ok-line-in-Unlawful
+returns-in_ok-line-in-Unlawful c =
     let W = workload_of c.args.workload.now in
     let J = journal_of c.args.journal.now in
     let number = number_of c.in-Unlawful.clause in
     let first : first_unlawful W J ≡ Some number = subst (λ (verdict : Verdict). IsVerdict W J verdict) c.in-Unlawful.is c.in_ok-outcome.ensures in
-    record {
+    judged_as W J c.whole.result.status Unlawful _ _ c.whole.ensures.status c.whole.ensures.text
+    (record {
       clause = number;
       first = first;
       broken = λ lawful. let both : Some number ≡ None = sym first ∙ (c.lawful_is_decided.ensures W J).1 lawful in cc;
-      told = c.in_ok-clause_line-in-Unlawful.ensures;
-    }
+      told = c.in_ok-line-in-Unlawful.ensures;
+    })

@@ -1,4 +1,4 @@
-use Rattle.std.proofs.Common.{List, ℕ, inl, refl, sym, subst}
+use Rattle.std.proofs.Common.{List, ◌++◌, ℕ, inl, refl, sym, subst, ap₂}
 use Rattle.hs_workload.specs.Views.{workload_of}
 use Rattle.hs_cli.specs.Answers.{IsAnswer}
 use Rattle.hs_cli.specs.Endings.{IsAbout, RefusesWorkload}
@@ -16,9 +16,11 @@ returns-in-Ok-clause-ends g c =
     let (is_about, valid, short, still) = c.in-Found.ensures.subject in
     let about : IsAbout command (left c.args.source.now) (left c.subject_of.new.source) W journal =
     subst (λ (part : List ℕ). IsAbout command (left c.args.source.now) (left c.subject_of.new.source) W part) (sym c.deref.ensures.value) is_about in
-    let answer : IsAnswer command W journal c.in-Ok.answer.status c.as_slice.result.now =
-    subst (λ (text : List ℕ). IsAnswer command W journal c.in-Ok.answer.status text) (sym c.as_slice.ensures) c.in-Ok.ensures in
-    finished command _ _ _ _ _ _ _ _ c.in-Ok.answer.status c.finish.result c.as_slice.result.now (answered command _ _ c.in-Ok.answer.status c.as_slice.result.now W journal about answer) still c.finish.ensures
+    let status = c.in-Ok.answer.status in
+    let text = c.as_slice-front.result.now ++ c.as_slice.result.now in
+    let answer : IsAnswer command W journal status text =
+    subst (λ (all : List ℕ). IsAnswer command W journal status all) (sym (ap₂ (λ front behind. front ++ behind) c.as_slice-front.ensures c.as_slice.ensures)) c.in-Ok.ensures in
+    finished command _ _ _ _ _ _ _ _ status c.finish_both.result text (answered command _ _ status text W journal about answer) still c.finish_both.ensures
 
 pub returns-in-Refused-clause-ends : goal.returns-in-Refused-clause-ends
 returns-in-Refused-clause-ends g c =
@@ -26,7 +28,7 @@ returns-in-Refused-clause-ends g c =
     let (refused, still) = c.in-Refused.ensures.subject in
     let told : RefusesWorkload c.args.command (left c.args.source.now) (left c.subject_of.new.source) c.deref-in-Refused.result.now =
     subst (λ (text : List ℕ). RefusesWorkload c.args.command (left c.args.source.now) (left c.subject_of.new.source) text) (sym c.deref-in-Refused.ensures.value) refused in
-    finished c.args.command _ _ _ _ _ _ _ _ Refused c.finish-in-Refused.result c.deref-in-Refused.result.now (inl told) still c.finish-in-Refused.ensures
+    finished c.args.command _ _ _ _ _ _ _ _ Refused c.finish.result c.deref-in-Refused.result.now (inl told) still c.finish.ensures
 
 pub returns-in-TooLong-clause-ends : goal.returns-in-TooLong-clause-ends
 returns-in-TooLong-clause-ends g c =
