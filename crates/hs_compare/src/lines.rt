@@ -42,11 +42,11 @@ fn count_one(counts: &mut Counts, trace: TraceId) -> Result<(), Memory>
     ensures { (traces : List TraceId) → AreCounted traces counts.old.entries
         → OnOk result (AreCounted (traces ++ trace ∷ []) counts.new.entries) }
 {
-    if let Some(count) = counts.get_mut(&trace) {
-        *count += 1;
-        return Ok(());
-    }
-    counts.insert(trace, 1)?;
+    let Ok(entry) = counts.entry(trace) else {
+        return Err(Memory);
+    };
+    let count = entry.or_insert(0);
+    *count += 1;
     Ok(())
 }
 

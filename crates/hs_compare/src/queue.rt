@@ -11,19 +11,21 @@ use std::alloc::Global;
 use std::collections::VecDeque;
 use std::marker::Model;
 
-/// Records in the order in which they came. Contracts see them as a list.
+/// Records in the order in which they came. Contracts see them as a list. Where one waits alone it takes no memory.
 #[derive(Drop)]
 pub struct Queue {
-    records: VecDeque<RecordId>,
+    first: Option<RecordId>,
+    behind: VecDeque<RecordId>,
 }
 
 impl Model for Queue {
-    ghost use Rattle.std.specs.Prelude.{List};
+    ghost use Rattle.std.specs.Prelude.{List, ◌++◌};
+    ghost use Rattle.std.specs.Option.{option_to_list};
     ghost use Rattle.hs_base.specs.declared.ids.RecordId.{RecordId};
 
     ghost Value = { List RecordId };
 
-    ghost view = { λ a. a.records.items };
+    ghost view = { λ a. option_to_list a.first ++ a.behind.items };
 }
 
 /// The queue of each trace.
@@ -35,7 +37,8 @@ impl Queue {
         ensures { result ≡ [] }
     {
         Queue {
-            records: VecDeque::new(alloc),
+            first: None,
+            behind: VecDeque::new(alloc),
         }
     }
 
@@ -43,7 +46,10 @@ impl Queue {
     pub fn len(&self) -> usize
         ensures { result ≡ length self.now }
     {
-        self.records.len()
+        match self.first {
+            Some(_) => self.behind.len() + 1,
+            None => self.behind.len(),
+        }
     }
 
     /// Adds a record at the end.
@@ -51,7 +57,11 @@ impl Queue {
         ensures ok { OnOk result (self.new ≡ self.old ++ id ∷ []) }
         ensures err { OnErr result (self.new ≡ self.old) }
     {
-        match self.records.push_back(id) {
+        if self.first.is_none() && self.behind.is_empty() {
+            self.first = Some(id);
+            return Ok(());
+        }
+        match self.behind.push_back(id) {
             Ok(()) => Ok(()),
             Err(_) => Err(Memory),
         }
@@ -62,7 +72,10 @@ impl Queue {
         ensures first { self.old ≡ option_to_list result ++ self.new }
         ensures rest { self.new ≡ drop 1 self.old }
     {
-        self.records.pop_front()
+        match self.first.take() {
+            Some(id) => Some(id),
+            None => self.behind.pop_front(),
+        }
     }
 }
 
@@ -72,13 +85,11 @@ pub fn add(alloc: Global, queues: &mut Queues, id: RecordId, trace: TraceId) -> 
         ≡ (if trace.0 == t.0 then queued queues.old.entries t ++ id ∷ [] else queued queues.old.entries t)) }
     ensures err { OnErr result ((t : TraceId) → queued queues.new.entries t ≡ queued queues.old.entries t) }
 {
-    if let Some(queue) = queues.get_mut(&trace) {
-        return queue.push(id);
-    }
-    let mut queue = Queue::new(alloc);
-    queue.push(id)?;
-    queues.insert(trace, queue)?;
-    Ok(())
+    let Ok(entry) = queues.entry(trace) else {
+        return Err(Memory);
+    };
+    let queue = entry.or_insert(Queue::new(alloc));
+    queue.push(id)
 }
 
 /// Lets the first record of a trace's queue go.
