@@ -9,12 +9,12 @@ use Rattle.hs_compare.proofs.Counted.{Counts, among_more, counted_is}
 use Rattle.hs_compare.proofs.Queued.{same_ids}
 use Rattle.hs_compare.proofs.Rings.{among_is}
 
--- ---- the trace of each record was counted
+-- ---- the trace of each record
 
 abbrev pub traces_in : List Entry → List TraceId
 traces_in entries = map (λ (e : Entry). e.trace) entries
 
-each_among : (entries : List Entry) → AllByRecursion (λ (e : Entry). is_among (traces_in entries) e.trace ≡ true) entries
+pub each_among : (entries : List Entry) → AllByRecursion (λ (e : Entry). is_among (traces_in entries) e.trace ≡ true) entries
 each_among [] = tt
 each_among (e ∷ entries) = (
   ap (λ b. b || is_among (traces_in entries) e.trace) (nat_eq_itself e.trace.0),
@@ -22,36 +22,42 @@ each_among (e ∷ entries) = (
       (λ f there. ap (λ b. (e.trace.0 == f.trace.0) || b) there ∙ or-true (e.trace.0 == f.trace.0)) entries (each_among entries),
 )
 
-pub each_counted : (entries : List Entry) (traces : List TraceId) (counts : Counts) → traces_in entries ≡ traces → AreCounted traces counts → AllByRecursion (λ (e : Entry). is_counted counts e.trace ≡ true) entries
-each_counted entries traces counts are counted =
-    all_weaker (λ (e : Entry). is_among (traces_in entries) e.trace ≡ true) (λ (e : Entry). is_counted counts e.trace ≡ true)
-    (λ e there. counted_is traces counts counted e.trace ∙ ap (λ ts. is_among ts e.trace) (sym are) ∙ there) entries (each_among entries)
-
--- ---- so no claim is missed
+-- ---- where each claimed trace of a record was counted, no claim is missed
 
 abbrev pub AreClaims : Counts → List TraceId → List TraceId → Type 0
 AreClaims counts claimed claims = (t : TraceId) → is_among claims t ≡ (is_counted counts t && is_among claimed t)
 
-claims_same : (counts : Counts) (claimed claims : List TraceId) → AreClaims counts claimed claims → (t : TraceId) → is_counted counts t ≡ true → is_among claims t ≡ is_among claimed t
-claims_same counts claimed claims are t there = are t ∙ ap (λ b. b && is_among claimed t) there
+abbrev IsMet : Counts → List TraceId → Entry → Type 0
+IsMet counts claimed e = is_among claimed e.trace ≡ true → is_counted counts e.trace ≡ true
 
-pub gaps_same : (counts : Counts) (claimed claims : List TraceId) (entries : List Entry) → AreClaims counts claimed claims → AllByRecursion (λ (e : Entry). is_counted counts e.trace ≡ true) entries
+claims_same : (counts : Counts) (claimed claims : List TraceId) → AreClaims counts claimed claims → (e : Entry) → IsMet counts claimed e → is_among claims e.trace ≡ is_among claimed e.trace
+claims_same counts claimed claims are e met = are e.trace ∙ by (is_among claimed e.trace) met
+  where
+    by : (b : Bool) → (b ≡ true → is_counted counts e.trace ≡ true) → (is_counted counts e.trace && b) ≡ b
+    by true met = ap (λ c. c && true) (met refl)
+    by false met = and_false (is_counted counts e.trace)
+      where
+        and_false : (c : Bool) → (c && false) ≡ false
+        and_false true = refl
+        and_false false = refl
+
+pub gaps_same : (counts : Counts) (claimed claims : List TraceId) (entries : List Entry) → AreClaims counts claimed claims → AllByRecursion (IsMet counts claimed) entries
     → count_by (is_gap claims) entries ≡ count_by (is_gap claimed) entries
 gaps_same counts claimed claims [] are there = refl
 gaps_same counts claimed claims (e ∷ entries) are there =
     let a = sum_by-cons (λ f. cond (is_gap claims f) 1 0) e entries in
     let b = sum_by-cons (λ f. cond (is_gap claimed f) 1 0) e entries in
-    let one : cond {A = ℕ} (is_gap claims e) 1 0 ≡ cond (is_gap claimed e) 1 0 = ap (λ c. cond (c && not (is_reported e.fate)) 1 0) (claims_same counts claimed claims are e.trace there.0) in
+    let one : cond {A = ℕ} (is_gap claims e) 1 0 ≡ cond (is_gap claimed e) 1 0 = ap (λ c. cond (c && not (is_reported e.fate)) 1 0) (claims_same counts claimed claims are e there.0) in
     let ih = gaps_same counts claimed claims entries are there.1 in
     omega (arith, a, b, one, ih)
 
-pub limited_same : (counts : Counts) (named claimed claims : List TraceId) (entries : List Entry) → AreClaims counts claimed claims → AllByRecursion (λ (e : Entry). is_counted counts e.trace ≡ true) entries
+pub limited_same : (counts : Counts) (named claimed claims : List TraceId) (entries : List Entry) → AreClaims counts claimed claims → AllByRecursion (IsMet counts claimed) entries
     → count_by (is_limited named claims) entries ≡ count_by (is_limited named claimed) entries
 limited_same counts named claimed claims [] are there = refl
 limited_same counts named claimed claims (e ∷ entries) are there =
     let a = sum_by-cons (λ f. cond (is_limited named claims f) 1 0) e entries in
     let b = sum_by-cons (λ f. cond (is_limited named claimed f) 1 0) e entries in
-    let one : cond {A = ℕ} (is_limited named claims e) 1 0 ≡ cond (is_limited named claimed e) 1 0 = ap (λ c. cond (is_among named e.trace && not c) 1 0) (claims_same counts claimed claims are e.trace there.0) in
+    let one : cond {A = ℕ} (is_limited named claims e) 1 0 ≡ cond (is_limited named claimed e) 1 0 = ap (λ c. cond (is_among named e.trace && not c) 1 0) (claims_same counts claimed claims are e there.0) in
     let ih = limited_same counts named claimed claims entries are there.1 in
     omega (arith, a, b, one, ih)
 

@@ -1,9 +1,9 @@
 -- Traces that are counted one by one.
-use Rattle.std.proofs.Common.{◌≡◌, ℕ, suc, ◌+◌, ◌≤◌, cond, ◌==◌, ◌||◌, ◌&&◌, Bool, true, false, List, [], ◌∷◌, ◌++◌, length, filter, Some, None, is_some, refl, sym, ap, ◌∙◌, arith}
-use Rattle.hs_compare.proofs.Prelude.{count_by, nat_lt, unwrap_or, lookup, list_any-append, sum_by_push, sum_by-cons, count_alike, TraceId, Line, is_same, times, times_in, AreCounted, is_counted, is_whole_by, line_by}
+use Rattle.std.proofs.Common.{◌≡◌, ℕ, suc, ◌+◌, ◌≤◌, cond, ◌==◌, ◌||◌, ◌&&◌, Bool, true, false, List, [], ◌∷◌, ◌++◌, length, filter, Some, None, is_some, refl, sym, ap, ap₂, ◌∙◌, arith}
+use Rattle.hs_compare.proofs.Prelude.{count_by, nat_lt, unwrap_or, AllByRecursion, all_each, lookup, list_any-append, sum_by_push, sum_by-cons, count_alike, TraceId, Line, is_same, times, times_in, AreCounted, is_counted, is_whole_by, line_by}
 use Rattle.std.proofs.lemmas.List.Sums.{count_by-le-length, length-filter}
 use Rattle.hs_compare.specs.Ringing.{is_among}
-use Rattle.hs_compare.specs.Counting.{each_once}
+use Rattle.hs_compare.specs.Counting.{each_once, HasCountsOf}
 use Rattle.hs_compare.proofs.Queued.{is_key, same_ids}
 
 abbrev pub Counts : Type 0
@@ -119,11 +119,16 @@ counted_more traces x old new are updated long =
         ap Some ((let z : times traces t ≡ times traces t + 0 = omega arith in z) ∙ ap (λ b. times traces t + cond b 1 0) (sym he) ∙ sym (times_more traces x t))
     by t false he false hb = refl
 
-pub whole_same : (all kept : List TraceId) (all' kept' : Counts) → AreCounted all all' → AreCounted kept kept' → (named : List TraceId)
+pub whole_same : (all kept : List TraceId) (all' kept' : Counts) (named : List TraceId) → HasCountsOf named all all' → AreCounted kept kept'
     → count_by (is_whole_by (times_in all') (times_in kept')) named ≡ count_by (is_whole_by (times all) (times kept)) named
-whole_same all kept all' kept' are those named =
-    count_alike (is_whole_by (times_in all') (times_in kept')) (is_whole_by (times all) (times kept))
-    (λ t. ap (λ n. nat_lt 0 n && (times_in kept' t == n)) (times_are all all' are t) ∙ ap (λ n. nat_lt 0 (times all t) && (n == times all t)) (times_are kept kept' those t)) named
+whole_same all kept all' kept' [] has those = refl
+whole_same all kept all' kept' (t ∷ named) has those =
+    let a = sum_by-cons (λ x. cond (is_whole_by (times_in all') (times_in kept') x) 1 0) t named in
+    let b = sum_by-cons (λ x. cond (is_whole_by (times all) (times kept) x) 1 0) t named in
+    let one : cond {A = ℕ} (is_whole_by (times_in all') (times_in kept') t) 1 0 ≡ cond (is_whole_by (times all) (times kept) t) 1 0 =
+    ap₂ (λ n k. cond (nat_lt 0 n && (k == n)) 1 0) has.0 (times_are kept kept' those t) in
+    let ih = whole_same all kept all' kept' named has.1 those in
+    omega (arith, a, b, one, ih)
 
 pub few_times : (traces : List TraceId) (counts : Counts) (t : TraceId) → AreCounted traces counts → times_in counts t ≤ length traces
 few_times traces counts t are = omega (arith, times_are traces counts are t, count_by-le-length (is_same t) traces)
@@ -131,11 +136,11 @@ few_times traces counts t are = omega (arith, times_are traces counts are t, cou
 abbrev pub the_line : ℕ → ℕ → ℕ → ℕ → Line
 the_line records traces whole shipped = record { records = records; traces = traces; whole = whole; shipped = shipped }
 
-pub line_is : (all named kept : List TraceId) (all' kept' : Counts) (shipped r t w : ℕ) → AreCounted all all' → AreCounted kept kept' → r ≡ length kept → t ≡ length kept'
+pub line_is : (all named kept : List TraceId) (all' kept' : Counts) (shipped r t w : ℕ) → HasCountsOf named all all' → AreCounted kept kept' → r ≡ length kept → t ≡ length kept'
     → w ≡ count_by (is_whole_by (times_in all') (times_in kept')) named → the_line r t w shipped ≡ line_by all named kept shipped
-line_is all named kept all' kept' shipped r t w are those records traces whole =
+line_is all named kept all' kept' shipped r t w has those records traces whole =
     ap (λ n. the_line n t w shipped) records ∙ ap (λ n. the_line (length kept) n w shipped) (traces ∙ those.count)
-    ∙ ap (λ n. the_line (length kept) (length (each_once kept)) n shipped) (whole ∙ whole_same all kept all' kept' are those named)
+    ∙ ap (λ n. the_line (length kept) (length (each_once kept)) n shipped) (whole ∙ whole_same all kept all' kept' named has those)
 
 -- ---- each trace once
 
@@ -208,18 +213,19 @@ pub named_few : (traces named : List TraceId) (counts : Counts) → AreCounted t
 named_few traces named counts are once =
     omega (arith, length-filter (is_counted counts) named, count_alike (is_counted counts) (is_among traces) (counted_is traces counts are) named, few_among traces named once)
 
-count_filtered : {X : Type 0} (p q : X → Bool) → ((x : X) → q x ≡ false → p x ≡ false) → (xs : List X) → count_by p (filter q xs) ≡ count_by p xs
-count_filtered p q none [] = refl
-count_filtered p q none (x ∷ xs) = by (q x) refl (count_filtered p q none xs)
+pub count_filtered : {X : Type 0} (p q : X → Bool) (xs : List X) → AllByRecursion (λ x. q x ≡ false → p x ≡ false) xs → count_by p (filter q xs) ≡ count_by p xs
+count_filtered p q [] none = refl
+count_filtered p q (x ∷ xs) none = by (q x) refl (count_filtered p q xs none.1)
   where
     by : (b : Bool) → q x ≡ b → count_by p (filter q xs) ≡ count_by p xs → count_by p (cond b (x ∷ filter q xs) (filter q xs)) ≡ count_by p (x ∷ xs)
     by true e ih = omega (arith, ih, sum_by-cons (λ y. cond (p y) 1 0) x xs, sum_by-cons (λ y. cond (p y) 1 0) x (filter q xs))
-    by false e ih = let zero : cond {A = ℕ} (p x) 1 0 ≡ 0 = ap (λ b. cond b 1 0) (none x e) in omega (arith, ih, zero, sum_by-cons (λ y. cond (p y) 1 0) x xs)
+    by false e ih = let zero : cond {A = ℕ} (p x) 1 0 ≡ 0 = ap (λ b. cond b 1 0) (none.0 e) in omega (arith, ih, zero, sum_by-cons (λ y. cond (p y) 1 0) x xs)
 
--- a line leaves the others out
-pub line_known : (traces named kept : List TraceId) (counts : Counts) (shipped : ℕ) → AreCounted traces counts
+-- a line leaves the others out, where they have no record
+pub line_known : (traces named kept : List TraceId) (counts : Counts) (shipped : ℕ) → AllByRecursion (λ (t : TraceId). is_counted counts t ≡ false → times traces t ≡ 0) named
     → line_by traces (filter (is_counted counts) named) kept shipped ≡ line_by traces named kept shipped
-line_known traces named kept counts shipped are =
+line_known traces named kept counts shipped none =
     ap (λ n. the_line (length kept) (length (each_once kept)) n shipped)
-    (count_filtered (is_whole_by (times traces) (times kept)) (is_counted counts)
-    (λ t none. ap (λ n. nat_lt 0 n && (times kept t == n)) (none_counted traces t (sym (counted_is traces counts are t) ∙ none))) named)
+    (count_filtered (is_whole_by (times traces) (times kept)) (is_counted counts) named
+    (all_each (λ (t : TraceId). is_counted counts t ≡ false → times traces t ≡ 0) (λ (t : TraceId). is_counted counts t ≡ false → is_whole_by (times traces) (times kept) t ≡ false) named
+    (λ t zero other. ap (λ n. nat_lt 0 n && (times kept t == n)) (zero other)) none))

@@ -5,6 +5,7 @@ pub mod Rings
 pub mod Tails
 pub mod Counted
 pub mod Claiming
+pub mod Known
 pub mod Marking
 pub mod Walked
 pub mod Rounded

@@ -1,13 +1,14 @@
 -- A valid workload with a lawful journal can be compared, and its outcome has an entry for each record. The ring through all scripts is
 -- the ring of the workload, so what was counted is its comparison.
 use Rattle.std.proofs.Common.{◌≡◌, ℕ, List, [], ◌∷◌, map, refl, sym, ap, subst, ◌∙◌}
-use Rattle.hs_compare.proofs.Prelude.{fold, TraceId, MayBegin, PlainJournal, Entry, rounds_of, IsLawful, outcome_of, Named, name_of, PlainWorkload, all_comings, events_in_order, named_by, named_in, CanBeCompared, EntriesStandByTheRecords, TailIsTheSum, SumsToTail, name_of_coming, compared_by, PlainComparison, comparison_of, SamplerRing, ring_step, empty_ring, IsValid, Coming, Script, AreScripts, comparison_by, coming_of, traces_of, plain_comparison, Ringing, all_rounds, rings_after, ringing_by}
+use Rattle.hs_compare.proofs.Prelude.{AllByRecursion, all_each, fold, TraceId, is_among, MayBegin, PlainJournal, Entry, rounds_of, IsLawful, outcome_of, Named, name_of, PlainWorkload, all_comings, events_in_order, named_by, named_in, CanBeCompared, ClaimedTracesAreNamed, EntriesStandByTheRecords, TailIsTheSum, SumsToTail, name_of_coming, compared_by, PlainComparison, comparison_of, SamplerRing, ring_step, empty_ring, IsValid, Coming, Script, AreScripts, comparison_by, coming_of, traces_of, plain_comparison, Ringing, all_rounds, rings_after, ringing_by}
 use Rattle.hs_report.specs.declared.outcome.Outcome.{Outcome}
 use Rattle.hs_report.specs.Outcomes.{IsOutcome}
 use Rattle.hs_workload.specs.declared.word.Setting.TheVariants as settings
 use Rattle.hs_workload.proofs.Sizes.{bracketed}
 use Rattle.hs_compare.specs.Ringing.{new_ring}
 use Rattle.hs_compare.proofs.Lined.{trace_in, traces_same, lines_are_plain}
+use Rattle.hs_compare.proofs.Naming.{Among}
 use Rattle.hs_compare.proofs.Ordered.{rounds_in_order}
 use Rattle.hs_compare.proofs.Ringed.{HasNames, rings_are, names_are_named}
 
@@ -65,3 +66,11 @@ compared_is W J outcome one_in room all ring outcomes records is =
 -- and it sums to what tail keeps
 pub sums_to_tail : TailIsTheSum → (W : PlainWorkload) (J : PlainJournal) (one_in room : ℕ) (c : PlainComparison) → IsValid W → IsLawful W J → c ≡ compared_by W J one_in room → SumsToTail c
 sums_to_tail sum W J one_in room c valid lawful is = subst SumsToTail (sym is) (sum W J one_in room (can_be_compared W valid) lawful)
+
+-- the claimed traces are among those that the ring named
+pub claims_are_named : ClaimedTracesAreNamed → (W : PlainWorkload) (J : PlainJournal) (outcome : Outcome) (room : ℕ) (ring : Ringing) (claimed : List TraceId) → IsOutcome W J outcome → IsValid W
+    → ring ≡ ringing_by room (after_all room W) → claimed ≡ outcome.claimed.items → AllByRecursion (Among ring.named) claimed
+claims_are_named names W J outcome room ring claimed outcomes valid is are =
+    subst (AllByRecursion (Among ring.named)) (sym (are ∙ outcomes.claimed))
+    (all_each (Among (named_in W)) (Among ring.named) (outcome_of W J).claimed (λ t h. ap (λ (r : Ringing). is_among r.named t) is ∙ (names_all W room).among t ∙ h)
+    (names W J (valid.head settings.Stride).0))

@@ -1,6 +1,7 @@
 -- How many records each trace has, and the line of a comparison from such counts.
 pub use Rattle.hs_compare.specs.Lines.{each_once}
 use Rattle.std.specs.Prelude.{◌≡◌, ℕ, ◌==◌, nat_lt, Bool, ◌&&◌, List, length, count_by, Some, None, unwrap_or, is_some, if◌then◌else◌}
+use Rattle.std.specs.List.{AllByRecursion}
 use Rattle.std.specs.Map.{lookup}
 use Rattle.hs_base.specs.declared.ids.TraceId.{TraceId}
 use Rattle.hs_compare.specs.Ringing.{is_among}
@@ -19,6 +20,10 @@ times_in counts trace = unwrap_or (lookup (λ (other : TraceId). trace.0 == othe
 pub record AreCounted (traces : List TraceId) (counts : List (TraceId × ℕ)) : Type 0 where
   pub each : (trace : TraceId) → lookup (λ (other : TraceId). trace.0 == other.0) counts ≡ (if is_among traces trace then Some (times traces trace) else None)
   pub count : length counts ≡ length (each_once traces)
+
+-- Each of the named traces has its count.
+abbrev pub HasCountsOf : List TraceId → List TraceId → List (TraceId × ℕ) → Type 0
+HasCountsOf named traces counts = AllByRecursion (λ (trace : TraceId). times_in counts trace ≡ times traces trace) named
 
 -- whether the trace has a record, and all its records are kept
 abbrev pub is_whole_by : (TraceId → ℕ) → (TraceId → ℕ) → TraceId → Bool

@@ -14,7 +14,9 @@ ghost use Rattle.hs_compare.specs.Plain.{plain_comparison};
 ghost use Rattle.hs_compare.specs.Whole.{ringing_by};
 
 use crate::comparison::{Comparison, compared};
-use crate::laws::{kept_is_parted, ring_keeps_each_once, tail_is_the_sum};
+use crate::laws::{
+    claimed_traces_are_named, kept_is_parted, ring_keeps_each_once, tail_is_the_sum,
+};
 use crate::limits::{MAX_ONE_IN, MAX_ROOM};
 use crate::records::all_records;
 use crate::ring_tail::RingTail;
@@ -72,6 +74,7 @@ pub fn compare(
     kept_is_parted();
     ring_keeps_each_once();
     tail_is_the_sum();
+    claimed_traces_are_named();
     let ring = ring_of(alloc, workload, &outcome.journal, room)?;
     let all = all_records(alloc, workload)?;
     compared(

@@ -5,16 +5,16 @@ ghost use Rattle.std.specs.List.{AllByRecursion};
 ghost use Rattle.hs_base.specs.declared.ids.TraceId.{TraceId};
 ghost use Rattle.hs_ledger.specs.declared.ledger.Entry.{Entry};
 ghost use Rattle.hs_compare.specs.Lines.{is_gap, is_limited};
-ghost use Rattle.hs_compare.specs.Counting.{AreCounted, times, is_counted};
+ghost use Rattle.hs_compare.specs.Counting.{HasCountsOf, times, is_counted};
 ghost use Rattle.hs_compare.specs.Ringing.{is_among};
 ghost use Rattle.hs_compare.specs.declared.coming.Coming.{Coming};
 ghost use Rattle.hs_compare.specs.Marked.{marked, bytes_in, traces_of};
 ghost use Rattle.hs_compare.specs.Comparing.{comparison_by, line_of_marked, line_of_sent, marks_of_head, marks_of_named, marks_of_reported};
 
 use crate::coming::Coming;
-use crate::lines::{Counts, Line, counted, counted_of, line_of};
+use crate::lines::{Counts, Line, counted, counted_line, counted_of, line_of};
 use crate::marks::{
-    all_bytes, all_traces, head_marks, marked_bytes, marked_traces, named_marks, reported_marks,
+    all_bytes, head_marks, marked_bytes, marked_traces, named_marks, reported_marks,
 };
 use crate::ring::is_in;
 use crate::ring_tail::RingTail;
@@ -58,7 +58,7 @@ fn marked_line(
     requires few { length all.now ≤ MAX_OPERATIONS }
     requires known { length named.now ≤ MAX_OPERATIONS }
     requires bytes { bytes_in all.now < 2 ^ 64 }
-    ensures { AreCounted (traces_of all.now) counts.now.entries
+    ensures { HasCountsOf named.now (traces_of all.now) counts.now.entries
         → IfOk result (λ line. line ≡ line_of_marked all.now named.now marks.now) }
 {
     let traces = marked_traces(alloc, all, marks)?;
@@ -78,31 +78,19 @@ fn head_line(
     requires few { length all.now ≤ MAX_OPERATIONS }
     requires known { length named.now ≤ MAX_OPERATIONS }
     requires bytes { bytes_in all.now < 2 ^ 64 }
-    ensures { AreCounted (traces_of all.now) counts.now.entries
+    ensures { HasCountsOf named.now (traces_of all.now) counts.now.entries
         → IfOk result (λ line. line ≡ line_of_marked all.now named.now (marks_of_head one_in all.now)) }
 {
     let marks = head_marks(alloc, all, one_in)?;
     marked_line(alloc, all, counts, named, &marks)
 }
 
-/// The line of tail sampling, which sends all records.
-fn tail_line(
-    alloc: Global,
-    all: &[Coming],
-    counts: &Counts,
-    named: &[TraceId],
-    ring: &RingTail,
-    shipped: u64,
-) -> Result<Line, Memory>
-    requires few { length all.now ≤ MAX_OPERATIONS }
-    requires known { length named.now ≤ MAX_OPERATIONS }
-    requires shipped { shipped ≡ bytes_in all.now }
-    ensures { AreCounted (traces_of all.now) counts.now.entries
-        → IfOk result (λ line. line ≡ line_of_sent all.now named.now (traces_of (marked (marks_of_named ring.now.named all.now) all.now))) }
+/// The traces of the records that tail sampling keeps: those of the named traces.
+fn tail_traces(alloc: Global, all: &[Coming], ring: &RingTail) -> Result<Vec<TraceId>, Memory>
+    ensures { IfOk result (λ traces. traces.items ≡ traces_of (marked (marks_of_named ring.now.named all.now) all.now)) }
 {
     let marks = named_marks(alloc, all, ring)?;
-    let traces = marked_traces(alloc, all, &marks)?;
-    line_of(alloc, counts, named, &traces, shipped)
+    marked_traces(alloc, all, &marks)
 }
 
 /// The line of tail sampling with a ring, to which all records are sent.
@@ -115,7 +103,7 @@ fn ring_line(
 ) -> Result<Line, Memory>
     requires known { length named.now ≤ MAX_OPERATIONS }
     requires kept { length ring.now.traces ≤ MAX_OPERATIONS }
-    ensures { (all : List Coming) → AreCounted (traces_of all) counts.now.entries → shipped ≡ bytes_in all
+    ensures { (all : List Coming) → HasCountsOf named.now (traces_of all) counts.now.entries → shipped ≡ bytes_in all
         → IfOk result (λ line. line ≡ line_of_sent all named.now ring.now.traces) }
 {
     line_of(alloc, counts, named, ring.traces().as_slice(), shipped)
@@ -133,7 +121,7 @@ fn hindsight_line(
     requires few { length all.now ≤ MAX_OPERATIONS }
     requires known { length named.now ≤ MAX_OPERATIONS }
     requires bytes { bytes_in all.now < 2 ^ 64 }
-    ensures { AreCounted (traces_of all.now) counts.now.entries
+    ensures { HasCountsOf named.now (traces_of all.now) counts.now.entries
         → IfOk result (λ line. line ≡ line_of_marked all.now named.now (marks_of_reported entries.now)) }
 {
     let marks = reported_marks(alloc, entries)?;
@@ -197,8 +185,8 @@ fn count_limited(entries: &[Entry], ring: &RingTail, claims: &IndexSet<TraceId>)
     limited
 }
 
-/// What of the records of named traces was not reported, where these are the claimed traces. The trace of each
-/// record was counted.
+/// What of the records of named traces was not reported, where these are the claimed traces. If the trace of a
+/// record was claimed, it was counted.
 fn rest_of(
     alloc: Global,
     counts: &Counts,
@@ -206,7 +194,7 @@ fn rest_of(
     ring: &RingTail,
     claimed: &[TraceId],
 ) -> Result<Rest, Memory>
-    requires counted { AllByRecursion (λ (e : Entry). is_counted counts.now.entries e.trace ≡ true) entries.now }
+    requires counted { AllByRecursion (λ (e : Entry). is_among claimed.now e.trace ≡ true → is_counted counts.now.entries e.trace ≡ true) entries.now }
     requires few { length entries.now ≤ MAX_OPERATIONS }
     ensures gap { IfOk result (λ rest. rest.gap ≡ count_by (is_gap claimed.now) entries.now) }
     ensures limited { IfOk result (λ rest. rest.limited ≡ count_by (is_limited ring.now.named claimed.now) entries.now) }
@@ -218,16 +206,8 @@ fn rest_of(
     })
 }
 
-/// How many of these records each trace has. The list of their traces is gone then.
-fn counts_of(alloc: Global, all: &[Coming]) -> Result<Counts, Memory>
-    ensures { IfOk result (λ counts. AreCounted (traces_of all.now) counts.entries) }
-{
-    let traces = all_traces(alloc, all)?;
-    counted(alloc, &traces)
-}
-
 /// What the samplers keep of these records, where the ring went through them and `claimed` are the claimed
-/// traces.
+/// traces, all of which were named. Only the records of named traces are counted by their traces.
 pub(crate) fn compared(
     alloc: Global,
     all: &[Coming],
@@ -242,17 +222,21 @@ pub(crate) fn compared(
     requires kept { length ring.now.traces ≤ MAX_OPERATIONS }
     requires bytes { bytes_in all.now < 2 ^ 64 }
     requires once { (trace : TraceId) → times ring.now.named trace ≤ 1 }
+    requires claimed { AllByRecursion (λ (trace : TraceId). is_among ring.now.named trace ≡ true) claimed.now }
     ensures { IfOk result (λ comparison. comparison ≡ comparison_by one_in all.now ring.now.named ring.now.traces entries.now claimed.now) }
 {
-    let counts = counts_of(alloc, all)?;
+    let tail = tail_traces(alloc, all, ring)?;
+    let kept = tail.as_slice();
+    let counts = counted(alloc, kept)?;
     let rest = rest_of(alloc, &counts, entries, ring, claimed)?;
-    let named = counted_of(alloc, &counts, ring.named())?;
+    let known = counted_of(alloc, &counts, ring.named())?;
+    let named = known.as_slice();
     let shipped = all_bytes(all);
     Ok(Comparison {
-        head: head_line(alloc, all, &counts, &named, one_in)?,
-        tail: tail_line(alloc, all, &counts, &named, ring, shipped)?,
-        ring: ring_line(alloc, &counts, &named, ring, shipped)?,
-        hindsight: hindsight_line(alloc, all, &counts, &named, entries)?,
+        head: head_line(alloc, all, &counts, named, one_in)?,
+        tail: counted_line(&counts, named, kept, &counts, shipped),
+        ring: ring_line(alloc, &counts, named, ring, shipped)?,
+        hindsight: hindsight_line(alloc, all, &counts, named, entries)?,
         gap: rest.gap,
         limited: rest.limited,
     })

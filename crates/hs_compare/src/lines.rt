@@ -2,7 +2,7 @@
 
 ghost use Rattle.std.specs.Prelude.{◌≡◌, ◌+◌, ◌<◌, ◌≤◌, ◌^◌, ℕ, [], ◌++◌, ◌∷◌, List, length, filter, count_by, IfOk, OnOk};
 ghost use Rattle.hs_base.specs.declared.ids.TraceId.{TraceId};
-ghost use Rattle.hs_compare.specs.Counting.{AreCounted, times, times_in, is_counted, is_whole_by, line_by};
+ghost use Rattle.hs_compare.specs.Counting.{AreCounted, HasCountsOf, times_in, is_counted, is_whole_by, line_by};
 
 use hs_base::limits::MAX_OPERATIONS;
 use hs_base::{Memory, TraceId};
@@ -109,14 +109,31 @@ pub(crate) fn line_of(
 ) -> Result<Line, Memory>
     requires named { length named.now ≤ MAX_OPERATIONS }
     requires kept { length kept.now ≤ MAX_OPERATIONS }
-    ensures { (traces : List TraceId) → AreCounted traces all.now.entries
+    ensures { (traces : List TraceId) → HasCountsOf named.now traces all.now.entries
         → IfOk result (λ line. line ≡ line_by traces named.now kept.now shipped) }
 {
     let counts = counted(alloc, kept)?;
-    Ok(Line {
+    Ok(counted_line(all, named, kept, &counts, shipped))
+}
+
+/// The same, where the kept traces are counted.
+pub(crate) fn counted_line(
+    all: &Counts,
+    named: &[TraceId],
+    kept: &[TraceId],
+    counts: &Counts,
+    shipped: u64,
+) -> Line
+    requires named { length named.now ≤ MAX_OPERATIONS }
+    requires kept { length kept.now ≤ MAX_OPERATIONS }
+    requires counted { AreCounted kept.now counts.now.entries }
+    ensures { (traces : List TraceId) → HasCountsOf named.now traces all.now.entries
+        → result ≡ line_by traces named.now kept.now shipped }
+{
+    Line {
         records: kept.len() as u32,
         traces: counts.len() as u32,
-        whole: count_whole(all, &counts, named) as u32,
+        whole: count_whole(all, counts, named) as u32,
         shipped,
-    })
+    }
 }

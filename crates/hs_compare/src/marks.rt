@@ -86,14 +86,6 @@ pub(crate) fn marked_bytes(all: &[Coming], marks: &[bool]) -> u64
     bytes
 }
 
-/// The traces of the records.
-pub(crate) fn all_traces(alloc: Global, all: &[Coming]) -> Result<Vec<TraceId>, Memory>
-    ensures { IfOk result (λ traces. traces.items ≡ traces_of all.now) }
-{
-    let traces = all.iter().map(|coming| coming.trace).collect(alloc)?;
-    Ok(traces)
-}
-
 /// The bytes of all records.
 pub(crate) fn all_bytes(all: &[Coming]) -> u64
     requires { bytes_in all.now < 2 ^ 64 }

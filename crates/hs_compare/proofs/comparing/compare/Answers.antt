@@ -3,7 +3,7 @@ use Rattle.hs_compare.proofs.Prelude.{IfOk-weaker, compared_by, SumsToTail, work
 use Rattle.hs_law_lockstep.specs.Lockstep.{lockstep}
 use Rattle.hs_compare.proofs.Claiming.{traces_in}
 use Rattle.hs_compare.proofs.Few.{records_fit, bytes_fit, ring_fits, named_once}
-use Rattle.hs_compare.proofs.Outcomed.{outcome_beside, compared_is, sums_to_tail}
+use Rattle.hs_compare.proofs.Outcomed.{claims_are_named, compared_is, outcome_beside, sums_to_tail}
 use Rattle.hs_compare.proofs.comparing.compare.Goals as goal
 
 pub compared-requires-clause-beside : goal.compared-requires-clause-beside
@@ -24,6 +24,12 @@ compared-requires-clause-bytes c = bytes_fit (workload_of c.args.workload.now) c
 
 pub compared-requires-clause-once : goal.compared-requires-clause-once
 compared-requires-clause-once c = named_once (workload_of c.args.workload.now) c.args.room c.in_ok-ring.ring c.in_ok-ring.ensures
+
+pub compared-requires-clause-claimed : goal.compared-requires-clause-claimed
+compared-requires-clause-claimed c =
+    let W = workload_of c.args.workload.now in
+    claims_are_named c.claimed_traces_are_named.ensures W (lockstep W) c.args.outcome.now c.args.room c.in_ok-ring.ring c.as_slice-3.result.now c.requires.replayed c.requires.valid c.in_ok-ring.ensures
+    c.as_slice-3.ensures
 
 pub returns-clause-numbers : goal.returns-clause-numbers
 returns-clause-numbers c =
