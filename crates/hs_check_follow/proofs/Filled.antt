@@ -1,6 +1,6 @@
 -- A client goes on until its next chunk is there: it is the next of those that it sends at the given draws.
 use Rattle.std.proofs.Common.{◌≡◌, ℕ, ◌+◌, ◌<◌, ◌≤◌, Bool, true, false, List, ◌++◌, length, Option, Some, None, refl, sym, ap, subst, ◌∙◌, arith}
-use Rattle.hs_check_follow.proofs.Prelude.{ltb-true, ltb-false, IsTrue, nat_lt, slice_get, MatchOption, ClientId, Crumb, Trigger, Draw, ReplayClientIsAt, WentOn, PlainReplayClient, Unleased, Operation, PlainSettings, TimedPagesAreThePages, TimedPagesAreTimely, sends_of, sent_within, AllChunksAreSent, done_behind, Filling, Script, IsFilling, IsFilled, script_way}
+use Rattle.hs_check_follow.proofs.Prelude.{ltb-true, ltb-false, IsTrue, nat_lt, slice_get, MatchOption, ClientId, Crumb, Trigger, Draw, ReplayClientIsAt, WentOn, PlainReplayClient, Unleased, Operation, PlainSettings, TimedPagesAreThePages, TimedPagesAreTimely, sends_of, sent_within, AllChunksAreSent, done_behind, SecondPlay, Script, IsSecondPlay, IsFilled, script_way}
 use Rattle.std.specs.Prelude.{◌↔◌}
 use Rattle.hs_replay_client.specs.Places.{IsChunkAt, TakesCrumb, TakesTrigger}
 use Rattle.hs_check_follow.proofs.Drawing.{sent_there, kinds_more, none_there}
@@ -14,7 +14,7 @@ none_left left done all tells none within = either (nat_lt done all) refl
     either true e = let never : true ≡ false = sym (tells.1 (ltb-true done all e)) ∙ none in absurd cc
     either false e = let high = ltb-false done all e in omega (arith, high, within)
 
-module _ (settings : PlainSettings) (client : ClientId) (ops : List Operation) (draws : List Draw) (k : ℕ) (f : Filling) (is : IsFilling settings client ops draws k f) where
+module _ (settings : PlainSettings) (client : ClientId) (ops : List Operation) (draws : List Draw) (k : ℕ) (f : SecondPlay) (is : IsSecondPlay settings client ops draws k f) where
   -- ---- one operation more
 
   abbrev Went : Script → PlainReplayClient → Type 0
@@ -42,10 +42,9 @@ module _ (settings : PlainSettings) (client : ClientId) (ops : List Operation) (
     pub done_quiet : player.done ≡ done_behind 1 is.done ops
     done_quiet = went.at.done_is
 
-    pub fills_quiet : TimedPagesAreThePages → IsFilling settings client ops draws k (record { client = f.client; script = script; player = player })
-    fills_quiet paged =
+    pub plays_quiet : TimedPagesAreThePages → IsSecondPlay settings client ops draws k (record { script = script; player = player })
+    plays_quiet paged =
         record {
-          client_is = is.client_is;
           each = is.each;
           drawn = drawn;
           kinds = kinds_more settings client ops draws is.each is.drawn f.script is.kinds paged went.more script went.draws done k is.l is.m player went.at;
@@ -66,10 +65,9 @@ module _ (settings : PlainSettings) (client : ClientId) (ops : List Operation) (
       pub done_more : player2.done ≡ done_behind 1 is.done ops
       done_more = second.1.done_is
 
-      pub fills_on : TimedPagesAreThePages → IsFilling settings client ops draws k (record { client = f.client; script = script; player = player2 })
-      fills_on paged =
+      pub plays_on : TimedPagesAreThePages → IsSecondPlay settings client ops draws k (record { script = script; player = player2 })
+      plays_on paged =
           record {
-            client_is = is.client_is;
             each = is.each;
             drawn = drawn;
             kinds = kinds_more settings client ops draws is.each is.drawn f.script is.kinds paged went.more script went.draws done k is.l is.m player went.at;
@@ -83,13 +81,12 @@ module _ (settings : PlainSettings) (client : ClientId) (ops : List Operation) (
   -- ---- where a chunk is asked for
 
   module _ (player : PlainReplayClient) where
-    abbrev with_player : Filling
-    with_player = record { client = f.client; script = f.script; player = player }
+    abbrev with_player : SecondPlay
+    with_player = record { script = f.script; player = player }
 
-    stays : (n : ℕ) → ReplayClientIsAt settings client ops is.drawn is.done n is.l is.m player → IsFilling settings client ops draws n with_player
+    stays : (n : ℕ) → ReplayClientIsAt settings client ops is.drawn is.done n is.l is.m player → IsSecondPlay settings client ops draws n with_player
     stays n at =
         record {
-          client_is = is.client_is;
           each = is.each;
           drawn = is.drawn;
           kinds = is.kinds;
@@ -100,11 +97,11 @@ module _ (settings : PlainSettings) (client : ClientId) (ops : List Operation) (
           at = at;
         }
 
-    pub waits : ReplayClientIsAt settings client ops is.drawn is.done k is.l is.m player → IsFilling settings client ops draws k with_player
+    pub waits : ReplayClientIsAt settings client ops is.drawn is.done k is.l is.m player → IsSecondPlay settings client ops draws k with_player
     waits at = stays k at
 
     pub filled : (buffer : Unleased) → IsChunkAt settings client ops is.drawn is.done k buffer.chunk → ReplayClientIsAt settings client ops is.drawn is.done (k + 1) is.l is.m player
-        → IsFilled settings client ops draws k buffer.chunk × IsFilling settings client ops draws (k + 1) with_player
+        → IsFilled settings client ops draws k buffer.chunk × IsSecondPlay settings client ops draws (k + 1) with_player
     filled buffer chunk at = (
       record {
         item = chunk.item;
@@ -119,8 +116,8 @@ module _ (settings : PlainSettings) (client : ClientId) (ops : List Operation) (
     pub filled_last : TimedPagesAreThePages → TimedPagesAreTimely → AllChunksAreSent → is.done ≡ length ops → (answer : Option Unleased)
         → MatchOption answer ((k ≡ length (sent_within is.done (sends_of settings client ops is.drawn).chunks)) × ReplayClientIsAt settings client ops is.drawn is.done k is.l is.m player)
         (λ buffer. IsChunkAt settings client ops is.drawn is.done k buffer.chunk × ReplayClientIsAt settings client ops is.drawn is.done (k + 1) is.l is.m player)
-        → MatchOption answer ((slice_get (sends_of settings client ops draws).chunks k ≡ None) × IsFilling settings client ops draws k with_player)
-        (λ buffer. IsFilled settings client ops draws k buffer.chunk × IsFilling settings client ops draws (k + 1) with_player)
+        → MatchOption answer ((slice_get (sends_of settings client ops draws).chunks k ≡ None) × IsSecondPlay settings client ops draws k with_player)
+        (λ buffer. IsFilled settings client ops draws k buffer.chunk × IsSecondPlay settings client ops draws (k + 1) with_player)
     filled_last paged timely all last (Some buffer) took = filled buffer took.0 took.1
     filled_last paged timely all last None took =
         let at = subst (λ n. ReplayClientIsAt settings client ops is.drawn n k is.l is.m player) last took.1 in

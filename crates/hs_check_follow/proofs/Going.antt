@@ -1,6 +1,6 @@
 -- One operation more: where the client stands when it has gone on, and what was taken then.
 use Rattle.std.proofs.Common.{◌≡◌, ℕ, ◌+◌, ◌<◌, ◌≤◌, Bool, false, List, [], ◌++◌, length, map, take, drop, sym, ap, subst, ◌∙◌, arith, length-append}
-use Rattle.hs_check_follow.proofs.Prelude.{append-nil, length-map, IsTrue, replicate, ClientId, Crumb, Trigger, Draw, ReplayClientIsAt, WentOn, PlainReplayClient, pages_of, Operation, PlainSettings, AreBracketed, count_started, has_buffer, drawn_from, TimedPagesAreThePages, TimedPagesAreTimely, ChunksAreInOrder, ClientSends, Sent, sends_of, sent_chunks, sent_within, done_behind, timed_pages, Sheet, Gathering, Script, AreNumbers, HasItems, IsSentBy, Where, AtChunk, AtCrumb, AtTrigger, chunks_at, crumbs_at, triggers_at, WereChunks, WereCrumbs, WereTriggers, count_within, starts_within, script_way}
+use Rattle.hs_check_follow.proofs.Prelude.{append-nil, length-map, IsTrue, replicate, ClientId, Crumb, Trigger, Draw, ReplayClientIsAt, WentOn, PlainReplayClient, pages_of, Operation, PlainSettings, AreBracketed, count_started, has_buffer, drawn_from, TimedPagesAreThePages, TimedPagesAreTimely, ChunksAreInOrder, ClientSends, Sent, sends_of, sent_chunks, sent_within, done_behind, timed_pages, Sheet, Gathering, Keeping, Script, HasChunks, HasItems, IsSentBy, Where, AtChunk, AtCrumb, AtTrigger, chunks_at, crumbs_at, triggers_at, WereChunks, WereCrumbs, WereTriggers, count_within, starts_within, script_way}
 use Rattle.std.proofs.lemmas.List.{length-take-le, take-append-drop}
 use Rattle.hs_replay_client.specs.Places.{TellsBare}
 use Rattle.hs_law_sends.specs.Drawn.{drawn_pages}
@@ -78,8 +78,8 @@ module _ (k : Sends) (settings : PlainSettings) (client : ClientId) (ops : List 
     abbrev pub first : Where
     first = record { settings = settings; client = client; ops = ops; drawn = drawn; others = (count_within n (sends_of settings client ops drawn).crumbs, count_within n (sends_of settings client ops drawn).triggers) }
 
-    pub were_chunks : WereChunks first n player' g.found.chunks.items
-    were_chunks = record { at = at_here; holds = subst (λ items. AreNumbers items g.found.chunks.items) (sym (same_chunks went.more)) s.chunks }
+    pub were_chunks : WereChunks first n player' g.keeping g.found.chunks.items
+    were_chunks = record { at = at_here; holds = subst (λ items. HasChunks size items g.keeping g.found.chunks.items) (sym (same_chunks went.more)) s.chunks }
 
     abbrev pub second : Where
     second = record { settings = settings; client = client; ops = ops; drawn = drawn; others = (count_within (n + 1) (sends_of settings client ops drawn).chunks, count_within n (sends_of settings client ops drawn).triggers) }
@@ -87,7 +87,7 @@ module _ (k : Sends) (settings : PlainSettings) (client : ClientId) (ops : List 
     abbrev pub third : Where
     third = record { settings = settings; client = client; ops = ops; drawn = drawn; others = (count_within (n + 1) (sends_of settings client ops drawn).chunks, count_within (n + 1) (sends_of settings client ops drawn).crumbs) }
 
-    module _ (player1 : PlainReplayClient) (numbers : List ℕ) (chunks : AreChunks first n player1 numbers) where
+    module _ (player1 : PlainReplayClient) (keeping : Keeping) (numbers : List ℕ) (chunks : AreChunks first n player1 keeping numbers) where
       pub were_crumbs : WereCrumbs second n player1 g.crumbs.items g.found.crumbs.items
       were_crumbs = record { at = chunks.at; holds = s.crumbs }
 
@@ -123,7 +123,7 @@ module _ (k : Sends) (settings : PlainSettings) (client : ClientId) (ops : List 
 
     -- ---- all of it
 
-    pub sent_by : (player1 : PlainReplayClient) (g' : Gathering) → AreChunks first n player1 g'.found.chunks.items → (player2 : PlainReplayClient) → AreCrumbs second n player2 g'.crumbs.items g'.found.crumbs.items
+    pub sent_by : (player1 : PlainReplayClient) (g' : Gathering) → AreChunks first n player1 g'.keeping g'.found.chunks.items → (player2 : PlainReplayClient) → AreCrumbs second n player2 g'.crumbs.items g'.found.crumbs.items
         → (player3 : PlainReplayClient) → AreTriggers third n player3 g'.triggers.items g'.found.triggers.items → g'.found.started.items ≡ starts_within (n + 1) (timed_pages size ops) → IsSentBy settings client ops draws (n + 1) script' player3 g'
     sent_by player1 g' chunks player2 crumbs player3 triggers starts =
         record {
@@ -147,13 +147,13 @@ module _ (k : Sends) (settings : PlainSettings) (client : ClientId) (ops : List 
       all_gone : (count_within n sends.chunks ≡ count_within (n + 1) sends.chunks) × (count_within n sends.crumbs ≡ count_within (n + 1) sends.crumbs) × (count_within n sends.triggers ≡ count_within (n + 1) sends.triggers)
       all_gone = (tells settings client ops drawn (n + 1) (count_within n sends.chunks) (count_within n sends.crumbs) (count_within n sends.triggers) at_here).0 is_bare
 
-      pub no_chunks : AreChunks first n player' g.found.chunks.items
+      pub no_chunks : AreChunks first n player' g.keeping g.found.chunks.items
       no_chunks =
-          let Holds = λ (items : List (Sent Sheet)). AreNumbers items g.found.chunks.items in
+          let Holds = λ (items : List (Sent Sheet)). HasChunks size items g.keeping g.found.chunks.items in
           none_more (AtChunk first n) Holds (chunks_at first) n player' (chunks_ordered chunks_order first n player' were_chunks) were_chunks all_gone.0
 
       crumbs_were : WereCrumbs second n player' g.crumbs.items g.found.crumbs.items
-      crumbs_were = were_crumbs player' g.found.chunks.items no_chunks
+      crumbs_were = were_crumbs player' g.keeping g.found.chunks.items no_chunks
 
       pub no_crumbs : AreCrumbs second n player' g.crumbs.items g.found.crumbs.items
       no_crumbs =
@@ -161,7 +161,7 @@ module _ (k : Sends) (settings : PlainSettings) (client : ClientId) (ops : List 
           none_more (AtCrumb second n) Holds (crumbs_at second) n player' (crumbs_order ops) crumbs_were all_gone.1
 
       triggers_were : WereTriggers third n player' g.triggers.items g.found.triggers.items
-      triggers_were = were_triggers player' g.found.chunks.items no_chunks player' g.crumbs.items g.found.crumbs.items no_crumbs
+      triggers_were = were_triggers player' g.keeping g.found.chunks.items no_chunks player' g.crumbs.items g.found.crumbs.items no_crumbs
 
       pub no_triggers : AreTriggers third n player' g.triggers.items g.found.triggers.items
       no_triggers =

@@ -1,5 +1,6 @@
 mod Prelude
 pub mod Queues
+pub mod Kept
 pub mod Taking
 pub mod Scripted
 pub mod Starts

@@ -17,8 +17,9 @@ pub use Rattle.hs_check_clauses.specs.declared.found.FoundPage.{FoundPage}
 pub use Rattle.hs_check_follow.specs.Beginning.{AreFirst}
 pub use Rattle.hs_check_follow.specs.Clients.{ClientsStand, ClientStands, FillsAt, own_operations, Pops, PopsChunk}
 pub use Rattle.hs_check_follow.specs.Ends.{ends_within}
-pub use Rattle.hs_check_follow.specs.Fillings.{Fills, IsFilled, IsFilling, MayFill}
-pub use Rattle.hs_check_follow.specs.Gathering.{AreNumbers, AtChunk, AtCrumb, AtTrigger, chunks_at, count_within, crumbs_at, HasItems, IsSentBy, starts_within, triggers_at, WereChunks, WereCrumbs, WereTriggers, Where}
+pub use Rattle.hs_check_follow.specs.Fillings.{Fills, IsFilled, IsFilling, IsSecondPlay, LeftAt, MayFill, MayPlay, Plays}
+pub use Rattle.hs_check_follow.specs.Gathering.{AreNumbers, AtChunk, AtCrumb, AtTrigger, chunks_at, count_within, crumbs_at, HasChunks, HasItems, IsSentBy, starts_within, triggers_at, WereChunks, WereCrumbs, WereTriggers, Where}
+pub use Rattle.hs_check_follow.specs.Keepings.{HavePages, KeepsAll}
 pub use Rattle.hs_check_follow.specs.Nodes.{agent_run, FollowedNodeStands, HasPerformed, IsNotReady, IsReadied, name_of, named_at}
 pub use Rattle.hs_check_follow.specs.Noting.{behind_at, hand_of, noted_if, Notes, said_of}
 pub use Rattle.hs_check_follow.specs.Parting.{books_left, IsFoundOf}
@@ -29,8 +30,10 @@ pub use Rattle.hs_check_follow.specs.declared.client.FollowedClient.{FollowedCli
 pub use Rattle.hs_check_follow.specs.declared.coordinator.FollowedCoordinator.{FollowedCoordinator}
 pub use Rattle.hs_check_follow.specs.declared.filling.Filling.{Filling}
 pub use Rattle.hs_check_follow.specs.declared.gathering.Gathering.{Gathering}
+pub use Rattle.hs_check_follow.specs.declared.keeping.Keeping.{Keeping}
 pub use Rattle.hs_check_follow.specs.declared.node.FollowedNode.{FollowedNode}
 pub use Rattle.hs_check_follow.specs.declared.script.Script.{Script}
+pub use Rattle.hs_check_follow.specs.declared.second_play.SecondPlay.{SecondPlay}
 pub use Rattle.hs_client.specs.Calls.{note_of}
 pub use Rattle.hs_coord.specs.Following.{Messages}
 pub use Rattle.hs_journal.specs.Books.{PlainClientBook}
@@ -72,5 +75,5 @@ pub use Rattle.std.proofs.lemmas.List.{append-nil, length-map, map-append, nil_f
 pub use Rattle.std.proofs.lemmas.Option.{same_Some, slice_get-get_or, slice_get-map, slice_get_within}
 pub use Rattle.std.proofs.lemmas.Result.{on_ok_weaker}
 pub use Rattle.std.specs.List.{flat_map, list_all, range_with_len}
-pub use Rattle.std.specs.Option.{option_and_then}
+pub use Rattle.std.specs.Option.{option_and_then, option_to_list}
 pub use Rattle.std.specs.Prelude.{IsTrue, MatchOption, nat_lt, replicate, slice_get}

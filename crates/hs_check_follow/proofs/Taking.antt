@@ -1,6 +1,6 @@
 -- Each item that is taken leaves one less waiting.
 use Rattle.std.proofs.Common.{ℕ, ◌+◌, ◌<◌, List, length, ap, ◌∙◌, arith, length-drop}
-use Rattle.hs_check_follow.proofs.Prelude.{PlainReplayClient, AreInOrder, ChunksAreInOrder, Where, AtChunk, AtCrumb, AtTrigger, WereChunks, chunks_at}
+use Rattle.hs_check_follow.proofs.Prelude.{PlainReplayClient, AreInOrder, ChunksAreInOrder, Keeping, Where, AtChunk, AtCrumb, AtTrigger, WereChunks, chunks_at}
 use Rattle.hs_replay_client.specs.Places.{Waits}
 
 fewer : {A : Type 0} (sent waiting waiting' : List A) (k : ℕ) → Waits k sent waiting → Waits (k + 1) sent waiting' → length waiting' < length waiting
@@ -19,5 +19,5 @@ crumbs_fewer w number k player next at after = fewer _ player.works.crumbs next.
 pub triggers_fewer : (w : Where) (number k : ℕ) (player next : PlainReplayClient) → AtTrigger w number k player → AtTrigger w number (k + 1) next → length next.works.triggers < length player.works.triggers
 triggers_fewer w number k player next at after = fewer _ player.works.triggers next.works.triggers k at.triggers after.triggers
 
-pub chunks_ordered : ChunksAreInOrder → (w : Where) (number : ℕ) (player : PlainReplayClient) {numbers : List ℕ} → WereChunks w number player numbers → AreInOrder 0 (chunks_at w)
+pub chunks_ordered : ChunksAreInOrder → (w : Where) (number : ℕ) (player : PlainReplayClient) {keeping : Keeping} {numbers : List ℕ} → WereChunks w number player keeping numbers → AreInOrder 0 (chunks_at w)
 chunks_ordered order w number player was = order w.settings.size w.client w.ops w.drawn was.at.playable.least was.at.playable.client.bracketed

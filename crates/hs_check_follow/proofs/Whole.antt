@@ -1,6 +1,6 @@
 -- All operations are done: what was taken is what the client sends at the given draws.
-use Rattle.std.proofs.Common.{◌≡◌, ℕ, ◌+◌, List, [], ◌∷◌, length, map, refl, sym, ap, ◌∙◌, arith}
-use Rattle.hs_check_follow.proofs.Prelude.{ClientId, IsFoundClient, numbers_of, Draw, PlainReplayClient, Operation, PlainSettings, drawn_from, IsTimely, TimedPagesAreThePages, TimedPagesAreTimely, items_of, sends_of, sent_within, AllChunksAreSent, TimedPage, timed_pages, Gathering, Script, IsSentBy}
+use Rattle.std.proofs.Common.{◌≡◌, ℕ, ◌+◌, List, [], ◌∷◌, length, map, refl, sym, ap, subst, ◌∙◌, arith}
+use Rattle.hs_check_follow.proofs.Prelude.{ClientId, IsFoundClient, numbers_of, Draw, PlainReplayClient, Operation, PlainSettings, drawn_from, IsTimely, TimedPagesAreThePages, TimedPagesAreTimely, items_of, sends_of, sent_within, AllChunksAreSent, TimedPage, timed_pages, Gathering, Script, KeepsAll, IsSentBy}
 use Rattle.hs_check_clauses.specs.Finding.{starts_of}
 use Rattle.hs_law_sends.specs.SoFar.{AllCrumbsAreSent, AllTriggersAreSent}
 use Rattle.hs_check_follow.proofs.Drawing.{all_started, in_time, pages_long, same_chunks}
@@ -28,6 +28,9 @@ module _ (k : Ends) (settings : PlainSettings) (client : ClientId) (ops : List O
   chunks_are : sent_within (length ops) (sends_of settings client ops s.drawn).chunks ≡ (sends_of settings client ops draws).chunks
   chunks_are = same_chunks settings client ops draws s.each s.drawn script s.kinds k.paged k.timely k.chunks _ _ _ player s.at
 
+  pub kept : KeepsAll settings.size (sends_of settings client ops draws).chunks g.keeping
+  kept = subst (λ items. KeepsAll settings.size items g.keeping) chunks_are s.chunks.kept
+
   pub crumbs : g.crumbs.items ≡ items_of (sends_of settings client ops draws).crumbs
   crumbs = s.crumbs.queue_is ∙ ap items_of (k.crumbs ops)
 
@@ -38,7 +41,7 @@ module _ (k : Ends) (settings : PlainSettings) (client : ClientId) (ops : List O
   found =
       record {
         started = s.started ∙ ap (map (λ (p : TimedPage). p.started)) (all_started 0 (length ops) (timed_pages settings.size ops) timely) ∙ sym (starts_are client 0 (timed_pages settings.size ops) draws long);
-        chunks = s.chunks ∙ ap numbers_of chunks_are;
+        chunks = s.chunks.numbers_are ∙ ap numbers_of chunks_are;
         crumbs = s.crumbs.numbers_are ∙ ap numbers_of (k.crumbs ops);
         triggers = s.triggers.numbers_are ∙ ap numbers_of (k.triggers settings.autos ops);
       }

@@ -1,4 +1,4 @@
--- What is left of what a client sends when its agent took some: all but the first so many chunks, which are still to be filled, and the
+-- What is left of what a client sends when its agent took some: all but the first so many chunks, which are kept or still to be filled, and the
 -- first so many crumbs and triggers, which lie in queues.
 use Rattle.std.specs.Prelude.{◌≡◌, ◌⊎◌, ℕ, ◌<◌, ◌≤◌, List, ◌++◌, length, drop, slice_get, Option, Some, None}
 use Rattle.std.specs.Option.{option_to_list}

@@ -17,7 +17,9 @@ use Rattle.hs_law_sends.specs.Sending.{Sent, sends_of, sent_within}
 use Rattle.hs_law_sends.specs.SoFar.{started_within}
 use Rattle.hs_law_sends.specs.Timing.{TimedPage, timed_pages}
 use Rattle.hs_words.specs.Pages.{Sheet}
+use Rattle.hs_check_follow.specs.Keepings.{KeepsAll}
 use Rattle.hs_check_follow.specs.declared.gathering.Gathering.{Gathering}
+use Rattle.hs_check_follow.specs.declared.keeping.Keeping.{Keeping}
 use Rattle.hs_check_follow.specs.declared.script.Script.{Script}
 
 -- The queue has these items, and their operations are noted.
@@ -28,6 +30,11 @@ pub record HasItems {A : Type 0} (items : List (Sent A)) (queue : List A) (numbe
 -- The operations of these items are noted.
 abbrev pub AreNumbers : {A : Type 0} → List (Sent A) → List ℕ → Type 0
 AreNumbers items numbers = numbers ≡ numbers_of items
+
+-- The operations of these chunks are noted, and the chunks themselves are kept, where chunks are.
+pub record HasChunks (size : ℕ) (items : List (Sent Sheet)) (keeping : Keeping) (numbers : List ℕ) : Type 0 where
+  pub kept : KeepsAll size items keeping
+  pub numbers_are : AreNumbers items numbers
 
 -- how many of these items the first so many operations send
 abbrev pub count_within : {A : Type 0} → ℕ → List (Sent A) → ℕ
@@ -46,7 +53,7 @@ pub record IsSentBy (settings : PlainSettings) (client : ClientId) (ops : List O
   pub at :
       ReplayClientIsAt settings client ops drawn n (count_within n (sends_of settings client ops drawn).chunks) (count_within n (sends_of settings client ops drawn).crumbs)
       (count_within n (sends_of settings client ops drawn).triggers) player
-  pub chunks : AreNumbers (sent_within n (sends_of settings client ops drawn).chunks) g.found.chunks.items
+  pub chunks : HasChunks settings.size (sent_within n (sends_of settings client ops drawn).chunks) g.keeping g.found.chunks.items
   pub crumbs : HasItems (sent_within n (sends_of settings client ops drawn).crumbs) g.crumbs.items g.found.crumbs.items
   pub triggers : HasItems (sent_within n (sends_of settings client ops drawn).triggers) g.triggers.items g.found.triggers.items
   pub started : g.found.started.items ≡ starts_within n (timed_pages settings.size ops)
@@ -61,6 +68,7 @@ SendsOneMore rules ops n script player g script' player' g' =
     (settings : PlainSettings) (client : ClientId) (draws : List Draw) → rules ≡ settings.autos → IsSentBy settings client ops draws n script player g → IsSentBy settings client ops draws (n + 1) script' player' g'
 
 pub record IsNew (g : Gathering) : Type 0 where
+  pub chunks : g.keeping.chunks.items ≡ []
   pub crumbs : g.crumbs.items ≡ []
   pub triggers : g.triggers.items ≡ []
   pub started : g.found.started.items ≡ []
@@ -108,17 +116,17 @@ AtTrigger w number m player = ReplayClientIsAt w.settings w.client w.ops w.drawn
 
 -- ---- chunks
 
-abbrev pub WereChunks : Where → ℕ → PlainReplayClient → List ℕ → Type 0
-WereChunks w number player numbers = Was (AtChunk w number) (λ items. AreNumbers items numbers) (chunks_at w) number player
+abbrev pub WereChunks : Where → ℕ → PlainReplayClient → Keeping → List ℕ → Type 0
+WereChunks w number player keeping numbers = Was (AtChunk w number) (λ items. HasChunks w.settings.size items keeping numbers) (chunks_at w) number player
 
-abbrev pub AreChunks : Where → ℕ → PlainReplayClient → List ℕ → Type 0
-AreChunks w number player numbers = Is (AtChunk w number) (λ items. AreNumbers items numbers) (chunks_at w) number player
+abbrev pub AreChunks : Where → ℕ → PlainReplayClient → Keeping → List ℕ → Type 0
+AreChunks w number player keeping numbers = Is (AtChunk w number) (λ items. HasChunks w.settings.size items keeping numbers) (chunks_at w) number player
 
-abbrev pub WasSentChunks : ℕ → PlainReplayClient → List ℕ → Type 0
-WasSentChunks number player numbers = (w : Where) × WereChunks w number player numbers
+abbrev pub WasSentChunks : ℕ → PlainReplayClient → Keeping → List ℕ → Type 0
+WasSentChunks number player keeping numbers = (w : Where) × WereChunks w number player keeping numbers
 
-abbrev pub IsSentChunks : ℕ → PlainReplayClient → List ℕ → PlainReplayClient → List ℕ → Type 0
-IsSentChunks number player numbers player' numbers' = (w : Where) → WereChunks w number player numbers → AreChunks w number player' numbers'
+abbrev pub IsSentChunks : ℕ → PlainReplayClient → Keeping → List ℕ → PlainReplayClient → Keeping → List ℕ → Type 0
+IsSentChunks number player keeping numbers player' keeping' numbers' = (w : Where) → WereChunks w number player keeping numbers → AreChunks w number player' keeping' numbers'
 
 -- ---- crumbs
 

@@ -1,4 +1,5 @@
 pub mod Scripts
+pub mod Keepings
 pub mod Fillings
 pub mod Gathering
 pub mod Sendings

@@ -1,4 +1,4 @@
--- What a client sends at given draws: its chunks are to be filled, from the first on, and its crumbs and triggers lie in queues. The
+-- What a client sends at given draws: its chunks are to be taken, from the first on, and its crumbs and triggers lie in queues. The
 -- operations of all items are found, and the book is that of the draws.
 use Rattle.std.specs.Prelude.{◌≡◌, List, map}
 use Rattle.hs_base.specs.declared.ids.ClientId.{ClientId}

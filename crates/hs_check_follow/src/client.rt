@@ -9,6 +9,7 @@ ghost use Rattle.hs_check_follow.specs.Sendings.{IsFollowedClient};
 
 use crate::filling::Filling;
 use crate::gathering::Gathering;
+use crate::keeping::may_keep;
 use crate::script::Script;
 use hs_base::{ClientId, Crumb, List, Memory, Settings, Trigger};
 use hs_check_clauses::FoundClient;
@@ -21,9 +22,9 @@ use hs_workload::Op;
 use std::alloc::Global;
 use std::collections::VecDeque;
 
-/// What a client sends at the draws of a journal: its chunks, which are filled one by one when they are asked for, its crumbs and triggers,
-/// all in order and with the number of the operation that sends them, and what it notes. The buffers of the chunks have numbers of their
-/// own, and not those of the draws.
+/// What a client sends at the draws of a journal: its chunks, which are kept or filled one by one when they are asked for, its crumbs and
+/// triggers, all in order and with the number of the operation that sends them, and what it notes. The buffers of the chunks have numbers
+/// of their own, and not those of the draws.
 #[derive(Drop)]
 pub struct FollowedClient {
     pub chunks: Filling,
@@ -51,19 +52,20 @@ pub fn send(
     let rules = settings.autos.as_slice();
     let mut script = Script::make(alloc, settings.size, draws)?;
     let mut player = ReplayClient::make(alloc, client, settings, operations)?;
-    let mut gathering = Gathering::new(alloc);
+    let mut gathering = Gathering::new(alloc, may_keep(settings, draws));
     for number in 0..operations.len() {
         gathering.go(number, rules, operations, &mut script, &mut player)?;
     }
     let noted = player.finish();
     let mut draws_noted = List::new(alloc);
     draws_noted.append_slice(draws)?;
-    let chunks = Filling::make(alloc, client, settings, operations, draws)?;
     let Gathering {
+        keeping,
         crumbs,
         triggers,
         found,
     } = gathering;
+    let chunks = Filling::make(alloc, client, settings, operations, draws, keeping)?;
     Ok(FollowedClient {
         chunks,
         crumbs,

@@ -1,52 +1,66 @@
-//! The chunks of a client, each filled when it is asked for.
+//! The chunks of a client that are still to be taken.
 
-ghost use Rattle.std.specs.Prelude.{◌≡◌, ◌+◌, ◌<◌, length, map, IfOk, OnOk};
+ghost use Rattle.std.specs.Prelude.{◌≡◌, length, map, IfOk};
 ghost use Rattle.hs_law_sends.specs.Playable.{IsPlayable};
+ghost use Rattle.hs_law_sends.specs.Sending.{sends_of};
 ghost use Rattle.hs_records.specs.Pages.{pages_of};
 ghost use Rattle.hs_records.specs.Plain.{settings_of};
 ghost use Rattle.hs_words.specs.Buffers.{buffer_in};
 ghost use Rattle.hs_workload.specs.Views.{operation_of};
-ghost use Rattle.hs_check_follow.specs.Fillings.{IsFilling, MayFill, FillsOn, Fills};
+ghost use Rattle.hs_check_follow.specs.Fillings.{IsFilling, MayFill, Fills};
+ghost use Rattle.hs_check_follow.specs.Keepings.{KeepsAll};
 
-use crate::script::Script;
+use crate::keeping::Keeping;
+use crate::second_play::SecondPlay;
 use hs_base::{AutoRule, ClientId, Memory, Settings};
 use hs_journal::Draw;
-use hs_law_sends::laws::{
-    all_is_sent_in_the_end, timed_pages_are_the_pages, timed_pages_are_timely,
-};
-use hs_replay_client::ReplayClient;
 use hs_words::Held;
 use hs_workload::Op;
 use std::alloc::Global;
+use std::collections::VecDeque;
 
-/// The chunks of a client that are still to be filled. It does its operations once more, each no earlier than a chunk is asked for that
-/// needs it. So it holds the page that is open then, and what else the last operation sent.
+/// The chunks of a client that are still to be taken.
 #[derive(Drop)]
 pub struct Filling {
     pub(crate) client: ClientId,
-    pub(crate) script: Script,
-    pub(crate) player: ReplayClient,
+    pub(crate) left: Left,
+}
+
+/// The chunks themselves where they were kept, or else the client, which fills each when it is asked for.
+#[derive(Drop)]
+pub(crate) enum Left {
+    Kept { chunks: VecDeque<Held<()>> },
+    Played { play: SecondPlay },
 }
 
 impl Filling {
-    /// All chunks of a client of a valid workload with these settings and operations, at these draws, one for each of its pages.
+    /// All chunks of a client of a valid workload with these settings and operations, at these draws, one for each of its pages. This
+    /// was kept of them.
     pub(crate) fn make(
         alloc: Global,
         client: ClientId,
         settings: &Settings,
         operations: &[Op],
         draws: &[Draw],
+        keeping: Keeping,
     ) -> Result<Filling, Memory>
         requires playable { IsPlayable (settings_of settings.now) (map operation_of operations.now) }
         requires each { length draws.now ≡ length (pages_of settings.now.size (map operation_of operations.now)) }
+        requires kept { KeepsAll settings.now.size (sends_of (settings_of settings.now) client (map operation_of operations.now) draws.now).chunks keeping }
         ensures { IfOk result (IsFilling (settings_of settings.now) client (map operation_of operations.now) draws.now 0) }
     {
-        let script = Script::make(alloc, settings.size, draws)?;
-        let player = ReplayClient::make(alloc, client, settings, operations)?;
+        if keeping.keeps {
+            return Ok(Filling {
+                client,
+                left: Left::Kept {
+                    chunks: keeping.chunks,
+                },
+            });
+        }
+        let play = SecondPlay::make(alloc, client, settings, operations, draws)?;
         Ok(Filling {
             client,
-            script,
-            player,
+            left: Left::Played { play },
         })
     }
 
@@ -67,32 +81,9 @@ impl Filling {
         requires { MayFill rules.now (map operation_of operations.now) self.old }
         ensures { IfOk result (λ held. Fills rules.now (map operation_of operations.now) self.old (buffer_in held) self.new) }
     {
-        timed_pages_are_the_pages();
-        timed_pages_are_timely();
-        all_is_sent_in_the_end();
-        'operations: while self.player.has_left(operations) {
-            if let Some(held) = self.player.next_chunk() {
-                return Ok(Some(held));
-            }
-            self.go_on(rules, operations)?;
+        match &mut self.left {
+            Left::Kept { chunks } => Ok(chunks.pop_front()),
+            Left::Played { play } => play.next(rules, operations),
         }
-        Ok(self.player.next_chunk())
-    }
-
-    /// Does one operation more. Of what that sends it keeps the chunks alone.
-    fn go_on(&mut self, rules: &[AutoRule], operations: &[Op]) -> Result<(), Memory>
-        requires may { MayFill rules.now (map operation_of operations.now) self.old }
-        requires left { self.old.player.done < length operations.now }
-        ensures done { OnOk result (self.new.player.done ≡ self.old.player.done + 1) }
-        ensures fills { OnOk result (FillsOn rules.now (map operation_of operations.now) self.old self.new) }
-    {
-        timed_pages_are_the_pages();
-        self.player.go_on(&mut self.script, rules, operations, 1)?;
-        if self.player.is_bare() {
-            return Ok(());
-        }
-        let _crumb = self.player.next_crumb();
-        let _trigger = self.player.next_trigger();
-        Ok(())
     }
 }

@@ -4,6 +4,7 @@ ghost use Rattle.std.specs.Prelude.{◌≡◌, ◌<◌, ◌++◌, length, map, r
 ghost use Rattle.hs_workload.specs.Views.{operation_of};
 ghost use Rattle.hs_check_follow.specs.Gathering.{IsNew, WasSent, SendsOneMore, WasSentChunks, IsSentChunks, WasSentCrumbs, IsSentCrumbs, WasSentTriggers, IsSentTriggers};
 
+use crate::keeping::Keeping;
 use crate::script::Script;
 use hs_base::{AutoRule, Crumb, List, Memory, Trigger};
 use hs_check_clauses::FoundClient;
@@ -16,20 +17,26 @@ use hs_workload::Op;
 use std::alloc::Global;
 use std::collections::VecDeque;
 
-/// The crumbs and triggers that a client sent with the operations that it has done, and which operations all that it sent is of.
+/// The crumbs and triggers that a client sent with the operations that it has done, its chunks where they are kept, and which operations
+/// all that it sent is of.
 #[derive(Drop)]
 pub(crate) struct Gathering {
+    pub(crate) keeping: Keeping,
     pub(crate) crumbs: VecDeque<Crumb>,
     pub(crate) triggers: VecDeque<Trigger>,
     pub(crate) found: FoundClient,
 }
 
 impl Gathering {
-    /// Nothing was sent.
-    pub(crate) fn new(alloc: Global) -> Gathering
+    /// Nothing was sent. Chunks are to be kept, or not.
+    pub(crate) fn new(alloc: Global, keeps: bool) -> Gathering
         ensures { IsNew result }
     {
         Gathering {
+            keeping: Keeping {
+                keeps,
+                chunks: VecDeque::new(alloc),
+            },
             crumbs: VecDeque::new(alloc),
             triggers: VecDeque::new(alloc),
             found: FoundClient {
@@ -66,7 +73,7 @@ impl Gathering {
         if player.is_bare() {
             return Ok(());
         }
-        count_chunks(&mut self.found.chunks, number, player)?;
+        take_chunks(&mut self.keeping, &mut self.found.chunks, number, player)?;
         take_crumbs(&mut self.crumbs, &mut self.found.crumbs, number, player)?;
         take_triggers(&mut self.triggers, &mut self.found.triggers, number, player)
     }
@@ -82,17 +89,19 @@ fn note_started(started: &mut List<usize>, number: usize, count: usize) -> Resul
     Ok(())
 }
 
-/// Notes the chunks that the operation of this number sent, and lets them go.
-fn count_chunks(
+/// Takes the chunks that the operation of this number sent. They are kept where chunks are.
+fn take_chunks(
+    keeping: &mut Keeping,
     numbers: &mut List<usize>,
     number: usize,
     player: &mut ReplayClient,
 ) -> Result<(), Memory>
-    requires { WasSentChunks number player.old numbers.old.items }
-    ensures { OnOk result (IsSentChunks number player.old numbers.old.items player.new numbers.new.items) }
+    requires { WasSentChunks number player.old keeping.old numbers.old.items }
+    ensures { OnOk result (IsSentChunks number player.old keeping.old numbers.old.items player.new keeping.new numbers.new.items) }
 {
     items_are_sent_in_order();
-    while let Some(_held) = player.next_chunk() {
+    while let Some(held) = player.next_chunk() {
+        keeping.keep(held)?;
         numbers.append(number)?;
     }
     Ok(())

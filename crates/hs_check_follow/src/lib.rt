@@ -9,11 +9,13 @@ mod clients;
 mod coordinator;
 mod filling;
 mod gathering;
+mod keeping;
 mod making;
 mod node;
 mod parting;
 mod run;
 mod script;
+mod second_play;
 
 pub use agent::FollowedAgent;
 pub use client::{FollowedClient, send};

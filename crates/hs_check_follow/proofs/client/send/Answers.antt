@@ -1,7 +1,7 @@
 use Rattle.std.proofs.Common.{◌≡◌, List, ◌++◌, length, map, ap, ◌∙◌, subst, arith}
 use Rattle.hs_check_follow.proofs.Prelude.{length-map, note_of, PlainClientBook, Draw, pages_of, settings_of, operation_of, IsSentBy}
 use Rattle.hs_check_follow.proofs.NothingSent.{begins_so}
-use Rattle.hs_check_follow.proofs.Whole.{Ends, crumbs, triggers, found}
+use Rattle.hs_check_follow.proofs.Whole.{Ends, kept, crumbs, triggers, found}
 use Rattle.hs_check_follow.proofs.client.send.Goals as goal
 
 pub loop-number-init : goal.loop-number-init
@@ -14,6 +14,23 @@ go-requires-clause-sent c = (settings_of c.args.settings.now, c.args.client, c.a
 
 pub loop-number-preserved : goal.loop-number-preserved
 loop-number-preserved c = c.in_ok-go.ensures (settings_of c.args.settings.now) c.args.client c.args.draws.now c.as_slice-rules.ensures c.loop-number.invariant
+
+pub make-chunks-requires-clause-kept : goal.make-chunks-requires-clause-kept
+make-chunks-requires-clause-kept c =
+    let settings = settings_of c.args.settings.now in
+    let client = c.args.client in
+    let ops = map operation_of c.args.operations.now in
+    let draws = c.args.draws.now in
+    let all : c.loop-number.number ≡ length ops = omega (arith, c.loop-number-test.false, c.loop-number.auto.number-end, length-map c.args.operations.now operation_of) in
+    let s = subst (λ n. IsSentBy settings client ops draws n c.loop-number.script c.loop-number.player c.loop-number.gathering) all c.loop-number.invariant in
+    let k : Ends = record {
+      paged = c.timed_pages_are_the_pages.ensures;
+      timely = c.timed_pages_are_timely.ensures;
+      chunks = c.all_is_sent_in_the_end.ensures.chunks;
+      crumbs = c.all_is_sent_in_the_end.ensures.crumbs;
+      triggers = c.all_is_sent_in_the_end.ensures.triggers;
+    } in
+    kept k settings client ops draws c.loop-number.script c.loop-number.player c.loop-number.gathering s
 
 pub finish-noted-requires : goal.finish-noted-requires
 finish-noted-requires c =

@@ -1,8 +1,8 @@
-use Rattle.std.proofs.Common.{map, refl}
-use Rattle.hs_check_follow.proofs.Prelude.{settings_of, operation_of}
-use Rattle.hs_check_follow.proofs.NothingSent.{fills_so}
+use Rattle.std.proofs.Common.{refl}
 use Rattle.hs_check_follow.proofs.filling.Filling.make.Goals as goal
 
+pub returns-then-keeps : goal.returns-then-keeps
+returns-then-keeps c = record { client_is = refl; left = c.requires.kept c.if-keeps.true }
+
 pub returns : goal.returns
-returns c =
-    fills_so (settings_of c.args.settings.now) c.args.client (map operation_of c.args.operations.now) c.args.draws.now _ refl c.requires.each c.in_ok-script.ensures.left c.in_ok-script.ensures.size c.in_ok-player.ensures
+returns c = record { client_is = refl; left = c.in_ok-play.ensures }

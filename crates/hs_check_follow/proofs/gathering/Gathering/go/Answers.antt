@@ -35,8 +35,8 @@ overflow_sub-started c =
     let after = c.len.ensures in
     omega (arith, few, before, after)
 
-pub count_chunks-requires : goal.count_chunks-requires
-count_chunks-requires c =
+pub take_chunks-requires : goal.take_chunks-requires
+take_chunks-requires c =
     let (settings, client, draws, rules_are, s) = c.requires.sent in
     let k : Sends = record { paged = c.timed_pages_are_the_pages.ensures; timely = c.timed_pages_are_timely.ensures; first = c.the_first_operations_send.ensures; chunks = c.the_first_chunks_are_sent.ensures } in
     let ops = map operation_of c.args.operations.now in
@@ -59,8 +59,8 @@ take_crumbs-requires c =
     let player = c.args.player.now in
     let g = c.args.self.now in
     let went = c.in_ok-go_on.ensures settings client s.drawn n _ _ _ s.at in
-    let chunks = c.in_ok-count_chunks.ensures (first k settings client ops draws n script player g s low c.go_on.new.well c.go_on.new.self went) (were_chunks k settings client ops draws n script player g s low c.go_on.new.well c.go_on.new.self went) in
-    (second k settings client ops draws n script player g s low c.go_on.new.well c.go_on.new.self went, were_crumbs k settings client ops draws n script player g s low c.go_on.new.well c.go_on.new.self went c.count_chunks.new.player c.count_chunks.new.numbers.items chunks)
+    let chunks = c.in_ok-take_chunks.ensures (first k settings client ops draws n script player g s low c.go_on.new.well c.go_on.new.self went) (were_chunks k settings client ops draws n script player g s low c.go_on.new.well c.go_on.new.self went) in
+    (second k settings client ops draws n script player g s low c.go_on.new.well c.go_on.new.self went, were_crumbs k settings client ops draws n script player g s low c.go_on.new.well c.go_on.new.self went c.take_chunks.new.player c.take_chunks.new.keeping c.take_chunks.new.numbers.items chunks)
 
 pub take_triggers-requires : goal.take_triggers-requires
 take_triggers-requires c =
@@ -73,11 +73,11 @@ take_triggers-requires c =
     let player = c.args.player.now in
     let g = c.args.self.now in
     let went = c.in_ok-go_on.ensures settings client s.drawn n _ _ _ s.at in
-    let chunks = c.in_ok-count_chunks.ensures (first k settings client ops draws n script player g s low c.go_on.new.well c.go_on.new.self went) (were_chunks k settings client ops draws n script player g s low c.go_on.new.well c.go_on.new.self went) in
-    let were = were_crumbs k settings client ops draws n script player g s low c.go_on.new.well c.go_on.new.self went c.count_chunks.new.player c.count_chunks.new.numbers.items chunks in
+    let chunks = c.in_ok-take_chunks.ensures (first k settings client ops draws n script player g s low c.go_on.new.well c.go_on.new.self went) (were_chunks k settings client ops draws n script player g s low c.go_on.new.well c.go_on.new.self went) in
+    let were = were_crumbs k settings client ops draws n script player g s low c.go_on.new.well c.go_on.new.self went c.take_chunks.new.player c.take_chunks.new.keeping c.take_chunks.new.numbers.items chunks in
     let crumbs = c.in_ok-take_crumbs.ensures (second k settings client ops draws n script player g s low c.go_on.new.well c.go_on.new.self went) were in (
       third k settings client ops draws n script player g s low c.go_on.new.well c.go_on.new.self went,
-      were_triggers k settings client ops draws n script player g s low c.go_on.new.well c.go_on.new.self went c.count_chunks.new.player c.count_chunks.new.numbers.items chunks c.take_crumbs.new.player c.take_crumbs.new.queue.items c.take_crumbs.new.numbers.items crumbs,
+      were_triggers k settings client ops draws n script player g s low c.go_on.new.well c.go_on.new.self went c.take_chunks.new.player c.take_chunks.new.keeping c.take_chunks.new.numbers.items chunks c.take_crumbs.new.player c.take_crumbs.new.queue.items c.take_crumbs.new.numbers.items crumbs,
     )
 
 pub returns-then-is_bare : goal.returns-then-is_bare
@@ -92,6 +92,7 @@ returns-then-is_bare c = λ settings client draws rules_are s.
     let went = c.in_ok-go_on.ensures settings client s.drawn n _ _ _ s.at in
     let few = fewer k settings client ops draws n script player g s low c.go_on.new.well c.go_on.new.self went in
     let g' : Gathering = record {
+      keeping = g.keeping;
       crumbs = g.crumbs;
       triggers = g.triggers;
       found = record { started = c.note_started.new.started; chunks = g.found.chunks; crumbs = g.found.crumbs; triggers = g.found.triggers };
@@ -112,18 +113,19 @@ returns c =
     let player = c.args.player.now in
     let g = c.args.self.now in
     let went = c.in_ok-go_on.ensures settings client s.drawn n _ _ _ s.at in
-    let chunks = c.in_ok-count_chunks.ensures (first k settings client ops draws n script player g s low c.go_on.new.well c.go_on.new.self went) (were_chunks k settings client ops draws n script player g s low c.go_on.new.well c.go_on.new.self went) in
-    let were = were_crumbs k settings client ops draws n script player g s low c.go_on.new.well c.go_on.new.self went c.count_chunks.new.player c.count_chunks.new.numbers.items chunks in
+    let chunks = c.in_ok-take_chunks.ensures (first k settings client ops draws n script player g s low c.go_on.new.well c.go_on.new.self went) (were_chunks k settings client ops draws n script player g s low c.go_on.new.well c.go_on.new.self went) in
+    let were = were_crumbs k settings client ops draws n script player g s low c.go_on.new.well c.go_on.new.self went c.take_chunks.new.player c.take_chunks.new.keeping c.take_chunks.new.numbers.items chunks in
     let crumbs = c.in_ok-take_crumbs.ensures (second k settings client ops draws n script player g s low c.go_on.new.well c.go_on.new.self went) were in
-    let were_last = were_triggers k settings client ops draws n script player g s low c.go_on.new.well c.go_on.new.self went c.count_chunks.new.player c.count_chunks.new.numbers.items chunks c.take_crumbs.new.player c.take_crumbs.new.queue.items
+    let were_last = were_triggers k settings client ops draws n script player g s low c.go_on.new.well c.go_on.new.self went c.take_chunks.new.player c.take_chunks.new.keeping c.take_chunks.new.numbers.items chunks c.take_crumbs.new.player c.take_crumbs.new.queue.items
     c.take_crumbs.new.numbers.items crumbs in
     let triggers = took (third k settings client ops draws n script player g s low c.go_on.new.well c.go_on.new.self went) were_last in
     let few = fewer k settings client ops draws n script player g s low c.go_on.new.well c.go_on.new.self went in
     let g' : Gathering = record {
+      keeping = c.take_chunks.new.keeping;
       crumbs = c.take_crumbs.new.queue;
       triggers = c.take_triggers.new.queue;
-      found = record { started = c.note_started.new.started; chunks = c.count_chunks.new.numbers; crumbs = c.take_crumbs.new.numbers; triggers = c.take_triggers.new.numbers };
+      found = record { started = c.note_started.new.started; chunks = c.take_chunks.new.numbers; crumbs = c.take_crumbs.new.numbers; triggers = c.take_triggers.new.numbers };
     } in
-    sent_by k settings client ops draws n script player g s low c.go_on.new.well c.go_on.new.self went c.count_chunks.new.player g' chunks c.take_crumbs.new.player crumbs c.take_triggers.new.player triggers
+    sent_by k settings client ops draws n script player g s low c.go_on.new.well c.go_on.new.self went c.take_chunks.new.player g' chunks c.take_crumbs.new.player crumbs c.take_triggers.new.player triggers
     (starts_here k settings client ops draws n script player g s low c.go_on.new.well c.go_on.new.self went c.note_started.new.started.items (c.len-left.result - c.len.result) (omega (arith, few, c.len-left.ensures, c.len.ensures)) c.in_ok-note_started.ensures))
     c.take_triggers.ensures

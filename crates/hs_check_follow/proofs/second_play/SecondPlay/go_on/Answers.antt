@@ -1,7 +1,7 @@
 use Rattle.std.proofs.Common.{map, arith}
 use Rattle.hs_check_follow.proofs.Prelude.{length-map, operation_of}
-use Rattle.hs_check_follow.proofs.Filled.{done_more, fills_on, done_quiet, fills_quiet}
-use Rattle.hs_check_follow.proofs.filling.Filling.go_on.Goals as goal
+use Rattle.hs_check_follow.proofs.Filled.{done_more, plays_on, done_quiet, plays_quiet}
+use Rattle.hs_check_follow.proofs.second_play.SecondPlay.go_on.Goals as goal
 
 pub go_on-requires : goal.go_on-requires
 go_on-requires c =
@@ -30,10 +30,10 @@ returns-then-is_bare-clause-done c =
     let long = length-map c.args.operations.now operation_of in
     omega (arith, done, was, left, long)
 
-pub returns-then-is_bare-clause-fills : goal.returns-then-is_bare-clause-fills
-returns-then-is_bare-clause-fills c = λ settings client draws k rules_are is.
+pub returns-then-is_bare-clause-plays : goal.returns-then-is_bare-clause-plays
+returns-then-is_bare-clause-plays c = λ settings client draws k rules_are is.
     let went = c.in_ok-go_on.ensures settings client is.drawn is.done k is.l is.m is.at in
-    fills_quiet settings client (map operation_of c.args.operations.now) draws k c.args.self.now is c.go_on.new.well c.go_on.new.self went c.timed_pages_are_the_pages.ensures
+    plays_quiet settings client (map operation_of c.args.operations.now) draws k c.args.self.now is c.go_on.new.well c.go_on.new.self went c.timed_pages_are_the_pages.ensures
 
 pub returns-clause-done : goal.returns-clause-done
 returns-clause-done c =
@@ -47,8 +47,8 @@ returns-clause-done c =
     let long = length-map c.args.operations.now operation_of in
     omega (arith, done, was, left, long)
 
-pub returns-clause-fills : goal.returns-clause-fills
-returns-clause-fills c = λ settings client draws k rules_are is.
+pub returns-clause-plays : goal.returns-clause-plays
+returns-clause-plays c = λ settings client draws k rules_are is.
     let went = c.in_ok-go_on.ensures settings client is.drawn is.done k is.l is.m is.at in
-    fills_on settings client (map operation_of c.args.operations.now) draws k c.args.self.now is c.go_on.new.well c.go_on.new.self went c.next_crumb-crumb.result c.next_crumb-crumb.new.self c.next_crumb-crumb.ensures c.next_trigger-trigger.result
+    plays_on settings client (map operation_of c.args.operations.now) draws k c.args.self.now is c.go_on.new.well c.go_on.new.self went c.next_crumb-crumb.result c.next_crumb-crumb.new.self c.next_crumb-crumb.ensures c.next_trigger-trigger.result
     c.next_trigger-trigger.new.self c.next_trigger-trigger.ensures c.timed_pages_are_the_pages.ensures
