@@ -58,6 +58,10 @@ pub record IsSentBy (settings : PlainSettings) (client : ClientId) (ops : List O
   pub triggers : HasItems (sent_within n (sends_of settings client ops drawn).triggers) g.triggers.items g.found.triggers.items
   pub started : g.found.started.items ≡ starts_within n (timed_pages settings.size ops)
 
+-- All operations are done, and all that they sent was taken.
+abbrev pub AllIsSentBy : PlainSettings → ClientId → List Operation → List Draw → PlainReplayClient → Gathering → Type 0
+AllIsSentBy settings client ops draws player g = (script : Script) × IsSentBy settings client ops draws (length ops) script player g
+
 -- Where these are the rules of the settings' autotriggers.
 abbrev pub WasSent : List AutoRule → List Operation → ℕ → Script → PlainReplayClient → Gathering → Type 0
 WasSent rules ops n script player g = (settings : PlainSettings) × (client : ClientId) × (draws : List Draw) × (rules ≡ settings.autos) × IsSentBy settings client ops draws n script player g

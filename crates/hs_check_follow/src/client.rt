@@ -1,11 +1,16 @@
 //! What a client sends.
 
 ghost use Rattle.std.specs.Prelude.{◌≡◌, length, map, IfOk};
+ghost use Rattle.hs_client.specs.Calls.{note_of};
+ghost use Rattle.hs_journal.specs.Books.{client_book_of};
 ghost use Rattle.hs_records.specs.Pages.{pages_of};
 ghost use Rattle.hs_records.specs.Plain.{settings_of};
 ghost use Rattle.hs_law_sends.specs.Playable.{IsPlayable};
+ghost use Rattle.hs_replay_client.specs.Places.{IsDone};
+ghost use Rattle.hs_replay_client.specs.ReplayClients.{PlainReplayClient};
 ghost use Rattle.hs_workload.specs.Views.{operation_of};
-ghost use Rattle.hs_check_follow.specs.Sendings.{IsFollowedClient};
+ghost use Rattle.hs_check_follow.specs.Gathering.{AllIsSentBy};
+ghost use Rattle.hs_check_follow.specs.Sendings.{IsFollowedClient, NotesBut};
 
 use crate::filling::Filling;
 use crate::gathering::Gathering;
@@ -46,9 +51,23 @@ pub fn send(
     requires each { length draws.now ≡ length (pages_of settings.now.size (map operation_of operations.now)) }
     ensures { IfOk result (IsFollowedClient (settings_of settings.now) client (map operation_of operations.now) draws.now) }
 {
-    all_is_sent_in_the_end();
-    timed_pages_are_the_pages();
-    timed_pages_are_timely();
+    let (player, gathering) = gather(alloc, client, settings, operations, draws)?;
+    let book = book_of(alloc, player, draws)?;
+    followed(alloc, client, settings, operations, draws, gathering, book)
+}
+
+/// Lets the client do all its operations, and takes what they send.
+fn gather(
+    alloc: Global,
+    client: ClientId,
+    settings: &Settings,
+    operations: &[Op],
+    draws: &[Draw],
+) -> Result<(ReplayClient, Gathering), Memory>
+    requires playable { IsPlayable (settings_of settings.now) (map operation_of operations.now) }
+    requires each { length draws.now ≡ length (pages_of settings.now.size (map operation_of operations.now)) }
+    ensures { IfOk result (λ sent. AllIsSentBy (settings_of settings.now) client (map operation_of operations.now) draws.now sent.0 sent.1) }
+{
     let rules = settings.autos.as_slice();
     let mut script = Script::make(alloc, settings.size, draws)?;
     let mut player = ReplayClient::make(alloc, client, settings, operations)?;
@@ -56,9 +75,42 @@ pub fn send(
     for number in 0..operations.len() {
         gathering.go(number, rules, operations, &mut script, &mut player)?;
     }
-    let noted = player.finish();
+    Ok((player, gathering))
+}
+
+/// What the client noted, with these draws in the place of its own.
+fn book_of(alloc: Global, player: ReplayClient, draws: &[Draw]) -> Result<ClientBook, Memory>
+    requires { IsDone player }
+    ensures { IfOk result (λ book. NotesBut draws.now player (client_book_of book)) }
+{
     let mut draws_noted = List::new(alloc);
     draws_noted.append_slice(draws)?;
+    let noted = player.finish();
+    Ok(ClientBook {
+        client: noted.client,
+        draws: draws_noted,
+        pages: noted.pages,
+    })
+}
+
+/// The client, of which all was taken, with its book.
+fn followed(
+    alloc: Global,
+    client: ClientId,
+    settings: &Settings,
+    operations: &[Op],
+    draws: &[Draw],
+    gathering: Gathering,
+    book: ClientBook,
+) -> Result<FollowedClient, Memory>
+    requires playable { IsPlayable (settings_of settings.now) (map operation_of operations.now) }
+    requires sent { (player : PlainReplayClient) × AllIsSentBy (settings_of settings.now) client (map operation_of operations.now) draws.now player gathering }
+    requires book { client_book_of book ≡ record { client = client; draws = draws.now; pages = map note_of (pages_of settings.now.size (map operation_of operations.now)) } }
+    ensures { IfOk result (IsFollowedClient (settings_of settings.now) client (map operation_of operations.now) draws.now) }
+{
+    all_is_sent_in_the_end();
+    timed_pages_are_the_pages();
+    timed_pages_are_timely();
     let Gathering {
         keeping,
         crumbs,
@@ -71,10 +123,6 @@ pub fn send(
         crumbs,
         triggers,
         found,
-        book: ClientBook {
-            client: noted.client,
-            draws: draws_noted,
-            pages: noted.pages,
-        },
+        book,
     })
 }
