@@ -13,7 +13,7 @@ ghost use Rattle.hs_run_agent.specs.ClosedAgents.{Events, Buffers, AllSent, IsCl
 ghost use Rattle.hs_run_agent.specs.Work.{NodeWork, IsFew, with_ask, with_moved};
 
 use crate::agent::AgentActor;
-use crate::rests::{Rests, rests_of};
+use crate::rests::Rests;
 use crate::working::WorkingAgent;
 use hs_agent::Finished;
 use hs_base::{Ask, Crumb, List, Memory, OpenGate, Told, Trigger};
@@ -22,7 +22,7 @@ use hs_law_agent::laws::{
     crumbs_lead_below, events_add_few, events_go_on, steps_say_what_they_tell,
 };
 use hs_link::Sender;
-use hs_live::{ClientKey, PortParts};
+use hs_live::ClientKey;
 use hs_ring::{Drawer, Lease, close};
 use hs_words::Held;
 use std::alloc::Global;
@@ -67,18 +67,7 @@ impl AgentActor {
             port,
             clients,
         } = self;
-        let PortParts {
-            giver,
-            chunks: chunk_ends,
-            crumbs: crumb_ends,
-            triggers: trigger_ends,
-        } = port.parts();
-        let rests = Rests {
-            giver,
-            chunks: rests_of(alloc, chunks, chunk_ends)?,
-            crumbs: rests_of(alloc, crumbs, crumb_ends)?,
-            triggers: rests_of(alloc, triggers, trigger_ends)?,
-        };
+        let rests = Rests::of(alloc, port.parts(), chunks, crumbs, triggers)?;
         Ok(ClosedAgent {
             desk,
             rests,

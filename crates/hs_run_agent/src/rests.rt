@@ -1,13 +1,13 @@
 //! What is left of the links of a node's clients, as what an agent takes from.
 
-ghost use Rattle.std.specs.Prelude.{◌≡◌, ◌<◌, ◌&&◌, length, slice_get, Some, IfOk, IfSome};
+ghost use Rattle.std.specs.Prelude.{◌≡◌, ◌<◌, ◌&&◌, length, slice_get, Ok, Some, IfOk, IfSome};
 ghost use Rattle.hs_link.specs.Contents.{Remaining};
 ghost use Rattle.hs_run_agent.specs.Resting.{AreRests, AreEndsOf, GivesAt, are_given};
 
 use crate::ends::IntakeEnds;
 use hs_base::{Crumb, List, Memory, Trigger};
 use hs_link::{Fact, Receiver, Rest, Sender, close_both};
-use hs_live::ClientKey;
+use hs_live::{ClientKey, PortParts};
 use hs_ring::{Giver, Lease};
 use hs_words::{Given, Held};
 use std::alloc::Global;
@@ -22,6 +22,54 @@ pub(crate) struct Rests {
 }
 
 impl Rests {
+    /// What is left of the links of a port, of which these are the other ends, by the number of the client.
+    pub(crate) fn of(
+        alloc: Global,
+        port: PortParts,
+        chunks: List<Sender<Held<Lease>, ClientKey>>,
+        crumbs: List<Sender<Crumb, ClientKey>>,
+        triggers: List<Sender<Trigger, ClientKey>>,
+    ) -> Result<Rests, Memory>
+        requires chunks { AreEndsOf chunks.items port.chunks.items }
+        requires crumbs { AreEndsOf crumbs.items port.crumbs.items }
+        requires triggers { AreEndsOf triggers.items port.triggers.items }
+        ensures giver { IfOk result (λ rests. rests.giver ≡ port.giver) }
+        ensures chunks { IfOk result (λ rests. AreRests chunks.items port.chunks.items rests.chunks.items) }
+        ensures crumbs { IfOk result (λ rests. AreRests crumbs.items port.crumbs.items rests.crumbs.items) }
+        ensures triggers { IfOk result (λ rests. AreRests triggers.items port.triggers.items rests.triggers.items) }
+    {
+        let PortParts {
+            giver,
+            chunks: chunk_ends,
+            crumbs: crumb_ends,
+            triggers: trigger_ends,
+        } = port;
+        let chunks = rests_of(alloc, chunks, chunk_ends);
+        let crumbs = rests_of(alloc, crumbs, crumb_ends);
+        let triggers = rests_of(alloc, triggers, trigger_ends);
+        Rests::joined(giver, chunks, crumbs, triggers)
+    }
+
+    /// The parts together, where there was memory for each.
+    fn joined(
+        giver: Giver,
+        chunks: Result<List<Rest<Held<Lease>, ClientKey>>, Memory>,
+        crumbs: Result<List<Rest<Crumb, ClientKey>>, Memory>,
+        triggers: Result<List<Rest<Trigger, ClientKey>>, Memory>,
+    ) -> Result<Rests, Memory>
+        ensures giver { IfOk result (λ rests. rests.giver ≡ giver) }
+        ensures chunks { IfOk result (λ rests. chunks ≡ Ok rests.chunks) }
+        ensures crumbs { IfOk result (λ rests. crumbs ≡ Ok rests.crumbs) }
+        ensures triggers { IfOk result (λ rests. triggers ≡ Ok rests.triggers) }
+    {
+        Ok(Rests {
+            giver,
+            chunks: chunks?,
+            crumbs: crumbs?,
+            triggers: triggers?,
+        })
+    }
+
     /// Whether nothing is left of any link.
     pub(crate) fn are_empty(&self) -> bool
         ensures { result ≡ (are_given self.now.chunks.items && are_given self.now.crumbs.items && are_given self.now.triggers.items) }
