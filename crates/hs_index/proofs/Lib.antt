@@ -1,4 +1,5 @@
 pub mod Listed
+pub mod Moved
 pub mod Touching
 pub mod Evicting
 pub mod LongestEnd

@@ -1,7 +1,7 @@
 //! The indexed traces in the order of their last touch.
 
 ghost use Rattle.std.specs.Prelude.{◌≡◌, ◌+◌, ◌-◌, ◌<◌, ◌≤◌, ◌^◌, ◌++◌, [], ◌∷◌, length, map, find, IfOk, IfSome, IfNone, IfErr, OnOk, OnErr, None, true};
-ghost use Rattle.hs_index.specs.Index.{leaving_of, is_of, is_over, noted_of, others, touch, with_chunk, with_crumb, chunk_count, count_chunks, chunks_left, kept, evicted};
+ghost use Rattle.hs_index.specs.Index.{leaving_of, is_of, is_over, nothing, noted_of, others, touch, with_chunk, with_crumb, chunk_count, count_chunks, chunks_left, kept, evicted};
 ghost use Rattle.hs_words.specs.Buffers.{buffer_of};
 ghost use Rattle.hs_index.specs.Touched.{indexed};
 
@@ -70,14 +70,26 @@ impl<L: Token> Recent<L> {
                 self.chunks += 1;
                 Ok(())
             }
-            None => {
-                let mut entry = IndexedTrace::new(*self.cache.allocator());
-                entry.add(held)?;
-                match self.insert(trace, entry) {
-                    Ok(()) => Ok(()),
-                    Err(entry) => Err(entry.into_last()),
-                }
-            }
+            None => self.add_new(trace, held),
+        }
+    }
+
+    /// Adds a trace that is not there, with its first chunk. Without memory the chunk comes back.
+    fn add_new(&mut self, trace: TraceId, held: Held<L>) -> Result<(), Held<L>>
+        requires new { find (is_of trace) self.old.traces ≡ None }
+        requires room { length self.old.traces < self.old.room }
+        requires few { length self.old.traces < 2 ^ 32 - 1 }
+        requires count { count_chunks self.old.traces + 1 < 2 ^ 32 }
+        ensures ok { OnOk result (self.new.traces ≡ self.old.traces ++ indexed (trace, with_chunk nothing (buffer_of held)) ∷ []) }
+        ensures room { self.new.room ≡ self.old.room }
+        ensures err { OnErr result (self.new.traces ≡ self.old.traces) }
+        ensures back { IfErr result (λ back. buffer_of back ≡ buffer_of held) }
+    {
+        let mut entry = IndexedTrace::new(*self.cache.allocator());
+        entry.add(held)?;
+        match self.insert(trace, entry) {
+            Ok(()) => Ok(()),
+            Err(entry) => Err(entry.into_last()),
         }
     }
 

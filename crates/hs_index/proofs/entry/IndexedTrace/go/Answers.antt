@@ -1,0 +1,46 @@
+use Rattle.std.proofs.Common.{◌≡◌, ◌≤◌, length, map, refl, sym, ap, subst, ◌∙◌, le_trans}
+use Rattle.std.proofs.lemmas.Iterator.Adapters.{YieldsList-from_vec}
+use Rattle.std.proofs.lemmas.Iterator.Consumers.{YieldsList-turn, YieldsList-end}
+use Rattle.std.proofs.lemmas.List.{length-map, map-id}
+use Rattle.hs_words.specs.Buffers.{buffer_of}
+use Rattle.hs_index.specs.Index.{Noted, leaving, leaving_of}
+use Rattle.hs_index.proofs.Moved.{gone_more, gone_room}
+use Rattle.hs_index.proofs.entry.IndexedTrace.go.Goals as goal
+
+pub loop-held-init : goal.loop-held-init
+loop-held-init g c =
+    let seen = ap (λ (n : Noted g.row.L.Denot). n.chunks) c.self.view_is in
+    let long : length c.self.inside.held.items ≡ length c.args.self.chunks = sym (length-map c.self.inside.held.items (buffer_of {L = g.row.L.Denot} {g = g.L.Token})) ∙ ap length seen in (
+      tt,
+      tt,
+      ap (map (leaving_of {L = g.row.L.Denot} {g = g.L.Token})) c.self.invariant.empty,
+      subst (λ n. n ≤ c.self.inside.gone.room) long c.self.invariant.room,
+    )
+
+pub push-requires : goal.push-requires
+push-requires g c =
+    let held = c.self.inside.held.items in
+    let all = YieldsList-from_vec {s = c.into_iter-held-iterator.result} held (c.into_iter-held-iterator.ensures.into_iter_gives.0 ∙ c.into_vec-held-items.ensures.items)
+    (c.into_iter-held-iterator.ensures.into_iter_gives.1 ∙ c.into_vec-held-items.result.ok.0 ∙ ap length c.into_vec-held-items.ensures.items) in
+    let turn = YieldsList-turn all c.loop-held.yielded c.loop-held.held-iterator c.loop-held.yielded_by c.next.result c.next.new.self c.in-Some.held c.in-Some.is c.next.ensures.steps in
+    gone_room (leaving_of {L = g.row.L.Denot} {g = g.L.Token}) (leaving c.args.chunks c.args.traces) (buffer_of {L = g.row.L.Denot} {g = g.L.Token}) c.loop-held.gone.items c.loop-held.yielded held c.args.self.chunks
+    c.loop-held.gone.room (ap (λ (n : Noted g.row.L.Denot). n.chunks) c.self.view_is) turn.0 c.loop-held.invariant.2 c.loop-held.invariant.3
+
+pub loop-held-preserved : goal.loop-held-preserved
+loop-held-preserved g c = (
+  tt,
+  tt,
+  gone_more (leaving_of {L = g.row.L.Denot} {g = g.L.Token}) (leaving c.args.chunks c.args.traces) (buffer_of {L = g.row.L.Denot} {g = g.L.Token}) c.loop-held.gone.items c.push.new.self.items _ c.loop-held.yielded c.in-Some.held
+      c.push.ensures.items refl c.loop-held.invariant.2,
+  le_trans c.loop-held.invariant.3 c.push.ensures.room,
+)
+
+pub returns : goal.returns
+returns g c =
+    let held = c.self.inside.held.items in
+    let f = buffer_of {L = g.row.L.Denot} {g = g.L.Token} in
+    let all = YieldsList-from_vec {s = c.into_iter-held-iterator.result} held (c.into_iter-held-iterator.ensures.into_iter_gives.0 ∙ c.into_vec-held-items.ensures.items)
+    (c.into_iter-held-iterator.ensures.into_iter_gives.1 ∙ c.into_vec-held-items.result.ok.0 ∙ ap length c.into_vec-held-items.ensures.items) in
+    let done = YieldsList-end all c.loop-held.yielded c.loop-held.held-iterator c.loop-held.yielded_by c.next.result c.next.new.self c.in-None.is c.next.ensures.steps in
+    c.loop-held.invariant.2
+    ∙ ap (map (leaving c.args.chunks c.args.traces)) (ap (map f) (sym (map-id c.loop-held.yielded) ∙ done.0) ∙ ap (λ (n : Noted g.row.L.Denot). n.chunks) c.self.view_is)
