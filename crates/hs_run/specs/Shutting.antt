@@ -1,5 +1,5 @@
 -- Nodes whose links are closed, and the coordinator, in the passes behind the rounds.
-use Rattle.std.specs.Prelude.{◌≡◌, ℕ, ◌+◌, ◌<◌, ◌≤◌, min, true, List, [], ◌++◌, length, slice_get, Some}
+use Rattle.std.specs.Prelude.{◌≡◌, ◌⊎◌, ℕ, ◌+◌, ◌<◌, ◌≤◌, min, true, false, List, [], ◌++◌, length, slice_get, Some}
 use Rattle.std.specs.Option.{option_map_or}
 use Rattle.hs_base.specs.declared.limits.TheConstants.{MAX_TAKEN, MAX_NODES}
 use Rattle.hs_coord.specs.Messages.{Messages}
@@ -215,6 +215,11 @@ pub record MayClose (nodes : List PlainClosedAgent) (coordinator : PlainCoordina
 pub record AllBare (W : PlainWorkload) (works : ℕ → NodeWork) (nodes : List PlainClosedAgent) (coordinator : PlainCoordinatorActor) : Type 0 where
   pub each : (number : ℕ) (shut : PlainClosedAgent) → slice_get nodes number ≡ Some shut → IsClosedAgentBare W (works number) shut
   pub told : all_empty coordinator.told ≡ true
+
+-- Something waits at a node or is pinned there, or a message is not heard.
+abbrev pub IsSomethingLeft : PlainWorkload → (ℕ → NodeWork) → List PlainClosedAgent → PlainCoordinatorActor → Type 0
+IsSomethingLeft W works nodes coordinator =
+    ((number : ℕ) × (shut : PlainClosedAgent) × (slice_get nodes number ≡ Some shut) × (IsClosedAgentBare W (works number) shut → ⊥)) ⊎ (all_empty coordinator.told ≡ false)
 
 -- Nothing is left where the passes led.
 pub record ClosedAt (W : PlainWorkload) (rounds : ℕ) (m : RunState) (sents : AllSents) (nodes : List PlainClosedAgent) (coordinator : PlainCoordinatorActor) : Type 0 where

@@ -1,6 +1,6 @@
 //! Passes behind the rounds, until nothing waits and nothing is pinned.
 
-ghost use Rattle.std.specs.Prelude.{◌≡◌, ℕ, ◌<◌, [], true, length, OnOk};
+ghost use Rattle.std.specs.Prelude.{◌≡◌, ℕ, ◌<◌, [], true, false, length, OnOk};
 ghost use Rattle.hs_base.specs.NodeSets.{has_node};
 ghost use Rattle.hs_base.specs.declared.limits.TheConstants.{MAX_NODES};
 ghost use Rattle.hs_coord.specs.Messages.{Messages};
@@ -9,7 +9,7 @@ ghost use Rattle.hs_run_story.specs.RunStates.{RunState};
 ghost use Rattle.hs_run_agent.specs.Agents.{IsAskable};
 ghost use Rattle.hs_run_agent.specs.Coordinators.{ask_for, asked_all};
 ghost use Rattle.hs_run_agent.specs.Work.{NodeWork, with_asks};
-ghost use Rattle.hs_run.specs.Shutting.{AllSents, IsClosedAgentAt, IsAskedOnly, AskedOnly, ClosingMayPass, ClosingCanPass, ClosingHasPassed, ClosingMayTell, ClosingTells, ClosingHasTold, MayPassAll, ClosingStands, Passing, ClosingMayBeAsked, ClosedAgentsStand, Asked, IsAsking, AllBare, ClosedAt, ClosingAt, MayClose};
+ghost use Rattle.hs_run.specs.Shutting.{AllSents, IsClosedAgentAt, IsAskedOnly, AskedOnly, ClosingMayPass, ClosingCanPass, ClosingHasPassed, ClosingMayTell, ClosingTells, ClosingHasTold, MayPassAll, ClosingStands, Passing, ClosingMayBeAsked, ClosedAgentsStand, Asked, IsAsking, AllBare, IsSomethingLeft, ClosedAt, ClosingAt, MayClose};
 
 use hs_base::{List, Memory, NodeId, OpenGate};
 use hs_coord::Asks;
@@ -36,7 +36,8 @@ pub(crate) fn close_down(
 
 /// Whether nothing waits anywhere, and nothing is pinned.
 fn is_bare(nodes: &List<ClosedAgent>, coordinator: &CoordinatorActor) -> bool
-    ensures { (W : PlainWorkload) (sents : AllSents) (works : ℕ → NodeWork) → ClosedAgentsStand W sents works nodes.now.items → result ≡ true → AllBare W works nodes.now.items coordinator.now }
+    ensures { (W : PlainWorkload) (sents : AllSents) (works : ℕ → NodeWork) → ClosedAgentsStand W sents works nodes.now.items
+        → (result ≡ true → AllBare W works nodes.now.items coordinator.now) × (result ≡ false → IsSomethingLeft W works nodes.now.items coordinator.now) }
 {
     for number in 0..nodes.len() {
         if !nodes.as_slice()[number].is_bare() {
