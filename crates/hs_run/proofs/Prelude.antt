@@ -50,11 +50,10 @@ pub use Rattle.hs_run.specs.Finished.{AreBooksBehind, AreGathered}
 pub use Rattle.hs_run.specs.Going.{AllHaveGone, AllMayGo}
 pub use Rattle.hs_run.specs.Layout.{site_of}
 pub use Rattle.hs_run.specs.Making.{AreMade}
-pub use Rattle.hs_run.specs.Moments.{ActedTo, AreFew, CanBegin, DoneIn, IsHere, MetTo, MovedTo, RoundsMade}
+pub use Rattle.hs_run.specs.Moments.{ActedTo, AreFew, CanBegin, DoneIn, IsHere, MetTo, MovedTo, RoundsMade, RoundsOver}
 pub use Rattle.hs_run.specs.Movings.{AskedFirst, HasMet, HasTold, Moving, SitesStand, Telling, Tells}
 pub use Rattle.hs_run.specs.Nodes.{AllHaveActed, NoneFailed, sites_of, TellsLeft, TellsNodeLeft}
 pub use Rattle.hs_run.specs.Noted.{books_of, first_books, IsNoted}
-pub use Rattle.hs_run.specs.Over.{done_node_actors, RoundsOver}
 pub use Rattle.hs_run.specs.Progress.{done_after, is_chunk, is_given, is_point, nulls_after, points_after, progress_after, steps_after}
 pub use Rattle.hs_run.specs.Seen.{IsTotal, IsTotalBehind, ShownIsSeen}
 pub use Rattle.hs_run.specs.Shutting.{AllSents, AreClosedAgentsFrom, Asked, ClosedAgentsStand, ClosedAt, ClosingAskedFirst, ClosingAt, ClosingHasTold, ClosingStands, ClosingTells, IsClosedAgentAt, PassedAlone, Passing, sents_at}
@@ -63,7 +62,6 @@ pub use Rattle.hs_run.specs.Tallying.{FitTotals, MayCount}
 pub use Rattle.hs_run.specs.TallyingNodes.{CountedFirst, CountedNodes, LogCounted, MayCountClient, MayCountLog, MayCountNodes, no_operations, no_steps}
 pub use Rattle.hs_run.specs.Watched.{AllWatched, RoundsWatched, shown_on}
 pub use Rattle.hs_run.specs.declared.client.ClientCount.{ClientCount}
-pub use Rattle.hs_run.specs.declared.done_node.DoneNode.{DoneNode}
 pub use Rattle.hs_run.specs.declared.log.LogCount.{LogCount}
 pub use Rattle.hs_run.specs.declared.node.ActingNode.{ActingNode}
 pub use Rattle.hs_run_agent.proofs.Few.{few_clients, few_of_sent}

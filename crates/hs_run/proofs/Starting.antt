@@ -113,10 +113,3 @@ module _ (begins : ClosingBegins) (sends : HaveSent) (W : PlainWorkload) (rounds
             let same = (shut.each node site x stood there).giver in
             record { pool = ap (λ g. g.pool) same; buffers = ap (λ g. g.buffers) same; drawers = ap (λ g. g.drawers) same };
       }
-
-pub stands_last : (W : PlainWorkload) (rounds : ℕ) (m : RunState) → Came W rounds m → RunStands W m
-stands_last W rounds m came = subst (RunStands W) came.last (by rounds (omega arith))
-  where
-    by : (k : ℕ) → k ≤ rounds → RunStands W (came.at k)
-    by zero low = came.begun.stands
-    by (suc k) low = (came.moves k (omega (arith, low))).stands

@@ -1,25 +1,9 @@
 -- What the watchers of a run saw, when it is over.
-use Rattle.std.proofs.Common.{◌≡◌, List, [], ◌∷◌, length, map, sym, ◌∙◌}
-use Rattle.hs_run.proofs.Prelude.{length-map, AllByRecursion, all_each, Listing, Progress, DoneNode, items_of, done_node_actors, ShownIsSeen, PlainCoordinatorActor, PlainJournal, PlainWorkload, NotesRounds, Showing, IsValid, ActingNode, sites_of, AllWatched}
-use Rattle.hs_run.specs.Over.{RoundsOver as PlacesOver}
+use Rattle.std.proofs.Common.{◌≡◌, List, [], ◌∷◌, length, ◌∙◌}
+use Rattle.hs_run.proofs.Prelude.{length-map, AllByRecursion, all_each, Listing, Progress, items_of, ShownIsSeen, PlainCoordinatorActor, PlainJournal, PlainWorkload, NotesRounds, Showing, IsValid, ActingNode, AllWatched}
 use Rattle.hs_run.specs.Seen.{IsSeen, AreSeen}
 use Rattle.hs_board.specs.Watching.{IsSeenOf}
-use Rattle.hs_run.specs.Moments.{RoundsOver}
 use Rattle.hs_run.specs.Watched.{HaveShown}
-
--- the places of nodes behind whose rounds all is done
-abbrev pub over_of : (W : PlainWorkload) (nodes : List ActingNode) (c : PlainCoordinatorActor) (places : List DoneNode) → IsValid W → map done_node_actors places ≡ sites_of nodes → RoundsOver W nodes c → PlacesOver W places c
-over_of W nodes c places valid same over =
-    record {
-      valid = valid;
-      rounds = over.rounds;
-      moment = over.made.moment;
-      came = over.made.came;
-      begin = over.made.ends;
-      nodes = over.made.here.nodes_are ∙ sym same;
-      coordinator_is = over.made.here.coordinator_is;
-      all = over.all;
-    }
 
 pub have_shown : ShownIsSeen → (W : PlainWorkload) (nodes : List ActingNode) (c : PlainCoordinatorActor) (watch : Showing) (w : AllWatched W nodes c watch) → IsValid W → (J : PlainJournal)
     → NotesRounds W w.over.rounds w.over.made.moment w.over.made.came J → HaveShown W J watch

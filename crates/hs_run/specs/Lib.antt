@@ -10,7 +10,6 @@ pub mod Tallying
 pub mod TallyLayout
 pub mod TallyingNodes
 pub mod Watched
-pub mod Over
 pub mod Ended
 pub mod Noted
 pub mod Finished

@@ -3,7 +3,6 @@ use Rattle.std.specs.Prelude.{◌≡◌, ℕ, ◌*◌, ◌<◌, min, List, lengt
 use Rattle.hs_records.specs.Plain.{PlainWorkload}
 use Rattle.hs_law_sends.specs.Sending.{operations_at, place_of}
 use Rattle.hs_run_client.specs.ClientActors.{PlainClientActor}
-use Rattle.hs_run.specs.Over.{AllDone}
 use Rattle.hs_run_agent.specs.Coordinators.{PlainCoordinatorActor}
 use Rattle.hs_run_agent.specs.Work.{IsFew}
 use Rattle.hs_run_story.specs.RunStates.{PlainNodeActors, RunState, RunStands, IsBegun}
@@ -48,6 +47,12 @@ pub record CanAct (W : PlainWorkload) (nodes : List ActingNode) (coordinator : P
   pub moment : RunState
   pub here : IsHere W moment nodes coordinator
   pub few : AreFew W moment
+
+-- All operations are done.
+abbrev pub AllDone : PlainWorkload → List PlainNodeActors → Type 0
+AllDone W sites =
+    (node number : ℕ) (site : PlainNodeActors) (caller : PlainClientActor) → slice_get sites node ≡ Some site → slice_get site.callers number ≡ Some caller
+    → caller.done ≡ length (operations_at W (place_of W.settings.clients node number))
 
 -- Each client has done so many rounds' operations, as far as it has them.
 abbrev pub DoneIn : PlainWorkload → ℕ → List PlainNodeActors → Type 0

@@ -5,11 +5,11 @@ ghost use Rattle.hs_coord.specs.Messages.{Messages};
 ghost use Rattle.hs_records.specs.Plain.{PlainWorkload};
 ghost use Rattle.hs_workload.specs.Views.{workload_of};
 ghost use Rattle.hs_run_agent.specs.Coordinators.{Tellings, Askings, IsCoordinatorActor};
-ghost use Rattle.hs_run.specs.Over.{RoundsOver};
+ghost use Rattle.hs_run.specs.Moments.{RoundsOver};
 ghost use Rattle.hs_run.specs.Finished.{AreLawfulBooks, AreBooksBehind, AreGathered};
 
 use crate::closing::close_down;
-use crate::done_node::DoneNode;
+use crate::node::ActingNode;
 use crate::pools::close_pools;
 use crate::shutting::{ClosedNodes, shut_all};
 use hs_base::{List, Memory, NodeId};
@@ -23,15 +23,15 @@ use std::alloc::Global;
 
 /// Ends a run whose rounds are over, and answers its books: those of a lawful journal of the workload, which notes where the rounds
 /// stood behind each of them. The one error is want of memory.
-pub fn finish(
+pub(crate) fn finish(
     alloc: Global,
     workload: &Workload,
-    places: List<DoneNode>,
+    nodes: List<ActingNode>,
     coordinator: CoordinatorActor,
 ) -> Result<Books, Memory>
-    requires { RoundsOver (workload_of workload.now) places.items coordinator }
+    requires { RoundsOver (workload_of workload.now) nodes.items coordinator }
     ensures lawful { IfOk result (AreLawfulBooks (workload_of workload.now)) }
-    ensures rounds { (over : RoundsOver (workload_of workload.now) places.items coordinator) → IfOk result (AreBooksBehind (workload_of workload.now) over.rounds over.moment over.came) }
+    ensures rounds { (over : RoundsOver (workload_of workload.now) nodes.items coordinator) → IfOk result (AreBooksBehind (workload_of workload.now) over.rounds over.made.moment over.made.came) }
 {
     closing_begins();
     pools_are_kept();
@@ -39,7 +39,7 @@ pub fn finish(
     journals_note_rounds();
     callers_have_sent();
     let mut coordinator = coordinator;
-    let mut ended = shut_all(alloc, places)?;
+    let mut ended = shut_all(alloc, nodes)?;
     close_down(&mut ended.nodes, &mut coordinator)?;
     let ClosedNodes {
         books,

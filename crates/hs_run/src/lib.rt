@@ -5,7 +5,6 @@
 
 mod client;
 mod closing;
-mod done_node;
 mod finishing;
 pub mod laws;
 mod log;
@@ -22,8 +21,6 @@ mod watched_rounds;
 mod watching;
 
 pub use client::ClientCount;
-pub use done_node::DoneNode;
-pub use finishing::finish;
 pub use log::LogCount;
 pub use running::run;
 pub use watching::{Watched, run_watched};

@@ -1,21 +1,16 @@
 //! The run of a workload.
 
-ghost use Rattle.std.specs.Prelude.{◌≡◌, map, IfOk};
+ghost use Rattle.std.specs.Prelude.{IfOk};
 ghost use Rattle.hs_journal.specs.Views.{PlainJournal};
 ghost use Rattle.hs_law_journal.specs.Lawful.{IsLawful};
 ghost use Rattle.hs_report.specs.Outcomes.{AreBooksOf, IsOutcome};
 ghost use Rattle.hs_workload.specs.Validity.{IsValid};
 ghost use Rattle.hs_workload.specs.Views.{workload_of};
-ghost use Rattle.hs_run.specs.Over.{done_node_actors};
-ghost use Rattle.hs_run.specs.Nodes.{sites_of};
 
-use crate::done_node::DoneNode;
 use crate::finishing::finish;
 use crate::making::make_all;
-use crate::node::ActingNode;
-use crate::node_actors::NodeActors;
 use crate::rounds::make_rounds;
-use hs_base::{Gate, List, Memory};
+use hs_base::{Gate, Memory};
 use hs_report::{Books, Outcome, gather};
 use hs_workload::Workload;
 use std::alloc::Global;
@@ -52,19 +47,5 @@ fn play<R: Threads + Sync, G: Gate>(
 {
     let (mut nodes, mut coordinator) = make_all(alloc, workload)?;
     make_rounds(rt, gate, workload, &mut nodes, &mut coordinator)?;
-    let places = places_of(alloc, nodes)?;
-    finish(alloc, workload, places, coordinator)
-}
-
-/// The clients and the agent of each node.
-pub(crate) fn places_of(alloc: Global, nodes: List<ActingNode>) -> Result<List<DoneNode>, Memory>
-    ensures { IfOk result (λ places. map done_node_actors places.items ≡ sites_of nodes.items) }
-{
-    let mut places = List::new(alloc);
-    for node in nodes.into_vec() {
-        let ActingNode { site, failed: _ } = node;
-        let NodeActors { callers, agent } = site;
-        places.append(DoneNode { callers, agent })?;
-    }
-    Ok(places)
+    finish(alloc, workload, nodes, coordinator)
 }

@@ -3,9 +3,10 @@
 ghost use Rattle.std.specs.Prelude.{◌≡◌, ◌∷◌, ◌++◌, [], map, IfOk, OnOk};
 ghost use Rattle.hs_journal.specs.Books.{client_book_of};
 ghost use Rattle.hs_run.specs.Ended.{IsEnded, AreEnded, HasClosedLinks, HaveClosedLinks, items_of};
-ghost use Rattle.hs_run.specs.Over.{done_node_actors};
+ghost use Rattle.hs_run.specs.Nodes.{sites_of};
 
-use crate::done_node::DoneNode;
+use crate::node::ActingNode;
+use crate::node_actors::NodeActors;
 use hs_base::{List, Memory};
 use hs_journal::ClientBook;
 use hs_ring::Drawer;
@@ -30,11 +31,12 @@ pub(crate) struct ClosedNodes {
 }
 
 /// Takes the clients of a node apart, and closes their links.
-fn shut(alloc: Global, place: DoneNode) -> Result<ClosedNode, Memory>
-    requires { IsEnded (done_node_actors place) }
-    ensures { IfOk result (λ s. HasClosedLinks (done_node_actors place) (map client_book_of s.books.items) s.drawers.items s.node) }
+fn shut(alloc: Global, node: ActingNode) -> Result<ClosedNode, Memory>
+    requires { IsEnded node.site }
+    ensures { IfOk result (λ s. HasClosedLinks node.site (map client_book_of s.books.items) s.drawers.items s.node) }
 {
-    let DoneNode { callers, agent } = place;
+    let ActingNode { site, failed: _ } = node;
+    let NodeActors { callers, agent } = site;
     let PartedClients {
         books,
         drawers,
@@ -42,11 +44,11 @@ fn shut(alloc: Global, place: DoneNode) -> Result<ClosedNode, Memory>
         crumbs,
         triggers,
     } = take_apart(alloc, callers)?;
-    let node = agent.close(alloc, chunks, crumbs, triggers)?;
+    let closed = agent.close(alloc, chunks, crumbs, triggers)?;
     Ok(ClosedNode {
         books,
         drawers,
-        node,
+        node: closed,
     })
 }
 
@@ -72,17 +74,17 @@ impl ClosedNodes {
 }
 
 /// Takes the clients of all nodes apart, and closes their links.
-pub(crate) fn shut_all(alloc: Global, places: List<DoneNode>) -> Result<ClosedNodes, Memory>
-    requires { AreEnded (map done_node_actors places.items) }
-    ensures { IfOk result (λ e. HaveClosedLinks (map done_node_actors places.items) (map client_book_of e.books.items) (items_of e.drawers.items) e.nodes.items) }
+pub(crate) fn shut_all(alloc: Global, nodes: List<ActingNode>) -> Result<ClosedNodes, Memory>
+    requires { AreEnded (sites_of nodes.items) }
+    ensures { IfOk result (λ e. HaveClosedLinks (sites_of nodes.items) (map client_book_of e.books.items) (items_of e.drawers.items) e.nodes.items) }
 {
     let mut ended = ClosedNodes {
         books: List::new(alloc),
         drawers: List::new(alloc),
         nodes: List::new(alloc),
     };
-    for place in places.into_vec() {
-        let one = shut(alloc, place)?;
+    for node in nodes.into_vec() {
+        let one = shut(alloc, node)?;
         ended.add(one)?;
     }
     Ok(ended)

@@ -15,7 +15,6 @@ ghost use Rattle.hs_run.specs.Watched.{HaveShown};
 use crate::finishing::finish;
 use crate::laws::shown_is_seen;
 use crate::making::make_all;
-use crate::running::places_of;
 use crate::watched_rounds::watch_rounds;
 use hs_base::{Gate, List, Memory};
 use hs_board::{Progress, Watch};
@@ -79,6 +78,5 @@ fn play_watched<R: Threads + Wait + Sync, G: Gate>(
         &mut coordinator,
         watch,
     )?;
-    let places = places_of(alloc, nodes)?;
-    finish(alloc, workload, places, coordinator)
+    finish(alloc, workload, nodes, coordinator)
 }

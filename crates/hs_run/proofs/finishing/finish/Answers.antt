@@ -4,7 +4,7 @@ use Rattle.hs_run.proofs.Gathered.{ended, starts, may, comes, behind_gathered}
 use Rattle.hs_run.proofs.finishing.finish.Goals as goal
 
 pub shut_all-requires : goal.shut_all-requires
-shut_all-requires c = ended (workload_of c.args.workload.now) c.args.places.items c.args.coordinator c.requires
+shut_all-requires c = ended (workload_of c.args.workload.now) c.args.nodes.items c.args.coordinator c.requires
 
 pub close_down-requires : goal.close_down-requires
 close_down-requires c =
@@ -13,9 +13,9 @@ close_down-requires c =
     record {
       workload = workload_of c.args.workload.now;
       rounds = r.rounds;
-      moment = r.moment;
-      sents = sents_at r.moment;
-      at = starts (workload_of c.args.workload.now) c.args.places.items c.args.coordinator r c.closing_begins.ensures c.callers_have_sent.ensures (map client_book_of e.books.items) (items_of e.drawers.items) e.nodes.items c.in_ok-ended.ensures;
+      moment = r.made.moment;
+      sents = sents_at r.made.moment;
+      at = starts (workload_of c.args.workload.now) c.args.nodes.items c.args.coordinator r c.closing_begins.ensures c.callers_have_sent.ensures (map client_book_of e.books.items) (items_of e.drawers.items) e.nodes.items c.in_ok-ended.ensures;
     }
 
 pub close_pools-agents-requires : goal.close_pools-agents-requires
@@ -23,19 +23,19 @@ close_pools-agents-requires c =
     let W = workload_of c.args.workload.now in
     let r = c.requires in
     let e = c.in_ok-ended.ended in
-    let start = starts W c.args.places.items c.args.coordinator r c.closing_begins.ensures c.callers_have_sent.ensures (map client_book_of e.books.items) (items_of e.drawers.items) e.nodes.items c.in_ok-ended.ensures in
-    may W c.args.places.items c.args.coordinator r c.closing_begins.ensures c.callers_have_sent.ensures (map client_book_of e.books.items) (items_of e.drawers.items) e.nodes.items c.in_ok-ended.ensures c.pools_are_kept.ensures
-    c.runs_are_lawful.ensures c.close_down.new.nodes.items c.close_down.new.coordinator (c.in_ok-close_down.ensures W r.rounds r.moment (sents_at r.moment) start)
+    let start = starts W c.args.nodes.items c.args.coordinator r c.closing_begins.ensures c.callers_have_sent.ensures (map client_book_of e.books.items) (items_of e.drawers.items) e.nodes.items c.in_ok-ended.ensures in
+    may W c.args.nodes.items c.args.coordinator r c.closing_begins.ensures c.callers_have_sent.ensures (map client_book_of e.books.items) (items_of e.drawers.items) e.nodes.items c.in_ok-ended.ensures c.pools_are_kept.ensures
+    c.runs_are_lawful.ensures c.close_down.new.nodes.items c.close_down.new.coordinator (c.in_ok-close_down.ensures W r.rounds r.made.moment (sents_at r.made.moment) start)
 
 pub returns-clause-rounds : goal.returns-clause-rounds
 returns-clause-rounds c over =
     let W = workload_of c.args.workload.now in
     let e = c.in_ok-ended.ended in
-    let start = starts W c.args.places.items c.args.coordinator over c.closing_begins.ensures c.callers_have_sent.ensures (map client_book_of e.books.items) (items_of e.drawers.items) e.nodes.items c.in_ok-ended.ensures in
-    let closed = c.in_ok-close_down.ensures W over.rounds over.moment (sents_at over.moment) start in
+    let start = starts W c.args.nodes.items c.args.coordinator over c.closing_begins.ensures c.callers_have_sent.ensures (map client_book_of e.books.items) (items_of e.drawers.items) e.nodes.items c.in_ok-ended.ensures in
+    let closed = c.in_ok-close_down.ensures W over.rounds over.made.moment (sents_at over.made.moment) start in
     let coordinates = closed.at.stand.coordinates in
     let works = λ (node : ℕ). (closed.at.posts node).work in
-    IfOk-weaker c.books_of.result (AreGathered c.args.workload.now e.books c.close_pools-agents.result c.told_of-told.result) (AreBooksBehind W over.rounds over.moment over.came)
+    IfOk-weaker c.books_of.result (AreGathered c.args.workload.now e.books c.close_pools-agents.result c.told_of-told.result) (AreBooksBehind W over.rounds over.made.moment over.made.came)
     (λ (books : Books) (g : AreGathered c.args.workload.now e.books c.close_pools-agents.result c.told_of-told.result books).
     behind_gathered c.args.workload.now over e.books c.close_pools-agents.result c.told_of-told.result books g e.nodes.items (items_of e.drawers.items) c.closing_begins.ensures c.callers_have_sent.ensures c.in_ok-ended.ensures c.pools_are_kept.ensures
     c.runs_are_lawful.ensures c.close_down.new.nodes.items c.close_down.new.coordinator closed c.close_pools-agents.ensures c.journals_note_rounds.ensures (c.told_of-told.ensures W closed.at.heard (moved_by works) (asked_by works) coordinates))
@@ -44,4 +44,4 @@ returns-clause-rounds c over =
 pub returns-clause-lawful : goal.returns-clause-lawful
 returns-clause-lawful c =
     let W = workload_of c.args.workload.now in
-    IfOk-weaker c.books_of.result (AreBooksBehind W c.requires.rounds c.requires.moment c.requires.came) _ (λ (books : Books) (b : AreBooksBehind W c.requires.rounds c.requires.moment c.requires.came books). (b.0, b.1)) (returns-clause-rounds c c.requires)
+    IfOk-weaker c.books_of.result (AreBooksBehind W c.requires.rounds c.requires.made.moment c.requires.made.came) _ (λ (books : Books) (b : AreBooksBehind W c.requires.rounds c.requires.made.moment c.requires.made.came books). (b.0, b.1)) (returns-clause-rounds c c.requires)

@@ -1,8 +1,8 @@
 use Rattle.std.proofs.Common.{map}
-use Rattle.hs_run.proofs.Prelude.{client_book_of, HaveClosedLinks, items_of, done_node_actors}
+use Rattle.hs_run.proofs.Prelude.{client_book_of, HaveClosedLinks, items_of, sites_of}
 use Rattle.hs_run.proofs.shutting.shut_all.Given as goal
 
-abbrev pub invariant-loop-place : goal.invariant-loop-place
-invariant-loop-place l =
-    (goal.iterator-loop-place).can_next l.place-iterator × (goal.iterator-loop-place).is_finite l.place-iterator
-    × HaveClosedLinks (map done_node_actors l.yielded) (map client_book_of l.ended.books.items) (items_of l.ended.drawers.items) l.ended.nodes.items
+abbrev pub invariant-loop-node : goal.invariant-loop-node
+invariant-loop-node l =
+    (goal.iterator-loop-node).can_next l.node-iterator × (goal.iterator-loop-node).is_finite l.node-iterator
+    × HaveClosedLinks (sites_of l.yielded) (map client_book_of l.ended.books.items) (items_of l.ended.drawers.items) l.ended.nodes.items
