@@ -1,6 +1,7 @@
 -- No agent takes more triggers than its clients sent, so no more than the workload has, behind a meeting too.
 use Rattle.std.proofs.Common.{ℕ, ◌+◌, ◌<◌, ◌≤◌, List, ◌++◌, length, ap, arith, length-append}
-use Rattle.hs_run.proofs.Prelude.{get_there, triggers_in, ClientId, client_of, PlainClientActor, ClientActorIsAt, HasSentSoFar, Operation, PlainSettings, PlainWorkload, operations_at, place_of, IsValid, client_pieces, NodeWork, IsFew, few_of_sent, PlainNodeActors, NodeActorsStand, NodeActorsMeet}
+use Rattle.hs_run.proofs.Prelude.{get_there, triggers_in, ClientId, client_of, PlainClientActor, ClientActorIsAt, HasSentSoFar, Operation, PlainSettings, PlainWorkload, operations_at, place_of, IsValid, client_pieces, NodeWork, IsFew, PlainNodeActors, NodeActorsStand, NodeActorsMeet}
+use Rattle.hs_run.proofs.FewTaken.{few_of_sent}
 
 module _ (W : PlainWorkload) (valid : IsValid W) (n : ℕ) (low : n < W.settings.nodes) (work : NodeWork) (old new : PlainNodeActors) (stands : NodeActorsStand W n work old) (meets : NodeActorsMeet W n work old new)
     (sent_so : (settings : PlainSettings) (client : ClientId) (ops : List Operation) (caller : PlainClientActor) → ClientActorIsAt settings client ops caller → HasSentSoFar settings client ops caller) where

@@ -1,7 +1,8 @@
 -- No agent takes more triggers than its clients sent, so no more than the workload has, when the links are closed too.
 use Rattle.std.proofs.Common.{ℕ, ◌<◌, ◌≤◌, length, ap, arith, length-append}
-use Rattle.hs_run.proofs.Prelude.{length-map, get_there, triggers_in, Trigger, Remaining, Key, PlainWorkload, operations_at, place_of, IsValid, client_pieces, closed, few_of_sent, AllSents}
+use Rattle.hs_run.proofs.Prelude.{length-map, get_there, triggers_in, Trigger, Remaining, Key, PlainWorkload, operations_at, place_of, IsValid, client_pieces, closed, AllSents}
 use Rattle.hs_run.specs.Shutting.{ClosingAreFew}
+use Rattle.hs_run.proofs.FewTaken.{few_of_sent}
 
 pub few_shut : (W : PlainWorkload) → IsValid W → (sents : AllSents) → ((node client : ℕ) → node < W.settings.nodes → client < W.settings.clients → length ((sents node).triggers client) ≤ client_pieces W.settings.size (operations_at W (place_of W.settings.clients node client)))
     → ClosingAreFew W sents

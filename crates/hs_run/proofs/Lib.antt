@@ -6,6 +6,7 @@ pub mod Meetings
 pub mod Moments
 pub mod Telling
 pub mod Changed
+pub mod FewTaken
 pub mod Few
 pub mod Moved
 pub mod Rounded

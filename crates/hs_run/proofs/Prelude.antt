@@ -64,7 +64,6 @@ pub use Rattle.hs_run.specs.Watched.{AllWatched, RoundsWatched, shown_on}
 pub use Rattle.hs_run.specs.declared.client.ClientCount.{ClientCount}
 pub use Rattle.hs_run.specs.declared.log.LogCount.{LogCount}
 pub use Rattle.hs_run.specs.declared.node.ActingNode.{ActingNode}
-pub use Rattle.hs_run_agent.proofs.Few.{few_clients, few_of_sent}
 pub use Rattle.hs_run_agent.specs.AgentActors.{IsAgentActor, PlainAgentActor}
 pub use Rattle.hs_run_agent.specs.Agents.{IsAskable}
 pub use Rattle.hs_run_agent.specs.ClosedAgents.{AllSent, AreMatesOf, IsClosedAgent, IsClosedAgentBare, PlainClosedAgent}

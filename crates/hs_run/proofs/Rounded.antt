@@ -1,6 +1,6 @@
 -- What a round more says of all rounds.
 use Rattle.std.proofs.Common.{◌≡◌, ℕ, suc, ◌+◌, ◌*◌, ◌<◌, ◌≤◌, List, [], length, Some, true, false, sym, ap, subst, ◌∙◌, arith, slice_get}
-use Rattle.hs_run.proofs.Prelude.{suc-mul, slice_get_within, get_there, ClientId, MAX_OPERATIONS, Operation, PlainSettings, PlainWorkload, operations_at, place_of, IsValid, PlainClientActor, ClientActorIsAt, HasSentSoFar, PlainCoordinatorActor, NodeWork, IsFew, PlainNodeActors, RunState, RunStands, Came, NoRoundsCome, AllBegin, ActingNode, IsHere, AreFew, ActedTo, MetTo, MovedTo, CanBegin, DoneIn, RoundsMade, RoundsOver, TellsLeft, few_clients}
+use Rattle.hs_run.proofs.Prelude.{suc-mul, slice_get_within, get_there, ClientId, MAX_OPERATIONS, Operation, PlainSettings, PlainWorkload, operations_at, place_of, IsValid, PlainClientActor, ClientActorIsAt, HasSentSoFar, PlainCoordinatorActor, NodeWork, IsFew, PlainNodeActors, RunState, RunStands, Came, NoRoundsCome, AllBegin, ActingNode, IsHere, AreFew, ActedTo, MetTo, MovedTo, CanBegin, DoneIn, RoundsMade, RoundsOver, TellsLeft}
 use Rattle.std.proofs.Math.Nat.{mul-le-mul_left}
 use Rattle.hs_workload.specs.declared.word.Setting.TheVariants as settings
 use Rattle.hs_workload.proofs.Sizes.{operations_few}
@@ -12,6 +12,7 @@ use Rattle.hs_run_story.specs.Coming.{RoundsGoOn}
 use Rattle.hs_run.specs.Moments.{AllDone}
 use Rattle.hs_run.specs.Movings.{AllStand}
 use Rattle.hs_run.specs.Nodes.{AreWhole}
+use Rattle.hs_run.proofs.FewTaken.{few_clients}
 use Rattle.hs_run.proofs.Few.{few_met}
 use Rattle.hs_run.proofs.Moments.{node_stands, node_low, node_there, site_there}
 use Rattle.hs_report.proofs.Fitting.{pieces_at_place}

@@ -1,6 +1,7 @@
 use Rattle.std.proofs.Common.{◌≡◌, ◌+◌, ◌-◌, ◌*◌, ℕ, Bool, true, false, List, Some, length, take, drop, sym, ap, ◌∙◌, arith, slice_get}
-use Rattle.hs_run.proofs.Prelude.{length-map, slice_get_within, get_there, Listing, Settings, PlainWorkload, PlainNodeActors, operations_at, place_of, workload_of, operation_of, Op, product_few, few_nodes, TellsNodeLeft, AreClients, few_clients}
+use Rattle.hs_run.proofs.Prelude.{length-map, slice_get_within, get_there, Listing, Settings, PlainWorkload, PlainNodeActors, operations_at, place_of, workload_of, operation_of, Op, product_few, few_nodes, TellsNodeLeft, AreClients}
 use Rattle.hs_run.specs.Sites.{TellsSiteLeft}
+use Rattle.hs_run.proofs.FewTaken.{few_clients}
 use Rattle.hs_run.proofs.Clients.{clients_are}
 use Rattle.hs_run.proofs.rounds.has_left_at.Goals as goal
 

@@ -1,5 +1,6 @@
 use Rattle.std.proofs.Common.{◌≡◌, ℕ, length, Some, sym, ap, subst, ◌∙◌, arith, slice_get}
-use Rattle.hs_run.proofs.Prelude.{indexed, get_there, few_clients, PlainNodeActors, place_of, workload_of, product_few, few_nodes, last_low, CountedFirst}
+use Rattle.hs_run.proofs.Prelude.{indexed, get_there, PlainNodeActors, place_of, workload_of, product_few, few_nodes, last_low, CountedFirst}
+use Rattle.hs_run.proofs.FewTaken.{few_clients}
 use Rattle.hs_run.proofs.TallyCounting.{none_first, one_first}
 use Rattle.hs_run.proofs.tallying.count_node.Goals as goal
 
