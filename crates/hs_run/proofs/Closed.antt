@@ -5,6 +5,7 @@ use Rattle.hs_run_agent.specs.ClosedAgents.{closed_intakes, closed_working_agent
 use Rattle.hs_run_story.specs.Spans.{IsNodeBetweenPasses, IsStep}
 use Rattle.hs_run_story.specs.Closing.{TakesAllOfClient, IsPassAlone}
 use Rattle.hs_run_story.specs.Laws.{ClosingGoesOn, AgentsAreBetweenPasses}
+use Rattle.hs_run.specs.Closings.{LedOn, PassesPay}
 
 -- what was heard, and nothing was asked yet
 pub asked_begins : (W : PlainWorkload) (sents : AllSents) (heard : Messages) (begun : ℕ → NodeWork) (old nodes : List PlainClosedAgent) (c c' : PlainCoordinatorActor) → ClosingStands W sents heard begun old c → (p : Passing W sents heard begun (length old) old nodes c')
@@ -154,3 +155,7 @@ module _ (goes_on : ClosingGoesOn) (are_posts : AgentsAreBetweenPasses) (W : Pla
                 drawers = ap (λ g. g.drawers) same ∙ gives.drawers ∙ before.drawers;
               };
         }
+
+    pub led_on : PassesPay → LedOn W rounds m sents old c at last c3
+    unfolding closing_more
+    led_on pay = record { next = closing_more; pays = λ fit left passes pays. pay W rounds m sents old nodes last c c1 c2 c3 at p more hears a fit left passes pays }

@@ -18,10 +18,18 @@ pub mod TallyCounting
 pub mod TallyRounds
 pub mod WatchedRounds
 pub mod WatchedEnd
+pub mod Gains
+pub mod Reporting
+pub mod Totals
+pub mod Waiting
+pub mod Paying
+pub mod Numbered
+pub mod FewPasses
 pub mod Passed
 pub mod Asking
 pub mod Closed
 pub mod Starting
+pub mod SentFits
 pub mod Ending
 pub mod ClientBooks
 mod Shut

@@ -14,6 +14,8 @@ pub mod Ended
 pub mod Noted
 pub mod Finished
 pub mod Shutting
+pub mod Accounts
+pub mod Closings
 pub mod Counts
 pub mod Seen
 pub mod CountLaws

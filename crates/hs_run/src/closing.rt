@@ -9,8 +9,10 @@ ghost use Rattle.hs_run_story.specs.RunStates.{RunState};
 ghost use Rattle.hs_run_agent.specs.Agents.{IsAskable};
 ghost use Rattle.hs_run_agent.specs.Coordinators.{ask_for, asked_all};
 ghost use Rattle.hs_run_agent.specs.Work.{NodeWork, with_asks};
+ghost use Rattle.hs_run.specs.Closings.{ClosingPaid, LedOn};
 ghost use Rattle.hs_run.specs.Shutting.{AllSents, IsClosedAgentAt, IsAskedOnly, AskedOnly, ClosingMayPass, ClosingCanPass, ClosingHasPassed, ClosingMayTell, ClosingTells, ClosingHasTold, MayPassAll, ClosingStands, Passing, ClosingMayBeAsked, ClosedAgentsStand, Asked, IsAsking, AllBare, IsSomethingLeft, ClosedAt, ClosingAt, MayClose};
 
+use crate::laws::{passes_are_few, passes_pay};
 use hs_base::{List, Memory, NodeId, OpenGate};
 use hs_coord::Asks;
 use hs_run_agent::{ClosedAgent, CoordinatorActor};
@@ -21,17 +23,17 @@ pub(crate) fn close_down(
     nodes: &mut List<ClosedAgent>,
     coordinator: &mut CoordinatorActor,
 ) -> Result<(), Memory>
-    requires { MayClose nodes.old.items coordinator.old }
+    requires { ClosingPaid 0 nodes.old.items coordinator.old }
     ensures { (W : PlainWorkload) (rounds : ℕ) (m : RunState) (sents : AllSents) → ClosingAt W rounds m sents nodes.old.items coordinator.old
         → OnOk result (ClosedAt W rounds m sents nodes.new.items coordinator.new) }
 {
-    'passes: for _ in 0..u64::MAX {
-        if is_bare(nodes, coordinator) {
-            return Ok(());
-        }
+    passes_are_few();
+    let mut made = 0u32;
+    'passes: while !is_bare(nodes, coordinator) {
         pass_all(nodes, coordinator)?;
+        made += 1;
     }
-    Err(Memory)
+    Ok(())
 }
 
 /// Whether nothing waits anywhere, and nothing is pinned.
@@ -50,11 +52,12 @@ fn is_bare(nodes: &List<ClosedAgent>, coordinator: &CoordinatorActor) -> bool
 /// A pass of each agent in turn and then of the coordinator, whose asks go to the agents.
 fn pass_all(nodes: &mut List<ClosedAgent>, coordinator: &mut CoordinatorActor) -> Result<(), Memory>
     requires { MayClose nodes.old.items coordinator.old }
-    ensures { (W : PlainWorkload) (rounds : ℕ) (m : RunState) (sents : AllSents) → ClosingAt W rounds m sents nodes.old.items coordinator.old
-        → OnOk result (ClosingAt W rounds m sents nodes.new.items coordinator.new) }
+    ensures { (W : PlainWorkload) (rounds : ℕ) (m : RunState) (sents : AllSents) (at : ClosingAt W rounds m sents nodes.old.items coordinator.old)
+        → OnOk result (LedOn W rounds m sents nodes.old.items coordinator.old at nodes.new.items coordinator.new) }
 {
     closing_goes_on();
     agents_are_between_passes();
+    passes_pay();
     agents_pass(nodes, coordinator)?;
     coordinator.pass(&OpenGate)?;
     ask_all(nodes, coordinator)

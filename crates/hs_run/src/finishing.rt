@@ -9,6 +9,7 @@ ghost use Rattle.hs_run.specs.Moments.{RoundsOver};
 ghost use Rattle.hs_run.specs.Finished.{AreLawfulBooks, AreBooksBehind, AreGathered};
 
 use crate::closing::close_down;
+use crate::laws::{all_is_paid_for, what_is_sent_fits};
 use crate::node::ActingNode;
 use crate::pools::close_pools;
 use crate::shutting::{ClosedNodes, shut_all};
@@ -38,6 +39,8 @@ pub(crate) fn finish(
     runs_are_lawful();
     journals_note_rounds();
     callers_have_sent();
+    what_is_sent_fits();
+    all_is_paid_for();
     let mut coordinator = coordinator;
     let mut ended = shut_all(alloc, nodes)?;
     close_down(&mut ended.nodes, &mut coordinator)?;

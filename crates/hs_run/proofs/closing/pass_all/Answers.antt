@@ -1,6 +1,6 @@
 use Rattle.std.proofs.Common.{ℕ, ◌++◌}
 use Rattle.hs_run.proofs.Prelude.{on_ok_weaker, moved_by, asked_by}
-use Rattle.hs_run.proofs.Closed.{asked_begins, closing_more}
+use Rattle.hs_run.proofs.Closed.{asked_begins, led_on}
 use Rattle.hs_run.proofs.closing.pass_all.Goals as goal
 
 pub agents_pass-requires : goal.agents_pass-requires
@@ -33,6 +33,6 @@ returns c = λ W rounds m sents at.
     let h = c.in_ok-pass.ensures W at.heard (moved_by p.works) (asked_by p.works) p.coordinates in
     let begins = asked_begins W sents at.heard works c.args.nodes.now.items c.agents_pass.new.nodes.items c.args.coordinator.now c.agents_pass.new.coordinator at.stand p h.0 c.pass.new.self h.1 in
     on_ok_weaker c.ask_all.result
-    (λ a. closing_more c.closing_goes_on.ensures c.agents_are_between_passes.ensures W rounds m sents c.args.nodes.now.items c.agents_pass.new.nodes.items c.ask_all.new.nodes.items c.args.coordinator.now c.agents_pass.new.coordinator c.pass.new.self
-    c.ask_all.new.coordinator at p h.0 h.1 a.0 a.1)
+    (λ a. led_on c.closing_goes_on.ensures c.agents_are_between_passes.ensures W rounds m sents c.args.nodes.now.items c.agents_pass.new.nodes.items c.ask_all.new.nodes.items c.args.coordinator.now c.agents_pass.new.coordinator c.pass.new.self
+    c.ask_all.new.coordinator at p h.0 h.1 a.0 a.1 c.passes_pay.ensures)
     (c.ask_all.ensures W sents (at.heard ++ h.0) p.works begins)

@@ -10,12 +10,17 @@ pub close_down-requires : goal.close_down-requires
 close_down-requires c =
     let r = c.requires in
     let e = c.in_ok-ended.ended in
+    let W = workload_of c.args.workload.now in
+    let at = starts W c.args.nodes.items c.args.coordinator r c.closing_begins.ensures c.callers_have_sent.ensures (map client_book_of e.books.items) (items_of e.drawers.items) e.nodes.items c.in_ok-ended.ensures in
     record {
-      workload = workload_of c.args.workload.now;
+      workload = W;
       rounds = r.rounds;
       moment = r.made.moment;
+      came = r.made.came;
       sents = sents_at r.made.moment;
-      at = starts (workload_of c.args.workload.now) c.args.nodes.items c.args.coordinator r c.closing_begins.ensures c.callers_have_sent.ensures (map client_book_of e.books.items) (items_of e.drawers.items) e.nodes.items c.in_ok-ended.ensures;
+      fit = c.what_is_sent_fits.ensures W r.made.moment r.made.here.stands;
+      at = at;
+      pays = c.all_is_paid_for.ensures W (λ (node : ℕ). (at.posts node).work) at.heard;
     }
 
 pub close_pools-agents-requires : goal.close_pools-agents-requires
