@@ -26,7 +26,7 @@ impl<T, F: Fact<T>> Model for Rest<T, F> {
 }
 
 /// Closes a link. What was received and then the rest are, in order, what was sent: the rest is what the ring holds and
-/// then what waits in the outbox. It takes no memory. Both are ends of one link.
+/// then what waits in the outbox. It takes no memory. Both are ends of one link, and so have one key.
 pub fn close_both<T, F: Fact<T>>(
     mut sender: Sender<T, F>,
     mut receiver: Receiver<T, F>,
@@ -34,6 +34,7 @@ pub fn close_both<T, F: Fact<T>>(
     requires { AreEnds sender receiver }
     ensures items { receiver.received ++ result.items ≡ sent sender }
     ensures key { result.key ≡ sender.key }
+    ensures keys { receiver.key ≡ sender.key }
 {
     sender.tell(&mut receiver);
     Rest { sender, receiver }

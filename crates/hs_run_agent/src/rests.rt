@@ -130,13 +130,12 @@ pub(crate) fn rests_of<T: Drop, F: Fact<T>>(
     requires { AreEndsOf senders.items receivers.items }
     ensures { IfOk result (λ rests. AreRests senders.items receivers.items rests.items) }
 {
-    let Some(mut sender) = senders.pop() else {
+    let Some(sender) = senders.pop() else {
         return Ok(List::new(alloc));
     };
-    let Some(mut receiver) = receivers.pop() else {
+    let Some(receiver) = receivers.pop() else {
         unreachable!()
     };
-    receiver.tell(&mut sender);
     let mut rests = rests_of(alloc, senders, receivers)?;
     rests.append(close_both(sender, receiver))?;
     Ok(rests)
