@@ -7,8 +7,7 @@ use Rattle.hs_lists.proofs.Alls.{all_at, all_by_place, all_front, all_map}
 use Rattle.hs_law_agent.specs.Laws.{CanReport, ChunksStandByTheirClaim, EventsAddFew, EventsGoOn, sheets_of, StepsSayWhatTheyTell, TurnsReport}
 use Rattle.hs_law_journal.specs.Doings.{chunks_in}
 use Rattle.hs_run_agent.specs.Agents.{IsPageThere, state_at}
-use Rattle.hs_run_agent.proofs.Taking.{sheet_is}
-use Rattle.hs_run_story.proofs.Chunks.{chunks_came, sheets_taken}
+use Rattle.hs_run_story.proofs.Chunks.{chunks_came, sheet_is, sheets_taken}
 use Rattle.hs_run_story.proofs.Lists.{all_passing}
 use Rattle.hs_words.specs.Chunks.{used_of}
 use Rattle.hs_run.specs.Accounts.{load_of, done_for, total, PaysFor, worked}

@@ -7,7 +7,7 @@ use Rattle.std.proofs.lemmas.Option.{slice_get_within as within}
 use Rattle.hs_law_journal.proofs.ItemsTaken.{own_log}
 use Rattle.hs_base.specs.declared.limits.TheConstants.{MAX_NODES, MAX_CLIENTS}
 use Rattle.hs_run_agent.specs.Agents.{IsPageThere}
-use Rattle.hs_run_agent.proofs.Taking.{sheet_is}
+use Rattle.hs_run_story.proofs.Chunks.{sheet_is}
 use Rattle.hs_run_story.proofs.Meetings.{caller_at, done_at, here_at}
 use Rattle.hs_run_story.proofs.Moments.{doing_same, round_steps, site_acts, site_meets, site_of, site_there, stands_at}
 use Rattle.hs_workload.specs.declared.word.Setting.TheVariants as settings

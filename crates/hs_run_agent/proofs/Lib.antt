@@ -1,6 +1,6 @@
 mod Prelude
 mod Admitted
-pub mod Taking
+mod Taking
 mod Handing
 mod Stages
 mod Loops
@@ -9,7 +9,6 @@ mod Offering
 mod Offers
 mod ByClient
 mod Ports
-pub mod Few
 mod Passed
 mod Telling
 mod Hearing

@@ -1,10 +1,14 @@
 -- The chunks that an agent took, by its events and by the buffers in which they came.
-use Rattle.std.proofs.Common.{◌≡◌, ℕ, Bool, true, false, ◌==◌, cond, List, [], ◌∷◌, ◌++◌, refl, sym, ap, ◌∙◌, Some, map, filter, append-nil, append_assoc}
-use Rattle.hs_run_story.proofs.Prelude.{AllByRecursion, flat_map, sheet_in, EventsAddThis, sheets_of, AgentState, start, AgentEvent, after, PlainSettings, PlainWorkload, Leased, Buffer, Sheet, IsWithin, is_of, sheet_is, chunks_in}
+use Rattle.std.proofs.Common.{◌≡◌, ℕ, Bool, true, false, ◌==◌, cond, List, [], ◌∷◌, ◌++◌, refl, sym, ap, ◌∙◌, Option, None, Some, map, filter, append-nil, append_assoc}
+use Rattle.hs_run_story.proofs.Prelude.{AllByRecursion, flat_map, sheet_in, EventsAddThis, sheets_of, AgentState, start, AgentEvent, after, PlainSettings, PlainWorkload, Leased, Buffer, Sheet, IsWithin, is_of, option_map_or, chunks_in}
 use Rattle.hs_lists.proofs.Filters.{filter_mapped}
 use Rattle.hs_law_agent.specs.Laws.{brought_by}
 use Rattle.hs_law_agent.specs.Stepping.{Chunk, Crumbed, Triggered, Asked, Turn, Took, Gave, after_from, after_event}
 use Rattle.hs_law_journal.specs.LoopPasses.{IsOwn}
+
+-- the page of a chunk that has one
+pub sheet_is : (buffer : Buffer Leased) (sheet : Sheet) → buffer.chunk.page ≡ Some sheet → sheet_in buffer ≡ sheet
+sheet_is buffer sheet e = ap (λ (o : Option Sheet). option_map_or (λ (s : Sheet). s) o (sheet_in (record { chunk = record buffer.chunk { page = None }; lease = buffer.lease }))) e
 
 pub own_events : (W : PlainWorkload) (node : ℕ) (events : List AgentEvent) → AllByRecursion (IsWithin W node) events → AllByRecursion (IsOwn W) events
 own_events W node [] all = tt

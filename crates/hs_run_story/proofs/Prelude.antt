@@ -28,7 +28,6 @@ pub use Rattle.hs_live.specs.Live.{PlainClient, Port}
 pub use Rattle.hs_live.specs.Writing.{draws_by}
 pub use Rattle.hs_records.specs.Plain.{Operation, PlainSettings, PlainWorkload}
 pub use Rattle.hs_ring.specs.Parts.{Leased}
-pub use Rattle.hs_run_agent.proofs.Taking.{sheet_is}
 pub use Rattle.hs_run_agent.specs.Agents.{IsPageThere, IsWithin}
 pub use Rattle.hs_run_agent.specs.Coordinators.{heard_of}
 pub use Rattle.hs_run_agent.specs.Turns.{lent_of}

@@ -1,6 +1,6 @@
 -- The story of a run that is over.
 use Rattle.std.proofs.Common.{◌≡◌, ℕ, zero, suc, ◌+◌, ◌*◌, ◌/◌, ◌%◌, ◌<◌, ◌≤◌, min, true, List, [], ◌∷◌, length, reverse, refl, sym, ap, subst, ◌∙◌, Option, Some, None, arith, map, filter, slice_get, nat_lt, eq-eqb}
-use Rattle.hs_run_story.proofs.Prelude.{AllByRecursion, range_with_len, length-map, slice_get_within, sheet_in, ClientId, MAX_TAKEN, Message, Messages, message, sent, book_of, EventsAddThis, AgentEvent, after, Operation, PlainSettings, PlainWorkload, Leased, Sent, ClientSends, sends_of, place_of, ops_of, Buffer, Answer, Sheet, IsValid, is_from, steps_of, chunks_in, crumbs_in, triggers_in, draw_answer, PlainClientActor, ClientActorIsAt, IsPageThere, NodeWork, is_of, came_of, lent_of, sheet_is, PlainNodeActors, RunState, Came, done_by, PoolEnds, Story, sent_by, NodeBetweenPasses, IsNodeBetweenPasses, IsStep, Closing, IsOver}
+use Rattle.hs_run_story.proofs.Prelude.{AllByRecursion, range_with_len, length-map, slice_get_within, sheet_in, ClientId, MAX_TAKEN, Message, Messages, message, sent, book_of, EventsAddThis, AgentEvent, after, Operation, PlainSettings, PlainWorkload, Leased, Sent, ClientSends, sends_of, place_of, ops_of, Buffer, Answer, Sheet, IsValid, is_from, steps_of, chunks_in, crumbs_in, triggers_in, draw_answer, PlainClientActor, ClientActorIsAt, IsPageThere, NodeWork, is_of, came_of, lent_of, PlainNodeActors, RunState, Came, done_by, PoolEnds, Story, sent_by, NodeBetweenPasses, IsNodeBetweenPasses, IsStep, Closing, IsOver}
 use Rattle.std.proofs.lemmas.Nat.{div-mul-add}
 use Rattle.std.proofs.Math.Nat.{mod-eq-sub-div-mul}
 use Rattle.hs_lists.proofs.Alls.{all_at}
@@ -11,7 +11,7 @@ use Rattle.hs_law_journal.specs.Shape.{log_stamps}
 use Rattle.hs_run_client.specs.Standing.{IsLeasedTo, HasSentAll}
 use Rattle.hs_law_run.specs.Stories.{NodeStory, draws_of, sends_at, state_by, IsQueueStory, TakesFrom, TalksWith, IsDrawnFor, PoolsWith, IsNodeStory, IsStory}
 use Rattle.hs_run_story.specs.Closing.{TakesAllOfClient, IsNodeBare, drawn_at}
-use Rattle.hs_run_story.proofs.Chunks.{own_events, chunks_came, sheets_are}
+use Rattle.hs_run_story.proofs.Chunks.{own_events, chunks_came, sheet_is, sheets_are}
 use Rattle.hs_run_story.proofs.Drawing.{draws_answers}
 use Rattle.hs_run_story.proofs.Joined.{post, heard_by, post_low, post_high, last_site, heard_low, heard_last, post_last, heard_grows, all_posts, all_steps, ends_by, all_met, ends_low}
 use Rattle.hs_run_story.proofs.LinkKinds.{chunk_links, crumb_links, trigger_links}
