@@ -1,9 +1,16 @@
 -- The clients of nodes are taken apart, and their links closed.
 use Rattle.std.proofs.Common.{◌≡◌, ℕ, zero, suc, ◌<◌, List, [], ◌∷◌, ◌++◌, length, map, get_or, Some, refl, sym, ap, ◌∙◌, subst, arith, append_assoc, slice_get}
-use Rattle.hs_run.proofs.Prelude.{append-nil, length-map, AllByRecursion, get_unmap, Crumb, Trigger, client_of, PlainClientBook, Outgoing, Incoming, Key, IsMate, Drawing, Leased, Buffer, PlainClientActor, linked, PlainClosedAgent, AreMatesOf, PlainNodeActors, operations_at, place_of, HaveClosedLinks}
+use Rattle.hs_run.proofs.Prelude.{Listing, client_book_of, IsClosedAgent, AllSent, append-nil, length-map, AllByRecursion, get_unmap, Crumb, Trigger, client_of, PlainClientBook, Outgoing, Incoming, Key, IsMate, Drawing, Leased, Buffer, PlainClientActor, linked, PlainClosedAgent, AreMatesOf, PlainNodeActors, operations_at, place_of, HaveClosedLinks}
 use Rattle.hs_lists.proofs.Alls.{all_by_place}
 use Rattle.hs_run_client.specs.Standing.{IsDone}
+use Rattle.hs_journal.specs.declared.books.ClientBook.{ClientBook}
+use Rattle.hs_live.specs.Live.{outgoing}
+use Rattle.hs_run_agent.specs.ClosedAgents.{all_sent}
+use Rattle.hs_run_client.specs.Nodes.{AreNotes}
+use Rattle.hs_run_client.specs.declared.apart.PartedClients.{PartedClients}
+use Rattle.hs_run.specs.Closed.{IsClosedWith}
 use Rattle.hs_run.specs.Ended.{IsEnded, HasClosedLinks}
+use Rattle.hs_run.specs.declared.shutting.ClosedNode.{ClosedNode}
 
 -- ---- lists
 
@@ -53,6 +60,26 @@ trigger_mates site senders is are =
     let lines = is.stands.agent.stands.lines_are.triggers.count in
     let count : length site.agent.port.triggers ≡ length site.callers = sym (length-map site.agent.port.triggers (λ r. linked r)) ∙ lines ∙ sym is.stands.count in
     mates (λ (c : PlainClientActor). c.client.triggers) site senders site.agent.port.triggers are count (λ number caller found. (is.stands.mates number caller found).triggers)
+
+-- what clients left that were taken apart, and their agent with closed links
+pub closed_links : (site : PlainNodeActors) (parted : PartedClients) (closed : ClosedNode) → IsClosedWith site.agent parted closed
+    → AreNotes site.callers (map client_book_of parted.books.items)
+    → parted.drawers.items ≡ map (λ (c : PlainClientActor). c.client.drawer) site.callers
+    → map outgoing parted.chunks.items ≡ map (λ (c : PlainClientActor). c.client.chunks) site.callers
+    → parted.crumbs.items ≡ map (λ (c : PlainClientActor). c.client.crumbs) site.callers
+    → parted.triggers.items ≡ map (λ (c : PlainClientActor). c.client.triggers) site.callers
+    → HasClosedLinks site (map client_book_of closed.books.items) closed.drawers.items closed.node
+closed_links site parted closed is notes drawers chunks crumbs triggers =
+    record {
+      notes = subst (λ (l : Listing ClientBook). AreNotes site.callers (map client_book_of l.items)) (sym is.books) notes;
+      drawers_are = ap (λ (l : Listing _). l.items) is.drawers ∙ drawers;
+      stands = λ W work manned.
+          subst (λ (all : AllSent). IsClosedAgent W work all closed.node) (λ i. all_sent (chunks i) (crumbs i) (triggers i)) (is.stands W work manned);
+      giver = is.giver;
+      asks = is.asks;
+      said = is.said;
+      agent = is.agent;
+    }
 
 -- ---- all nodes
 

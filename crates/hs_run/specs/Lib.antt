@@ -11,6 +11,7 @@ pub mod TallyLayout
 pub mod TallyingNodes
 pub mod Watched
 pub mod Ended
+pub mod Closed
 pub mod Noted
 pub mod Finished
 pub mod Shutting

@@ -2,6 +2,9 @@
 
 ghost use Rattle.std.specs.Prelude.{◌≡◌, ◌∷◌, ◌++◌, [], map, IfOk, OnOk};
 ghost use Rattle.hs_journal.specs.Books.{client_book_of};
+ghost use Rattle.hs_live.specs.Live.{outgoing};
+ghost use Rattle.hs_run_agent.specs.ClosedAgents.{AreMatesOf};
+ghost use Rattle.hs_run.specs.Closed.{IsClosedWith};
 ghost use Rattle.hs_run.specs.Ended.{IsEnded, AreEnded, HasClosedLinks, HaveClosedLinks, items_of};
 ghost use Rattle.hs_run.specs.Nodes.{sites_of};
 
@@ -10,7 +13,7 @@ use crate::node_actors::NodeActors;
 use hs_base::{List, Memory};
 use hs_journal::ClientBook;
 use hs_ring::Drawer;
-use hs_run_agent::ClosedAgent;
+use hs_run_agent::{AgentActor, ClosedAgent};
 use hs_run_client::{PartedClients, take_apart};
 use std::alloc::Global;
 
@@ -37,18 +40,29 @@ fn shut(alloc: Global, node: ActingNode) -> Result<ClosedNode, Memory>
 {
     let ActingNode { site, failed: _ } = node;
     let NodeActors { callers, agent } = site;
+    let parted = take_apart(alloc, callers)?;
+    close(alloc, agent, parted)
+}
+
+/// Closes the links of an agent, of which its clients left the other ends.
+fn close(alloc: Global, agent: AgentActor, parted: PartedClients) -> Result<ClosedNode, Memory>
+    requires chunks { AreMatesOf (map outgoing parted.chunks.items) agent.port.chunks }
+    requires crumbs { AreMatesOf parted.crumbs.items agent.port.crumbs }
+    requires triggers { AreMatesOf parted.triggers.items agent.port.triggers }
+    ensures { IfOk result (IsClosedWith agent parted) }
+{
     let PartedClients {
         books,
         drawers,
         chunks,
         crumbs,
         triggers,
-    } = take_apart(alloc, callers)?;
-    let closed = agent.close(alloc, chunks, crumbs, triggers)?;
+    } = parted;
+    let node = agent.close(alloc, chunks, crumbs, triggers)?;
     Ok(ClosedNode {
         books,
         drawers,
-        node: closed,
+        node,
     })
 }
 
