@@ -1,5 +1,5 @@
 -- What a node leaves where its log was followed.
-use Rattle.std.specs.Prelude.{◌≡◌, List, length, map}
+use Rattle.std.specs.Prelude.{◌≡◌, List, ◌++◌, length, map}
 use Rattle.hs_agent.specs.Runs as agents
 use Rattle.hs_check_clauses.specs.declared.found.FoundClient.{FoundClient}
 use Rattle.hs_check_clauses.specs.declared.found.FoundNode.{FoundNode}
@@ -13,6 +13,11 @@ books_left t = map (λ (s : FollowedClient). s.book) t.follower.clients.items
 
 abbrev pub found_left : FollowedNode → List FoundClient
 found_left t = map (λ (s : FollowedClient). s.found) t.follower.clients.items
+
+-- The same was found, and what was found at these clients stands behind.
+abbrev pub HasClientsBehind : List FoundClient → FoundNode → FoundNode → Type 0
+HasClientsBehind clients found all =
+    (all.clients.items ≡ found.clients.items ++ clients) × (all.gives ≡ found.gives) × (all.hands ≡ found.hands) × (all.said ≡ found.said) × (all.told ≡ found.told) × (all.pinned ≡ found.pinned)
 
 -- This was found at the node.
 pub record IsFoundOf (t : FollowedNode) (found : FoundNode) : Type 0 where

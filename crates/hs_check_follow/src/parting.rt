@@ -1,12 +1,12 @@
 //! What following a journal found, and what its clients and agents leave.
 
-ghost use Rattle.std.specs.Prelude.{◌≡◌, ◌++◌, ◌∷◌, [], true, map, IfOk};
+ghost use Rattle.std.specs.Prelude.{◌≡◌, ◌++◌, ◌∷◌, [], true, map, IfOk, OnOk};
 ghost use Rattle.std.specs.List.{flat_map};
 ghost use Rattle.hs_check_clauses.specs.Finding.{AreFound, IsFound};
 ghost use Rattle.hs_journal.specs.Views.{PlainJournal};
 ghost use Rattle.hs_law_journal.specs.Following.{followed, is_done};
 ghost use Rattle.hs_records.specs.Plain.{PlainWorkload};
-ghost use Rattle.hs_check_follow.specs.Parting.{books_left, IsFoundOf};
+ghost use Rattle.hs_check_follow.specs.Parting.{books_left, HasClientsBehind, IsFoundOf};
 ghost use Rattle.hs_check_follow.specs.Whole.{AllAt};
 
 use crate::agent::FollowedAgent;
@@ -93,39 +93,68 @@ fn part_node(
         asked: _,
         gives,
     } = follower;
-    let pinned = agent.pinned() as usize;
-    let clients = part_clients(alloc, clients, &mut ended.clients)?;
-    ended.agents.append(agent)?;
-    Ok(FoundNode {
-        clients,
+    let found = FoundNode {
+        clients: List::new(alloc),
         gives,
         hands,
         said: told,
         told: said.len(),
-        pinned,
-    })
+        pinned: agent.pinned() as usize,
+    };
+    part_agent(found, agent, clients, ended)
 }
 
-/// What was found at clients.
-fn part_clients(
-    alloc: Global,
+/// What was found at a node, with its clients. Its agent goes behind the others.
+fn part_agent(
+    found: FoundNode,
+    agent: Agent<()>,
     clients: List<FollowedClient>,
-    books: &mut List<ClientBook>,
-) -> Result<List<FoundClient>, Memory>
-    ensures found { IfOk result (λ found. found.items ≡ map (λ s. s.found) clients.items) }
-    ensures books { IfOk result (λ found. books.new.items ≡ books.old.items ++ map (λ s. s.book) clients.items) }
+    ended: &mut FollowedParts,
+) -> Result<FoundNode, Memory>
+    ensures found { IfOk result (λ all. HasClientsBehind (map (λ s. s.found) clients.items) found all) }
+    ensures clients { IfOk result (λ all. ended.new.clients.items ≡ ended.old.clients.items ++ map (λ s. s.book) clients.items) }
+    ensures agents { IfOk result (λ all. ended.new.agents.items ≡ ended.old.agents.items ++ agent ∷ []) }
 {
-    let mut found = List::new(alloc);
-    for sending in clients.into_vec() {
-        let FollowedClient {
-            chunks: _,
-            crumbs: _,
-            triggers: _,
-            found: one,
-            book,
-        } = sending;
-        found.append(one)?;
-        books.append(book)?;
-    }
+    let mut found = found;
+    let agents = ended.agents.append(agent);
+    let clients = part_clients(clients, &mut found.clients, &mut ended.clients);
+    agents?;
+    clients?;
     Ok(found)
+}
+
+/// What was found at clients, and their books, go behind the others.
+fn part_clients(
+    clients: List<FollowedClient>,
+    found: &mut List<FoundClient>,
+    books: &mut List<ClientBook>,
+) -> Result<(), Memory>
+    ensures found { OnOk result (found.new.items ≡ found.old.items ++ map (λ s. s.found) clients.items) }
+    ensures books { OnOk result (books.new.items ≡ books.old.items ++ map (λ s. s.book) clients.items) }
+{
+    for client in clients.into_vec() {
+        part_client(client, found, books)?;
+    }
+    Ok(())
+}
+
+/// What was found at a client, and its book, go behind the others.
+fn part_client(
+    client: FollowedClient,
+    found: &mut List<FoundClient>,
+    books: &mut List<ClientBook>,
+) -> Result<(), Memory>
+    ensures found { OnOk result (found.new.items ≡ found.old.items ++ client.found ∷ []) }
+    ensures books { OnOk result (books.new.items ≡ books.old.items ++ client.book ∷ []) }
+{
+    let FollowedClient {
+        chunks: _,
+        crumbs: _,
+        triggers: _,
+        found: one,
+        book,
+    } = client;
+    let noted = books.append(book);
+    found.append(one)?;
+    noted
 }
