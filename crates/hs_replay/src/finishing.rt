@@ -1,7 +1,8 @@
 //! A node at its end.
 
-ghost use Rattle.std.specs.Prelude.{◌≡◌, ℕ, [], ◌++◌, map, IfOk, OnOk};
+ghost use Rattle.std.specs.Prelude.{◌≡◌, ℕ, [], ◌++◌, map, None, IfOk, OnOk};
 ghost use Rattle.std.specs.List.{range_with_len};
+ghost use Rattle.hs_agent.specs.Runs.{Follows, Knows, Run, state_of};
 ghost use Rattle.hs_journal.specs.Books.{agent_book_of, client_book_of};
 ghost use Rattle.hs_law_lockstep.specs.Lockstep.{Machine};
 ghost use Rattle.hs_law_agent.specs.Books.{book_of};
@@ -9,6 +10,7 @@ ghost use Rattle.hs_records.specs.Plain.{PlainWorkload};
 ghost use Rattle.hs_replay.specs.Finishing.{HasEnded, HaveEnded, IsBookAt, client_noted};
 
 use crate::node::ReplayNode;
+use hs_agent::{Agent, Finished};
 use hs_base::{List, Memory};
 use hs_journal::{AgentBook, ClientBook};
 use hs_replay_client::ReplayClient;
@@ -21,6 +23,16 @@ impl ReplayNode {
         ensures clients { (W : PlainWorkload) (m : Machine) (n : ℕ) → HasEnded W m n self → OnOk result (map client_book_of clients.new.items
             ≡ map client_book_of clients.old.items ++ map (client_noted W m n) (range_with_len 0 W.settings.clients)) }
     {
+        let (players, agent) = self.ends();
+        note_players(players, clients)?;
+        agent_book(agent)
+    }
+
+    /// The clients and the agent.
+    fn ends(self) -> (List<ReplayClient>, Agent<()>)
+        ensures players { result.0.items ≡ self.players }
+        ensures agent { result.1 ≡ self.agent }
+    {
         let ReplayNode {
             pool: _,
             players,
@@ -28,8 +40,7 @@ impl ReplayNode {
             asks: _,
             said: _,
         } = self;
-        note_players(players, clients)?;
-        Ok(agent.finish()?.book)
+        (players, agent)
     }
 }
 
@@ -43,4 +54,13 @@ fn note_players(players: List<ReplayClient>, clients: &mut List<ClientBook>) -> 
         clients.append(player.finish())?;
     }
     Ok(())
+}
+
+/// The book of this agent, which has nothing pinned.
+fn agent_book(agent: Agent<()>) -> Result<AgentBook, Memory>
+    requires { Knows agent (λ run. ((state_of run).pinned ≡ []) × (run.offered ≡ None)) }
+    ensures { (run : Run (Unit {0})) → Follows agent run → IfOk result (λ book. agent_book_of book ≡ book_of run.node (state_of run)) }
+{
+    let Finished { book, rest: _ } = agent.finish()?;
+    Ok(book)
 }
