@@ -1,8 +1,16 @@
-use Rattle.std.proofs.Common.{◌≡◌, ◌∷◌, ◌++◌, [], List, ℕ, map, All, IsSome, sym, ap, ◌∙◌, subst}
-use Rattle.hs_agent.proofs.Prelude.{map-append, All-tail, Pin, pin_of, ArrivalPlace, Kept, kept_in, let_go, page_in, reported_going}
+use Rattle.std.proofs.Common.{◌≡◌, ℕ, ◌∷◌, ◌++◌, [], List, length, map, All, IsSome, refl, sym, ap, ◌∙◌, subst, arith}
+use Rattle.hs_agent.proofs.Prelude.{map-append, All-tail, Pin, pin_of, ArrivalPlace, Kept, kept_in, let_go, let_go_all, page_in, reported, reported_going}
+use Rattle.std.proofs.lemmas.List.{append-nil, nil_from_length}
 use Rattle.std.proofs.lemmas.List.Elements.{All-head}
 use Rattle.hs_agent.proofs.Going.{reported_first}
 use Rattle.hs_agent.proofs.holdings.Holdings.report.Goals as goal
+
+-- Where nothing was sent, nothing is reported.
+none_reported : {L : Type 0} (kept : Kept L) → kept.sent ≡ [] → reported kept ≡ kept
+none_reported kept none =
+    ap (λ (pins : List (Pin ArrivalPlace)). let_go_all (record kept { sent = []; pages = kept.pages ++ map page_in pins }) (map reported_going pins)) none
+    ∙ ap (λ (pages : List (List ℕ)). record kept { sent = []; pages = pages }) (append-nil kept.pages)
+    ∙ ap (λ (pins : List (Pin ArrivalPlace)). record kept { sent = pins }) (sym none)
 
 pub page_of-requires : goal.page_of-requires
 page_of-requires g c =
@@ -27,3 +35,20 @@ loop-dropped-preserved g c =
       subst (All (λ (p : Pin ArrivalPlace). IsSome p.chunk.chunk.page)) (sym (ap (λ (k : Kept g.row.L.Denot). k.sent) next))
           (All-tail (λ (p : Pin ArrivalPlace). IsSome p.chunk.chunk.page) pin rest (subst (All (λ (p : Pin ArrivalPlace). IsSome p.chunk.chunk.page)) sent c.loop-dropped.invariant.1)),
     )
+
+pub loop-dropped-init : goal.loop-dropped-init
+loop-dropped-init g c = (refl, c.requires)
+
+pub loop-dropped-smaller : goal.loop-dropped-smaller
+loop-dropped-smaller g c =
+    let sent : c.loop-dropped.self.sent ≡ pin_of c.in-Some.dropped ∷ map pin_of c.pop_front.new.self.items = sym (ap (λ (k : Kept g.row.L.Denot). k.sent) c.self.view_is) ∙ ap (map pin_of) c.in-Some.ensures.items in
+    omega (arith, ap length sent, ap (λ (k : Kept g.row.L.Denot). length k.sent) c.in_ok-let_go.ensures)
+
+pub returns : goal.returns
+returns g c =
+    let empty : c.self.inside.sent.items ≡ [] = nil_from_length c.self.inside.sent.items (omega (arith, c.in_default.ensures.cases.0)) in
+    let none : c.loop-dropped.self.sent ≡ [] = sym (ap (λ (k : Kept g.row.L.Denot). k.sent) c.self.view_is) ∙ ap (map pin_of) empty in
+    ap (λ (pins : List (Pin ArrivalPlace)). record (kept_in {L = g.row.L.Denot} {g = g.L.Token} c.self.inside) { sent = pins }) (ap (map pin_of) (sym c.in_default.ensures.items))
+    ∙ c.self.view_is
+    ∙ sym (none_reported c.loop-dropped.self none)
+    ∙ c.loop-dropped.invariant.0
