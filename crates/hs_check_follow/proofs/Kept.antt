@@ -30,17 +30,6 @@ pub match_more : {X A A' : Type 0} {B B' : X → Type 0} (answer : Option X) →
 match_more None first more h = first h
 match_more (Some x) first more h = more x h
 
-pub popped : {A B : Type 0} (f : A → B) (answer : Option A) (old new : List A) → old ≡ option_to_list answer ++ new → map f old ≡ option_to_list (option_map f answer) ++ map f new
-popped f None old new e = ap (map f) e
-popped f (Some x) old new e = ap (map f) e
-
-map_behind : {A B : Type 0} (f : A → B) (items : List A) → map f (drop 1 items) ≡ drop 1 (map f items)
-map_behind f [] = refl
-map_behind f (x ∷ items) = refl
-
-pub popped_behind : {A B : Type 0} (f : A → B) (old new : List A) → new ≡ drop 1 old → map f new ≡ drop 1 (map f old)
-popped_behind f old new e = ap (map f) e ∙ map_behind f old
-
 module _ (settings : PlainSettings) (client : ClientId) (ops : List Operation) (draws : List Draw) (k : ℕ) where
   abbrev sent : List (Sent Sheet)
   sent = (sends_of settings client ops draws).chunks

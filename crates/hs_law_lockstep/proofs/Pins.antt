@@ -1,6 +1,6 @@
 -- What is pinned can be reported: its group is of a declared trigger id, which has a share, and the budget of a share pays for a page.
 use Rattle.std.proofs.Common.{◌≡◌, ℕ, zero, suc, ◌+◌, ◌*◌, ◌<◌, ◌≤◌, Bool, true, false, ◌||◌, cond, List, [], ◌∷◌, refl, sym, ap, subst, ◌∙◌, Option, Some, None, arith, option_map, slice_get, find, eqb, eqb-true, eq-eqb}
-use Rattle.hs_law_lockstep.proofs.Prelude.{AllByRecursion, list_any, range_with_len, option_map_or, suc-mul, and_parts, length-map, length-range_with_len, slice_get-map, slice_get_within, same_Some, all_at, range_at, is_declared, MIN_SIZE, TriggerRule, PlainJournal, count_of, PlacesMatch, ListsHaveTheirChunks, sheets_of, CanReport, Taken, stands, PlainWorkload, ClientSends, sheet_of, client_sends, node_sends, operations_at, draws_at, place_of, timed_pages, NodeRun, ComesByEvents, is_known, Speaks, ClientId, Draw, DrawnPage, TimedPage, drawn_from}
+use Rattle.hs_law_lockstep.proofs.Prelude.{mul_at_least, AllByRecursion, list_any, range_with_len, option_map_or, and_parts, length-map, length-range_with_len, slice_get-map, slice_get_within, same_Some, all_at, range_at, is_declared, MIN_SIZE, TriggerRule, PlainJournal, count_of, PlacesMatch, ListsHaveTheirChunks, sheets_of, CanReport, Taken, stands, PlainWorkload, ClientSends, sheet_of, client_sends, node_sends, operations_at, draws_at, place_of, timed_pages, NodeRun, ComesByEvents, is_known, Speaks, ClientId, Draw, DrawnPage, TimedPage, drawn_from}
 use Rattle.hs_base.specs.declared.ids.TriggerId.{TriggerId}
 use Rattle.hs_base.specs.declared.told.Group.{Group}
 use Rattle.hs_base.specs.Ids.{same_trace}
@@ -57,11 +57,6 @@ share_found id (share ∷ shares) (rule ∷ rules) h e = either (eqb rule.id.0 i
     either false f e on = let rest = on e in record { share = rest.share; at = suc rest.at; there = rest.there; own = rest.own }
 share_found id [] (rule ∷ rules) h e = absurd h
 share_found id (share ∷ shares) [] h e = absurd h
-
--- a weight is a page at least
-one_page : (weight size : ℕ) → 1 ≤ weight → size ≤ weight * size
-one_page zero size h = absurd (omega (arith, h))
-one_page (suc weight) size h = let product = suc-mul weight size in omega (arith, product)
 
 shares_pay : (P : ℕ → Type 0) (size used : ℕ) (shares : List Share) (rules : List TriggerRule) → AreOfRules shares rules → HaveWeights rules → ((share : Share) → 1 ≤ share.weight → P (budget_of size share))
     → AllByRecursion (λ (share : Share). P (budget_of size share)) shares
@@ -164,6 +159,6 @@ module _ (places : ListsHaveTheirChunks) (claims : ChunksStandByTheirClaim) (fit
               shares_pay (λ (budget : ℕ). (place : ℕ) → used_at run.state.taken place ≤ budget) W.settings.size 0 run.state.shares W.settings.triggers speaks.shares weights
               (λ share some place.
               let few = used_few place in
-              let page = one_page share.weight W.settings.size some in
+              let page = mul_at_least share.weight W.settings.size some in
               omega (arith, few, page));
         }

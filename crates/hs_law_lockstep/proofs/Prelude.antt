@@ -43,7 +43,8 @@ pub use Rattle.hs_lists.proofs.Alls.{all_append, all_at, all_by_place, all_each,
 pub use Rattle.hs_lists.proofs.Counts.{count_append, count_cons, one_if}
 pub use Rattle.hs_lists.proofs.Filters.{filter_all, filter_few}
 pub use Rattle.hs_lists.proofs.Options.{option_unmap}
-pub use Rattle.hs_lists.proofs.Parts.{drop_length}
+pub use Rattle.hs_lists.proofs.Numbers.{mul_at_least}
+pub use Rattle.hs_lists.proofs.Parts.{drop_length, option_to_list_short}
 pub use Rattle.hs_lists.proofs.Places.{get_front, get_mid, get_there, unwrap_other, unwrap_set}
 pub use Rattle.hs_lists.proofs.Ranges.{list_all_range_below, range_at}
 pub use Rattle.hs_lists.proofs.Tests.{list_all_from}

@@ -1,7 +1,7 @@
 -- What a pass works off at a node: with each item that the agent takes it bears one thing more at most, and a turn takes something off
 -- where something is pinned.
 use Rattle.std.proofs.Common.{◌≡◌, ◌⊎◌, inl, inr, ℕ, zero, suc, ◌+◌, ◌<◌, ◌≤◌, true, false, List, [], ◌∷◌, ◌++◌, length, refl, sym, ap, subst, ◌∙◌, Option, Some, None, arith, option_map, slice_get, eq-eqb, length-append}
-use Rattle.hs_law_lockstep.proofs.Prelude.{option_and_then, same_Some, option_unmap, one_if, count_cons, count_append, Messages, Step, brought_by, noted_as, EventsAddThis, CanReport, AgentState, Input, Chunk, Crumbed, Triggered, Asked, Turn, AgentEvent, Took, Gave, after_event, PlainSettings, ClientSends, Queue, Chunks, Crumbs, Triggers, Asks, takes, taken, asks_to, NodeRun, next_of, event_of, perform, is_offer, sum_to, sum_le, sum_lt}
+use Rattle.hs_law_lockstep.proofs.Prelude.{option_to_list_short, option_and_then, same_Some, option_unmap, one_if, count_cons, count_append, Messages, Step, brought_by, noted_as, EventsAddThis, CanReport, AgentState, Input, Chunk, Crumbed, Triggered, Asked, Turn, AgentEvent, Took, Gave, after_event, PlainSettings, ClientSends, Queue, Chunks, Crumbs, Triggers, Asks, takes, taken, asks_to, NodeRun, next_of, event_of, perform, is_offer, sum_to, sum_le, sum_lt}
 use Rattle.std.specs.Option.{option_to_list}
 use Rattle.hs_base.specs.declared.told.Told.{Told}
 use Rattle.hs_journal.specs.declared.journal.Step.TheVariants as steps
@@ -82,10 +82,6 @@ module _ (clients : ℕ) (log : List Step) where
 
 -- ---- one step
 
-told_few : (o : Option Told) → length (option_to_list o) ≤ 1
-told_few None = omega arith
-told_few (Some told) = omega arith
-
 module _ (add : EventsAddFew) (this : EventsAddThis) (says : StepsSayWhatTheyTell) (reports : TurnsReport) (settings : PlainSettings) (clients : ℕ) (start : NodeRun)
     (can : (place : ℕ) (places : List ℕ) → start.state.pinned ≡ place ∷ places → CanReport settings start.state)
   where
@@ -110,9 +106,9 @@ module _ (add : EventsAddFew) (this : EventsAddThis) (says : StepsSayWhatTheyTel
             → length (state.said ++ option_to_list (told_by settings node state input)) ≡ length state.said + length (option_to_list (told_by settings node state input))
             → borne (after_event settings node state (Took input)) + length (after_event settings node state (Took input)).said ≤ borne state + length state.said + weight input
         by_input (Chunk client sheet) more said both = omega (arith, more, said, both)
-        by_input (Crumbed client crumb) more said both = let few = told_few (told_by settings node state (Crumbed client crumb)) in omega (arith, more, said, both, few)
-        by_input (Triggered client trigger) more said both = let few = told_few (told_by settings node state (Triggered client trigger)) in omega (arith, more, said, both, few)
-        by_input (Asked ask) more said both = let few = told_few (told_by settings node state (Asked ask)) in omega (arith, more, said, both, few)
+        by_input (Crumbed client crumb) more said both = let few = option_to_list_short (told_by settings node state (Crumbed client crumb)) in omega (arith, more, said, both, few)
+        by_input (Triggered client trigger) more said both = let few = option_to_list_short (told_by settings node state (Triggered client trigger)) in omega (arith, more, said, both, few)
+        by_input (Asked ask) more said both = let few = option_to_list_short (told_by settings node state (Asked ask)) in omega (arith, more, said, both, few)
         by_input Turn more said both = omega (arith, more, said, both)
 
     said_more : (node : ℕ) (state : AgentState) (input : Input) → length state.said ≤ length (after_event settings node state (Took input)).said

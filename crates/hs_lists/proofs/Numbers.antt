@@ -1,5 +1,6 @@
 -- Numbers that are compared.
-use Rattle.std.proofs.Common.{◌≡◌, ◌⊎◌, inl, inr, ℕ, zero, suc, ◌<◌, ◌≤◌, max, eqb, nat_eq, nat_le, ◌==◌, true, false, ◌&&◌, not, refl, arith, ap, is_lt, nat_cmp}
+use Rattle.std.proofs.Common.{◌≡◌, ◌⊎◌, inl, inr, ℕ, zero, suc, ◌+◌, ◌*◌, ◌<◌, ◌≤◌, max, eqb, nat_eq, nat_le, ◌==◌, true, false, ◌&&◌, not, refl, arith, ap, is_lt, nat_cmp}
+use Rattle.std.proofs.Math.Nat.{suc-mul}
 use Rattle.std.proofs.lemmas.Bool.Decides.{nat_tests}
 
 pub same_or_less : (k n : ℕ) → k < suc n → (k < n) ⊎ (k ≡ n)
@@ -34,3 +35,8 @@ nat_le_past a b is = grind arith
 
 pub nat_cmp_tie : (a b : ℕ) → (not (is_lt (nat_cmp a b)) && not (is_lt (nat_cmp b a))) ≡ eqb b a
 nat_cmp_tie a b = grind (arith, nat_tests)
+
+-- a factor is no more than a product whose other factor is at least 1
+pub mul_at_least : (m n : ℕ) → 1 ≤ m → n ≤ m * n
+mul_at_least zero n one = absurd (omega (arith, one))
+mul_at_least (suc m) n one = let product = suc-mul m n in omega (arith, product)

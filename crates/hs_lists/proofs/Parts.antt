@@ -72,3 +72,13 @@ map_option_append f xs ys (Some x) is = ap (map f) is
 pub map_rest : {X Y : Type 0} (f : X → Y) (xs ys : List X) → ys ≡ drop 1 xs → map f ys ≡ drop 1 (map f xs)
 map_rest f [] ys is = ap (map f) is
 map_rest f (x ∷ xs) ys is = ap (map f) is
+
+pub option_to_list_short : {X : Type 0} (o : Option X) → length (option_to_list o) ≤ 1
+option_to_list_short None = omega arith
+option_to_list_short (Some x) = omega arith
+
+-- what a list of one ends with
+pub last_of_one : {X : Type 0} (xs : List X) (last one : X) → one ∷ [] ≡ xs ++ last ∷ [] → last ≡ one
+last_of_one [] last one is = cc
+last_of_one (x ∷ []) last one is = absurd cc
+last_of_one (x ∷ y ∷ xs) last one is = absurd cc

@@ -1,7 +1,7 @@
 -- What a pass works off: with each item that an agent takes it bears one thing more at most, and a turn takes something off where something
 -- is pinned.
 use Rattle.std.proofs.Common.{◌≡◌, ℕ, zero, suc, ◌+◌, ◌*◌, ◌<◌, ◌≤◌, Bool, true, false, cond, ◌==◌, List, [], ◌∷◌, ◌++◌, length, refl, sym, ap, ◌∙◌, Option, Some, None, arith, map, replicate}
-use Rattle.hs_run.proofs.Prelude.{flat_map, length-append, map-append, noted_as, Step, after, AgentEvent, asks_in, crumbs_in, steps_of, triggers_in, PlainSettings, PlainWorkload, NodeWork}
+use Rattle.hs_run.proofs.Prelude.{option_to_list_short, flat_map, length-append, map-append, noted_as, Step, after, AgentEvent, asks_in, crumbs_in, steps_of, triggers_in, PlainSettings, PlainWorkload, NodeWork}
 use Rattle.std.specs.Option.{option_to_list}
 use Rattle.hs_base.specs.declared.told.Told.{Told}
 use Rattle.hs_journal.specs.declared.journal.Step.TheVariants as steps
@@ -140,10 +140,6 @@ begins_with_turn W pass p none =
 
 -- ---- what an agent bears
 
-told_one : (o : Option Told) → length (option_to_list o) ≤ 1
-told_one None = omega arith
-told_one (Some told) = omega arith
-
 module _ (add : EventsAddFew) (says : StepsSayWhatTheyTell) (settings : PlainSettings) (node : ℕ) where
   load_input : (state : AgentState) (input : Input) → load (after_event settings node state (Took input)) ≤ load state + weigh (noted_as (Took input))
   load_input state input =
@@ -157,9 +153,9 @@ module _ (add : EventsAddFew) (says : StepsSayWhatTheyTell) (settings : PlainSet
           → length (state.said ++ option_to_list (told_by settings node state input)) ≡ length state.said + length (option_to_list (told_by settings node state input))
           → load (after_event settings node state (Took input)) ≤ load state + weigh (noted_as (Took input))
       by_input (Chunk client sheet) more said both = omega (arith, more, said, both)
-      by_input (Crumbed client crumb) more said both = let few = told_one (told_by settings node state (Crumbed client crumb)) in omega (arith, more, said, both, few)
-      by_input (Triggered client trigger) more said both = let few = told_one (told_by settings node state (Triggered client trigger)) in omega (arith, more, said, both, few)
-      by_input (Asked ask) more said both = let few = told_one (told_by settings node state (Asked ask)) in omega (arith, more, said, both, few)
+      by_input (Crumbed client crumb) more said both = let few = option_to_list_short (told_by settings node state (Crumbed client crumb)) in omega (arith, more, said, both, few)
+      by_input (Triggered client trigger) more said both = let few = option_to_list_short (told_by settings node state (Triggered client trigger)) in omega (arith, more, said, both, few)
+      by_input (Asked ask) more said both = let few = option_to_list_short (told_by settings node state (Asked ask)) in omega (arith, more, said, both, few)
       by_input Turn more said both = omega (arith, more, said, both)
 
   load_event : (state : AgentState) (event : AgentEvent) → load (after_event settings node state event) ≤ load state + weigh (noted_as event)

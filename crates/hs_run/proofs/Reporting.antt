@@ -1,6 +1,6 @@
 -- What is pinned can be reported: each claim is of a declared trigger id, which has a share, and the budget of each share pays for a page.
 use Rattle.std.proofs.Common.{◌≡◌, ℕ, zero, suc, ◌+◌, ◌*◌, ◌≤◌, Bool, true, false, ◌||◌, cond, List, [], ◌∷◌, refl, sym, ap, subst, ◌∙◌, Option, Some, None, arith, map, option_map, find, eqb, eqb-true, eq-eqb}
-use Rattle.hs_run.proofs.Prelude.{AllByRecursion, option_map_or, slice_get, suc-mul, same_Some, Sheet, after, AgentEvent, PlainSettings, PlainWorkload, ListsHaveTheirChunks}
+use Rattle.hs_run.proofs.Prelude.{mul_at_least, AllByRecursion, option_map_or, slice_get, same_Some, Sheet, after, AgentEvent, PlainSettings, PlainWorkload, ListsHaveTheirChunks}
 use Rattle.std.specs.List.{list_any}
 use Rattle.std.proofs.lemmas.Option.{slice_get-map}
 use Rattle.hs_lists.proofs.Alls.{all_at}
@@ -54,11 +54,6 @@ share_found id (share ∷ shares) (rule ∷ rules) h e = either (eqb rule.id.0 i
     either false f e on = let rest = on e in record { share = rest.share; at = suc rest.at; there = rest.there; own = rest.own }
 share_found id [] (rule ∷ rules) h e = absurd h
 share_found id (share ∷ shares) [] h e = absurd h
-
--- a weight is a page at least
-one_page : (weight size : ℕ) → 1 ≤ weight → size ≤ weight * size
-one_page zero size h = absurd (omega (arith, h))
-one_page (suc weight) size h = let product = suc-mul weight size in omega (arith, product)
 
 shares_pay : (P : ℕ → Type 0) (size : ℕ) (shares : List Share) (rules : List TriggerRule) → AreOfRules shares rules → AllByRecursion (λ (rule : TriggerRule). 1 ≤ rule.weight) rules → ((share : Share) → 1 ≤ share.weight → P (budget_of size share))
     → AllByRecursion (λ (share : Share). P (budget_of size share)) shares
@@ -192,6 +187,6 @@ module _ (places : ListsHaveTheirChunks) (claims : ChunksStandByTheirClaim) (few
               shares_pay (λ (budget : ℕ). (place : ℕ) → used_at state.taken place ≤ budget) W.settings.size state.shares W.settings.triggers k.shares weights
               (λ share some place.
               let used = used_few fits place in
-              let page = one_page share.weight W.settings.size some in
+              let page = mul_at_least share.weight W.settings.size some in
               omega (arith, used, page));
         }

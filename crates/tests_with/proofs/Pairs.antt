@@ -13,13 +13,6 @@ use Rattle.hs_live.specs.Live.{PlainClient, Port, outgoing, incoming, is_told, R
 use Rattle.hs_live.specs.Calls.{IsOf, AreOf, AreMates, MeetsAt}
 use Rattle.tests_with.specs.Pairs.{id, watched, links, CanCall, KeepsClient, KeepsPort, IsOnly, HasClient}
 
--- ---- lists of one
-
-pub last_of_one : {A : Type 0} (xs : List A) (x d : A) → d ∷ [] ≡ xs ++ x ∷ [] → x ≡ d
-last_of_one [] x d e = cc
-last_of_one (y ∷ []) x d e = absurd cc
-last_of_one (y ∷ z ∷ xs) x d e = absurd cc
-
 -- ---- the receivers of a port
 
 module _ {T F : Type 0} where

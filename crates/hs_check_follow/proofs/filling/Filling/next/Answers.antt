@@ -1,6 +1,7 @@
 use Rattle.std.proofs.Common.{map, subst}
 use Rattle.hs_check_follow.proofs.Prelude.{buffer_of, buffer_in, operation_of, LeftAt}
-use Rattle.hs_check_follow.proofs.Kept.{match_more, popped, popped_behind, pops}
+use Rattle.hs_lists.proofs.Parts.{map_option_append, map_rest}
+use Rattle.hs_check_follow.proofs.Kept.{match_more, pops}
 use Rattle.hs_check_follow.proofs.filling.Filling.next.Goals as goal
 
 pub returns-in-Kept : goal.returns-in-Kept
@@ -11,4 +12,4 @@ returns-in-Kept c = λ settings client draws k rules_are is.
     let answer = c.pop_front.result in
     let have = subst (LeftAt settings client ops draws k) c.in-Kept.is is.left in
     match_more (buffer_in answer) (λ h. (h.0, record { client_is = is.client_is; left = h.1 })) (λ chunk h. (h.0, record { client_is = is.client_is; left = h.1 }))
-    (pops settings client ops draws k (map buffer_of old) (buffer_in answer) (map buffer_of new) (popped buffer_of answer old new c.pop_front.ensures.items) (popped_behind buffer_of old new c.pop_front.ensures.rest) have)
+    (pops settings client ops draws k (map buffer_of old) (buffer_in answer) (map buffer_of new) (map_option_append buffer_of old new answer c.pop_front.ensures.items) (map_rest buffer_of old new c.pop_front.ensures.rest) have)

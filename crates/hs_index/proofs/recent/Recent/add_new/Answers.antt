@@ -1,15 +1,10 @@
 use Rattle.std.proofs.Common.{◌≡◌, [], ◌∷◌, ◌++◌, List, length, refl, sym, ap, ◌∙◌, arith}
-use Rattle.std.proofs.lemmas.List.{length-append}
 use Rattle.hs_lists.proofs.Options.{on_err_always}
+use Rattle.hs_lists.proofs.Parts.{last_of_one}
 use Rattle.hs_words.specs.Buffers.{buffer_of}
 use Rattle.hs_index.specs.Index.{Noted, with_chunk, chunk_count}
 use Rattle.hs_index.specs.Touched.{indexed}
 use Rattle.hs_index.proofs.recent.Recent.add_new.Goals as goal
-
--- the last of one
-last_one : {A : Type 0} (earlier : List A) (last one : A) → one ∷ [] ≡ earlier ++ last ∷ [] → last ≡ one
-last_one [] last one is = cc
-last_one (x ∷ xs) last one is = absurd (omega (arith, ap length is, length-append xs (last ∷ [])))
 
 pub insert-requires-clause-new : goal.insert-requires-clause-new
 insert-requires-clause-new g c = c.requires.new
@@ -56,4 +51,4 @@ pub returns-in-Err-clause-back : goal.returns-in-Err-clause-back
 returns-in-Err-clause-back g c =
     let made = c.in_ok-add.ensures.ok ∙ ap (λ (n : Noted g.row.L.Denot). with_chunk n (buffer_of c.args.held)) c.new-entry.ensures in
     let last = c.into_last.ensures in
-    last_one last.0 (buffer_of c.into_last.result) (buffer_of c.args.held) (sym (ap (λ (n : Noted g.row.L.Denot). n.chunks) (c.in-Err.ensures.back ∙ made)) ∙ last.1)
+    last_of_one last.0 (buffer_of c.into_last.result) (buffer_of c.args.held) (sym (ap (λ (n : Noted g.row.L.Denot). n.chunks) (c.in-Err.ensures.back ∙ made)) ∙ last.1)
