@@ -242,16 +242,18 @@ impl<L: Token> Agent<L> {
         ensures rest { (run : Run L) → Follows self run → IfOk result (λ finished. map buffer_of finished.rest.items ≡ buffers_left (point_of run)) }
         ensures stays { IsSpent self → IsErr result }
     {
-        let Agent {
-            holdings,
-            scheduler: _,
-            log,
-            spent,
-        } = self;
         standings_partition();
-        if spent {
+        if self.spent {
+            drop(self);
             return Err(Memory);
         }
+        let Agent {
+            holdings,
+            scheduler,
+            log,
+            spent: _,
+        } = self;
+        drop(scheduler);
         holdings.finish(log)
     }
 }

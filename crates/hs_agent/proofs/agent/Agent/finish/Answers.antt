@@ -5,7 +5,7 @@ use Rattle.hs_agent.proofs.agent.Agent.finish.Goals as goal
 
 pub finish-requires : goal.finish-requires
 finish-requires g c =
-    let known = c.requires (sym (ap (λ (k : PlainAgent g.row.L.Denot). k.spent) c.self.view_is) ∙ c.if-spent.false) in
+    let known = c.requires (sym (ap (λ (k : PlainAgent g.row.L.Denot). k.spent) c.self.view_is) ∙ c.if-self.false) in
     let run = known.0 in
     let h : Holds c.self.inside.holdings (point_of run) = subst (λ (k : PlainAgent g.row.L.Denot). Holds k.kept (point_of run)) (sym c.self.view_is) known.1.stands.chunks in
     (point_of run, h, (known.2.1, c.standings_partition.ensures run.settings run.node run.events))
