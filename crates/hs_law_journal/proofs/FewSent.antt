@@ -1,8 +1,9 @@
--- An operation sends one crumb or one trigger at most.
-use Rattle.std.proofs.Common.{◌≡◌, ℕ, ◌+◌, ◌≤◌, List, [], ◌∷◌, length, Option, Some, None, arith, map, slice_get, length-append}
-use Rattle.hs_law_journal.proofs.Prelude.{flat_map, option_map_or, length-map, TraceId, AutoRule, Operation, Begin, Point, End, Fire, Sample, NumberedOperation, numbered_from, open_behind, sampled, Sampled, Crumb, Trigger, Sent, crumb_in, trigger_of, samples_of, trigger_in, triggers_behind}
+-- An operation sends one crumb or one trigger at most, and a page one chunk at most.
+use Rattle.std.proofs.Common.{◌≡◌, ℕ, ◌+◌, ◌≤◌, List, [], ◌∷◌, length, Option, Some, None, arith, map, filter, slice_get, length-append}
+use Rattle.hs_law_journal.proofs.Prelude.{flat_map, option_map_or, length-map, ClientId, TraceId, Draw, AutoRule, Operation, Begin, Point, End, Fire, Sample, NumberedOperation, numbered_from, open_behind, sampled, Sampled, Crumb, Trigger, TimedPage, drawn_from, DrawnPage, has_buffer, Sent, sent_chunks, crumb_in, trigger_of, samples_of, trigger_in, triggers_behind}
 use Rattle.hs_records.specs.Plain as plain
 use Rattle.hs_auto.specs.declared.sampled.Sampled.TheVariants as answers
+use Rattle.hs_lists.proofs.Filters.{filter_few}
 
 trigger_few : (moment : ℕ) (rule : AutoRule) (trace : TraceId) (answer : Sampled) → length (trigger_of moment rule trace answer) ≤ 1
 trigger_few moment rule trace answers.Quiet = omega arith
@@ -44,3 +45,14 @@ sends_few autos earlier number trace (op ∷ ops) =
     let e = one_each autos earlier trace op in
     let rest = sends_few autos (first ∷ earlier) (number + 1) (open_behind trace op) ops in
     omega (arith, a, b, c, d, e, rest)
+
+pub drawn_few : (client : ClientId) (number : ℕ) (pages : List TimedPage) (draws : List Draw) → length (drawn_from client number pages draws) ≤ length pages
+drawn_few client number [] draws = omega arith
+drawn_few client number (page ∷ pages) [] = omega arith
+drawn_few client number (page ∷ pages) (draw ∷ draws) = let rest = drawn_few client (number + 1) pages draws in omega (arith, rest)
+
+pub chunks_few : (drawn : List DrawnPage) → length (sent_chunks drawn) ≤ length drawn
+chunks_few drawn =
+    let kept = filter_few (λ (d : DrawnPage). has_buffer d.draw) drawn in
+    let same : length (sent_chunks drawn) ≡ length (filter (λ (d : DrawnPage). has_buffer d.draw) drawn) = length-map (filter (λ (d : DrawnPage). has_buffer d.draw) drawn) _ in
+    omega (arith, kept, same)

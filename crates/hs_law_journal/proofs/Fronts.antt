@@ -1,5 +1,5 @@
 -- What holds of any journal that is followed: an agent has taken a front of what each client sent and of what it was asked, in order.
-use Rattle.std.proofs.Common.{◌≡◌, inl, inr, ℕ, zero, suc, ◌+◌, ◌<◌, ◌≤◌, Bool, true, false, cond, List, [], ◌∷◌, ◌++◌, length, refl, sym, ap, subst, ◌∙◌, Option, Some, None, arith, map, option_map, slice_get, nat_eq, eqb-true, append-nil, append_assoc, length-append, IsSome}
+use Rattle.std.proofs.Common.{◌≡◌, inl, inr, ℕ, ◌<◌, ◌≤◌, Bool, true, false, cond, List, [], ◌∷◌, ◌++◌, length, refl, sym, ap, subst, ◌∙◌, Option, Some, None, arith, map, option_map, slice_get, nat_eq, eqb-true, append-nil, append_assoc, length-append, IsSome}
 use Rattle.hs_law_journal.proofs.Prelude.{AllByRecursion, flat_map, range_with_len, option_and_then, option_map_or, slice_get-map, slice_get_within, length-map, same_Some, all_append, all_each, all_set, all_at, mapped_from, Messages, Step, PlainJournal, EventsAddThis, AgentState, Chunk, Crumbed, Triggered, Asked, Turn, Answered, Given, Missed, Unread, AgentEvent, Took, Gave, after_event, PlainSettings, PlainWorkload, Sent, ClientSends, client_sends, node_sends, Queue, Chunks, Crumbs, Triggers, Asks, taken, asks_to, asks_behind, next_of, event_of, perform, NodeRun, Run, node_start, run_start, Performs, Leads, Stays, Goes}
 use Rattle.std.proofs.lemmas.Grind.{flat_map-append}
 use Rattle.std.proofs.lemmas.List.FromFn.{length-range_with_len}

@@ -11,7 +11,7 @@ use Rattle.hs_base.specs.declared.told.Group.{Group}
 use Rattle.hs_base.specs.declared.told.Why.TheVariants.{Fired, Answer}
 use Rattle.hs_coord.specs.Following.{is_of, first_of, is_newly_asked}
 use Rattle.hs_journal.specs.declared.journal.Step.TheVariants as steps
-use Rattle.hs_law_agent.specs.Laws.{claimed_by, admitted_by, shares_by, AllPass, IsPassed, AddsFew, EventsAddFew, SaysWhatItTells}
+use Rattle.hs_law_agent.specs.Laws.{claimed_by, admitted_by, AllPass, IsPassed, AddsFew, EventsAddFew, SaysWhatItTells}
 use Rattle.hs_law_agent.specs.Messages.{has_crumb, told_of, late_of}
 use Rattle.hs_base.specs.declared.limits.TheConstants.{TOKEN}
 use Rattle.hs_base.specs.Ids.{same_trace}
@@ -19,10 +19,7 @@ use Rattle.hs_pins.specs.Buckets.{level_found}
 use Rattle.hs_pins.specs.Remembered.{Tried, moments_of}
 use Rattle.hs_law_agent.specs.State.{ClaimedTrace, claim_of}
 use Rattle.hs_law_agent.specs.Stepping.{rule_of, admits, group_of}
-use Rattle.hs_law_agent.specs.Turning.{costs_of, shares_after}
-use Rattle.hs_sched.specs.declared.share.Share.{Share}
-use Rattle.hs_sched.specs.Turns.{shares_of}
-use Rattle.hs_sched.specs.Visits.{visited}
+use Rattle.hs_law_journal.proofs.Shares.{AreOfRules, shares_start, shares_event}
 use Rattle.hs_law_journal.proofs.Sums.{sum_to, sum_le, sum_lt}
 
 -- ---- tests
@@ -40,23 +37,6 @@ triggers_in clients log = sum_to (λ c. taken (Triggers c) log) clients
 
 abbrev AllTold : (Group → Bool) → List Told → Type 0
 AllTold test said = AllByRecursion (λ (told : Told). test told.group ≡ true) said
-
--- shares of these rules
-abbrev pub AreOfRules : List Share → List TriggerRule → Type 0
-AreOfRules [] [] = Unit {0}
-AreOfRules (share ∷ shares) (rule ∷ rules) = (share.trigger ≡ rule.id) × (share.weight ≡ rule.weight) × AreOfRules shares rules
-AreOfRules [] (rule ∷ rules) = ⊥
-AreOfRules (share ∷ shares) [] = ⊥
-
-shares_start : (rules : List TriggerRule) → AreOfRules (shares_of rules) rules
-shares_start [] = tt
-shares_start (rule ∷ rules) = (refl, refl, shares_start rules)
-
-shares_kept : (f : Share → Share) → ((share : Share) → (f share).trigger ≡ share.trigger) → ((share : Share) → (f share).weight ≡ share.weight) → (shares : List Share) (rules : List TriggerRule) → AreOfRules shares rules → AreOfRules (map f shares) rules
-shares_kept f ids weights [] [] h = tt
-shares_kept f ids weights (share ∷ shares) (rule ∷ rules) h = (ids share ∙ h.0, weights share ∙ h.1, shares_kept f ids weights shares rules h.2)
-shares_kept f ids weights [] (rule ∷ rules) h = absurd h
-shares_kept f ids weights (share ∷ shares) [] h = absurd h
 
 -- ---- what an event says and claims
 
@@ -329,20 +309,6 @@ module _ (add : EventsAddFew) (this : EventsAddThis) (says : StepsSayWhatTheyTel
   admits_more node state (Took input) = let more = (add settings node state).admitted input in omega (arith, more)
   admits_more node state (Gave answer) = let more = (add settings node state).counted answer in omega (arith, more)
 
-  shares_after_kept : (state : AgentState) → AreOfRules state.shares settings.triggers → AreOfRules (shares_after settings state) settings.triggers
-  shares_after_kept state h = shares_kept (λ share. visited settings.size share (costs_of state share.trigger.0)) (λ share. refl) (λ share. refl) state.shares settings.triggers h
-
-  shares_event : (node : ℕ) (state : AgentState) (event : AgentEvent) → AreOfRules state.shares settings.triggers → AreOfRules (after_event settings node state event).shares settings.triggers
-  shares_event node state (Took input) h = subst (λ (shares : List Share). AreOfRules shares settings.triggers) (sym ((add settings node state).shares input)) (by_input input)
-    where
-      by_input : (input : Input) → AreOfRules (shares_by settings state input) settings.triggers
-      by_input (Chunk client sheet) = h
-      by_input (Crumbed client crumb) = h
-      by_input (Triggered client trigger) = h
-      by_input (Asked ask) = h
-      by_input Turn = shares_after_kept state h
-  shares_event node state (Gave answer) h = subst (λ (shares : List Share). AreOfRules shares settings.triggers) (sym ((add settings node state).shared answer)) h
-
   -- a trigger that is admitted makes a group that is known then
   new_known : (nodes : List NodeRun) (place : ℕ) (run : NodeRun) (trigger : Trigger) → slice_get nodes place ≡ Some run → run.node ≡ place → admits settings run.state.tried trigger ≡ true → (after : List NodeRun)
       → run.state.admitted < admitted_at after place → is_known settings after (group_of run.node run.state trigger).group ≡ true
@@ -399,7 +365,7 @@ module _ (add : EventsAddFew) (this : EventsAddThis) (says : StepsSayWhatTheyTel
               claims = p.claims;
               said = p.said;
               few = admits_few run.node (length run.sends) run.state event (event_client run r.heard s.step event s.met) speaks.few;
-              shares = shares_event run.node run.state event speaks.shares;
+              shares = shares_event add settings run.node run.state speaks.shares event;
             }));
         heard = heard;
       }

@@ -1,5 +1,5 @@
 -- What holds of any journal that is followed: of each node the coordinator has heard a front of what it said.
-use Rattle.std.proofs.Common.{◌≡◌, ◌⊎◌, inl, inr, ℕ, zero, suc, ◌+◌, ◌<◌, Bool, true, false, cond, List, [], ◌∷◌, ◌++◌, length, refl, sym, ap, subst, ◌∙◌, Option, Some, None, arith, map, filter, option_map, slice_get, nat_eq, eqb-true, set, length-set, append-nil}
+use Rattle.std.proofs.Common.{◌≡◌, ◌⊎◌, inl, inr, ℕ, zero, suc, ◌+◌, ◌<◌, Bool, true, false, cond, List, [], ◌∷◌, ◌++◌, length, refl, sym, ap, subst, ◌∙◌, Option, Some, None, arith, map, filter, option_map, slice_get, nat_eq, eqb-true, length-set, append-nil}
 use Rattle.hs_law_journal.proofs.Prelude.{AllByRecursion, range_with_len, option_and_then, option_to_list, count_by, length-map, map-append, filter-append, slice_get-map, slice_get_within, same_Some, all_append, mapped_from, NodeId, Told, Message, Messages, message, PlainJournal, StepsSayWhatTheyTell, AgentState, AgentEvent, Took, Gave, told_by, after_event, PlainSettings, PlainWorkload, is_from, NodeRun, Run, node_start, run_start, message_of, Performs, Leads, Stays, Goes}
 use Rattle.std.proofs.lemmas.List.FromFn.{length-range_with_len}
 use Rattle.std.proofs.lemmas.List.Sums.{length-filter}

@@ -1,6 +1,8 @@
--- A log notes each event of its agent, so it has as many steps of a queue as items of it were taken.
-use Rattle.std.proofs.Common.{◌≡◌, ℕ, ◌+◌, Bool, true, false, cond, List, [], ◌∷◌, ◌++◌, length, nat_eq, append-nil, append_assoc, length-append, refl, sym, ap, ◌∙◌, arith}
+-- A log notes each event of its agent, so it has as many steps of a queue as items of it were taken. The chunks that an agent took are those
+-- that its events brought.
+use Rattle.std.proofs.Common.{◌≡◌, ℕ, Bool, true, false, cond, List, [], ◌∷◌, ◌++◌, length, nat_eq, append-nil, append_assoc, length-append, refl, sym, ap, ◌∙◌, arith}
 use Rattle.hs_law_journal.proofs.Prelude.{flat_map, sum_by-cons, one_if, Step, EventsAddThis, noted_as, AgentState, AgentEvent, Took, Gave, Chunk, Crumbed, Triggered, Asked, Turn, Given, Missed, Unread, after_event, PlainSettings, Queue, Chunks, Crumbs, Triggers, Asks, takes, taken}
+use Rattle.hs_law_agent.specs.Laws.{brought_by, sheets_of}
 use Rattle.hs_law_agent.specs.State.{start}
 use Rattle.hs_law_agent.specs.Stepping.{after, after_from}
 use Rattle.hs_law_journal.specs.Doings.{steps_of, chunk_in, crumb_in, trigger_in, ask_in, chunks_in, crumbs_in, triggers_in, asks_in}
@@ -16,6 +18,18 @@ log_on adds settings node (event ∷ events) state =
 
 pub own_log : EventsAddThis → (settings : PlainSettings) (node : ℕ) (events : List AgentEvent) → (after settings node events).log ≡ steps_of events
 own_log adds settings node events = log_on adds settings node events (start settings)
+
+-- ---- chunks
+
+pub sheets_on : EventsAddThis → (settings : PlainSettings) (node : ℕ) (events : List AgentEvent) (state : AgentState) → sheets_of (after_from settings node state events).taken ≡ sheets_of state.taken ++ flat_map brought_by events
+sheets_on adds settings node [] state = sym (append-nil (sheets_of state.taken))
+sheets_on adds settings node (event ∷ events) state =
+    sheets_on adds settings node events (after_event settings node state event)
+    ∙ ap (λ sheets. sheets ++ flat_map brought_by events) ((adds settings node state).chunks event)
+    ∙ append_assoc (sheets_of state.taken) (brought_by event) (flat_map brought_by events)
+
+pub sheets_taken : EventsAddThis → (settings : PlainSettings) (node : ℕ) (events : List AgentEvent) → sheets_of (after settings node events).taken ≡ flat_map brought_by events
+sheets_taken adds settings node events = sheets_on adds settings node events (start settings)
 
 -- ---- items
 

@@ -1,4 +1,5 @@
 mod Prelude
+pub mod Lists
 pub mod Histories
 pub mod Decided
 pub mod Events
@@ -17,9 +18,15 @@ pub mod Lents
 pub mod StepByStep
 pub mod Sizes
 pub mod RunsFit
+pub mod Shares
+pub mod Pinned
 pub mod Groups
 pub mod Fit
 pub mod Sums
 pub mod FewSent
 pub mod Hearing
 pub mod Telling
+pub mod Loads
+pub mod Workloads
+pub mod Joined
+pub mod Told

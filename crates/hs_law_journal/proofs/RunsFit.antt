@@ -1,12 +1,12 @@
 -- Whatever journal is followed, what is ready may be taken, and what is told leads to nodes that there are. Few triggers are admitted,
 -- since few are sent.
-use Rattle.std.proofs.Common.{◌≡◌, ℕ, zero, suc, ◌+◌, ◌*◌, ◌<◌, ◌≤◌, ◌^◌, true, List, [], ◌∷◌, length, refl, sym, ap, subst, ◌∙◌, Some, None, arith, map, option_map, slice_get, ltb}
-use Rattle.hs_law_journal.proofs.Prelude.{AllByRecursion, range_with_len, option_map_or, and_parts, length-map, slice_get-map, all_each, all_at, is_declared, Ask, PlainJournal, Step, CrumbsLeadBelow, Input, Took, PlainWorkload, ClientSends, client_sends, node_sends, operations_at, place_of, IsValid, IsOfJournal, Queue, Triggers, taken, asks_to, NodeRun, Run, run_start, event_of, Leads, sent_to, supply}
+use Rattle.std.proofs.Common.{◌≡◌, ℕ, zero, suc, ◌+◌, ◌*◌, ◌<◌, ◌≤◌, ◌^◌, true, List, [], length, refl, sym, ap, ◌∙◌, Some, None, arith, option_map, slice_get, ltb}
+use Rattle.hs_law_journal.proofs.Prelude.{range_with_len, option_map_or, and_parts, length-map, slice_get-map, all_each, all_at, is_declared, Ask, PlainJournal, CrumbsLeadBelow, Took, PlainWorkload, ClientSends, client_sends, node_sends, operations_at, place_of, IsValid, IsOfJournal, Queue, Triggers, taken, asks_to, NodeRun, Run, run_start, Leads, sent_to, supply}
 use Rattle.std.proofs.lemmas.List.FromFn.{length-range_with_len}
 use Rattle.hs_lists.proofs.Ranges.{range_at}
 use Rattle.hs_base.specs.declared.limits.TheConstants.{MAX_OPERATIONS}
 use Rattle.hs_workload.specs.declared.word.Setting.TheVariants as settings
-use Rattle.hs_law_journal.specs.Fitting.{Fits, RunsFit}
+use Rattle.hs_law_journal.specs.Fitting.{RunsFit}
 use Rattle.hs_law_journal.specs.Known.{Known}
 use Rattle.hs_law_journal.proofs.FewSent.{sends_few}
 use Rattle.hs_law_journal.proofs.Sums.{sum_to}

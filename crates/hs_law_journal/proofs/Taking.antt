@@ -1,18 +1,16 @@
 -- What was taken of a client is a front of what it sent, whose pages rise.
-use Rattle.std.proofs.Common.{◌≡◌, ℕ, zero, suc, ◌+◌, ◌<◌, ◌≤◌, Bool, true, false, cond, List, [], ◌∷◌, ◌++◌, length, take, refl, sym, ap, subst, ◌∙◌, Option, Some, None, arith, map, filter, option_map, slice_get, nat_eq, eqb, eq-eqb, append-nil, append_assoc}
-use Rattle.hs_law_journal.proofs.Prelude.{AllByRecursion, range_with_len, option_map_or, filter-append, slice_get-map, all_each, mapped_from, ClientId, Messages, Draw, PlainJournal, EventsAddThis, AgentState, AgentEvent, Took, Gave, Chunk, Crumbed, Triggered, Asked, Turn, after_event, PlainSettings, PlainWorkload, drawn_from, Sent, ClientSends, client_sends, node_sends, sent_chunks, operations_at, draws_at, place_of, TimedPage, timed_pages, Sheet, Chunks, taken, NodeRun, Run, run_start, Leads}
+use Rattle.std.proofs.Common.{◌≡◌, ℕ, zero, suc, ◌+◌, ◌<◌, ◌≤◌, Bool, true, false, cond, List, [], ◌∷◌, ◌++◌, length, take, refl, sym, ap, subst, ◌∙◌, Option, Some, None, arith, map, filter, option_map, slice_get, nat_eq, eqb, eq-eqb}
+use Rattle.hs_law_journal.proofs.Prelude.{AllByRecursion, flat_map, range_with_len, option_map_or, filter-append, slice_get-map, all_each, mapped_from, ClientId, Messages, Draw, PlainJournal, EventsAddThis, AgentState, AgentEvent, Took, Gave, Chunk, Crumbed, Triggered, Asked, Turn, PlainWorkload, drawn_from, Sent, ClientSends, client_sends, node_sends, sent_chunks, operations_at, draws_at, place_of, TimedPage, timed_pages, Sheet, Chunks, taken, NodeRun}
 use Rattle.std.proofs.Math.Seq.{take-append_seam}
 use Rattle.hs_lists.proofs.Alls.{all_take, all_front, all_back}
 use Rattle.hs_lists.proofs.Numbers.{nat_eq_itself}
 use Rattle.hs_lists.proofs.Ranges.{range_found}
 use Rattle.hs_journal.specs.declared.journal.Draw.TheVariants.{Got, Empty}
 use Rattle.hs_law_agent.specs.Laws.{PagesRise, sheets_of, brought_by}
-use Rattle.hs_law_agent.specs.State.{start}
-use Rattle.hs_law_agent.specs.Stepping.{after_from}
 use Rattle.hs_law_journal.specs.Doings.{chunk_in, chunks_in}
 use Rattle.hs_law_journal.specs.Taking.{is_by, sheets_sent, TakesInOrder, ChunksAreTakenInOrder, TakenPagesRise}
 use Rattle.hs_law_journal.proofs.Fronts.{HasFronts, log_is, all_fronts}
-use Rattle.hs_law_journal.proofs.ItemsTaken.{taken_chunks}
+use Rattle.hs_law_journal.proofs.ItemsTaken.{sheets_taken, taken_chunks}
 
 -- ---- what a client sends
 
@@ -93,7 +91,7 @@ abbrev IsOwnSheet : ℕ → Sheet → Type 0
 IsOwnSheet client sheet = sheet.header.client.number ≡ client
 
 -- of an event that takes a chunk, the page is of the client
-abbrev BringsOwn : AgentEvent → Type 0
+abbrev pub BringsOwn : AgentEvent → Type 0
 BringsOwn (Took (Chunk client sheet)) = sheet.header.client.number ≡ client
 BringsOwn _ = Unit {0}
 
@@ -121,15 +119,13 @@ brings client (Took (Asked ask)) own = refl
 brings client (Took Turn) own = refl
 brings client (Gave answer) own = refl
 
-module _ (adds : EventsAddThis) (settings : PlainSettings) (node client : ℕ) where
-  took_from : (events : List AgentEvent) (state : AgentState) → AllByRecursion BringsOwn events
-      → filter (is_by client) (sheets_of (after_from settings node state events).taken) ≡ filter (is_by client) (sheets_of state.taken) ++ chunks_in client events
-  took_from [] state own = sym (append-nil (filter (is_by client) (sheets_of state.taken)))
-  took_from (event ∷ events) state own =
-      took_from events (after_event settings node state event) own.1
-      ∙ ap (λ (sheets : List Sheet). filter (is_by client) sheets ++ chunks_in client events) ((adds settings node state).chunks event)
-      ∙ ap (λ (front : List Sheet). front ++ chunks_in client events) (filter-append (is_by client) (sheets_of state.taken) (brought_by event) ∙ ap (λ (last : List Sheet). filter (is_by client) (sheets_of state.taken) ++ last) (brings client event own.0))
-      ∙ append_assoc (filter (is_by client) (sheets_of state.taken)) (chunk_in client event) (chunks_in client events)
+-- what all such events bring of a client
+pub chunks_by : (client : ℕ) (events : List AgentEvent) → AllByRecursion BringsOwn events → filter (is_by client) (flat_map brought_by events) ≡ chunks_in client events
+chunks_by client [] own = refl
+chunks_by client (event ∷ events) own =
+    filter-append (is_by client) (brought_by event) (flat_map brought_by events)
+    ∙ ap (λ (front : List Sheet). front ++ filter (is_by client) (flat_map brought_by events)) (brings client event own.0)
+    ∙ ap (λ (rest : List Sheet). chunk_in client event ++ rest) (chunks_by client events own.1)
 
 module _ (W : PlainWorkload) (J : PlainJournal) where
   abbrev timed_at : ℕ → ℕ → List TimedPage
@@ -170,7 +166,7 @@ module _ (W : PlainWorkload) (J : PlainJournal) where
         let front = f.chunks client in
         let own = all_own run.events (λ other. all_front (IsOwnSheet other) (chunks_in other run.events) (f.chunks other).more (subst (AllByRecursion (IsOwnSheet other)) (f.chunks other).is (own_sent run f.sends other))) in
         ap (λ (state : AgentState). filter (is_by client) (sheets_of state.taken)) f.comes
-        ∙ took_from adds W.settings run.node client run.events (start W.settings) own
+        ∙ ap (filter (is_by client)) (sheets_taken adds W.settings run.node run.events) ∙ chunks_by client run.events own
         ∙ sym (take-append_seam (chunks_in client run.events) front.more)
         ∙ ap (take (length (chunks_in client run.events))) (sym front.is)
         ∙ ap (λ (n : ℕ). take n (sheets_sent run client)) (sym (ap (taken (Chunks client)) (log_is W J adds heard run f) ∙ taken_chunks client run.events))

@@ -1,13 +1,12 @@
 -- Valid workloads are small: stamps and the numbers of groups fit with much room.
 use Rattle.std.proofs.Common.{◌≡◌, ◌⊎◌, inl, inr, ℕ, zero, suc, ◌+◌, ◌*◌, ◌<◌, ◌≤◌, ◌^◌, List, [], ◌∷◌, ◌++◌, length, sym, ap, ◌∙◌, Some, arith, map, length-append}
-use Rattle.hs_law_lockstep.proofs.Prelude.{range_with_len, option_map_or, length-map, map-append, flat_map-append, mul-add-lt, slice_get_within, MAX_OPERATIONS, ClientId, PlainJournal, PlainWorkload, ClientSends, client_sends, node_sends, draws_at, operations_at, place_of, TimedPage, timed_pages, IsValid, NodeRun, followed, IsRunnable, Known, Machine, node_at, sum_to, all_few}
-use Rattle.hs_law_lockstep.proofs.Closing.{drawn_few, size_of, all_of, sizes_are, admitted_few}
+use Rattle.hs_law_lockstep.proofs.Prelude.{ends_at, drawn_few, range_with_len, option_map_or, length-map, map-append, flat_map-append, mul-add-lt, slice_get_within, MAX_OPERATIONS, ClientId, PlainJournal, PlainWorkload, ClientSends, client_sends, node_sends, draws_at, operations_at, place_of, TimedPage, timed_pages, IsValid, NodeRun, followed, IsRunnable, Known, Machine, node_at, sum_to, all_few}
+use Rattle.hs_law_lockstep.proofs.Closing.{size_of, all_of, sizes_are, admitted_few}
 use Rattle.hs_law_lockstep.proofs.Counting.{events_few}
 use Rattle.hs_law_lockstep.proofs.Followed.{count_nodes}
 use Rattle.hs_law_lockstep.proofs.Held.{node_events, IsHeld}
 use Rattle.hs_law_lockstep.proofs.Holding.{pages_in}
 use Rattle.hs_law_lockstep.proofs.Keeping.{range_parts, own_sends}
-use Rattle.hs_law_lockstep.proofs.Shapes.{ends_at}
 use Rattle.hs_law_lockstep.proofs.Standing.{number_at}
 
 -- one of the terms is no more than the sum
@@ -83,7 +82,7 @@ module _ (k : Known) (W : PlainWorkload) (runs : IsRunnable W) (valid : IsValid 
       let ops = operations_at W place in
       let client : ClientId = record { node = i; number = c } in
       let drawn = drawn_few client 0 (timed_pages W.settings.size ops) (draws_at J place) in
-      let pages = sym (length-map (timed_pages W.settings.size ops) (λ (p : TimedPage). p.page)) ∙ ap length (k.paged W.settings.size ops (ends_at k W runs.laid W.clients place runs.laid.ends)) in
+      let pages = sym (length-map (timed_pages W.settings.size ops) (λ (p : TimedPage). p.page)) ∙ ap length (k.paged W.settings.size ops (ends_at W.clients place runs.laid.ends)) in
       omega (arith, drawn, pages)
 
   -- the events of a pool

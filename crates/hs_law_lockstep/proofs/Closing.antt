@@ -1,6 +1,6 @@
 -- Closing ends: each pass that finds something to do works something off, and there is only so much. So nothing is left over.
-use Rattle.std.proofs.Common.{◌≡◌, ◌⊎◌, inl, inr, ℕ, zero, suc, ◌+◌, ◌-◌, ◌*◌, ◌/◌, ◌<◌, ◌≤◌, min, Bool, true, false, cond, List, [], ◌∷◌, ◌++◌, length, refl, sym, ap, subst, ◌∙◌, Option, Some, None, arith, map, fold, filter, option_map, slice_get, unwrap_or, count_by, eq-eqb, ltb, lt-ltb, ltb-true}
-use Rattle.hs_law_lockstep.proofs.Prelude.{AllByRecursion, range_with_len, option_map_or, both_true, suc-mul, and_parts, length-map, length-range_with_len, mul-add-lt, slice_get-map, slice_get_within, same_Some, filter_few, all_by_place, all_each, all_at, count_append, list_all_from, range_at, ClientId, MIN_SIZE, MAX_TAKEN, Message, Draw, Step, pages_of, PlainWorkload, DrawnPage, has_buffer, drawn_from, Sent, ClientSends, sent_chunks, sent_within, client_sends, node_sends, operations_at, draws_at, place_of, TimedPage, timed_pages, is_bare, rounds_of, Queue, Chunks, Crumbs, Triggers, Asks, takes, taken, asks_to, is_from, NodeRun, Run, node_start, run_start, followed, node_behind, run_behind, played, sent_to, supply, IsLaidOut, ScheduleIsBare, Known, Machine, machine_start, done_at, draws_in, pages_started, client_goes, pass_steps, passes, rounds, closing, closing_limit, lockstep, sum_to, sum_le, sum_lt, admitted_at, is_known, Speaks, get_there, IsReached, clients_go, round}
+use Rattle.std.proofs.Common.{◌≡◌, ◌⊎◌, inl, inr, ℕ, zero, suc, ◌+◌, ◌-◌, ◌*◌, ◌/◌, ◌<◌, ◌≤◌, min, Bool, true, false, cond, List, [], ◌∷◌, ◌++◌, length, refl, sym, ap, subst, ◌∙◌, Option, Some, None, arith, map, fold, option_map, slice_get, unwrap_or, count_by, eq-eqb, ltb, lt-ltb, ltb-true}
+use Rattle.hs_law_lockstep.proofs.Prelude.{ends_at, drawn_few, HaveWeights, AllByRecursion, range_with_len, option_map_or, both_true, suc-mul, and_parts, length-map, length-range_with_len, mul-add-lt, slice_get-map, slice_get_within, same_Some, all_by_place, all_each, all_at, count_append, list_all_from, range_at, ClientId, MIN_SIZE, MAX_TAKEN, Message, Step, pages_of, PlainWorkload, Sent, ClientSends, sent_within, client_sends, node_sends, operations_at, draws_at, place_of, TimedPage, timed_pages, is_bare, rounds_of, Queue, Chunks, Crumbs, Triggers, Asks, takes, taken, asks_to, is_from, NodeRun, Run, node_start, run_start, followed, node_behind, run_behind, played, sent_to, supply, IsLaidOut, ScheduleIsBare, Known, Machine, machine_start, done_at, draws_in, pages_started, client_goes, pass_steps, passes, rounds, closing, closing_limit, lockstep, sum_to, sum_le, sum_lt, admitted_at, is_known, Speaks, get_there, IsReached, clients_go, round}
 use Rattle.std.specs.Prelude.{sum_by}
 use Rattle.std.proofs.lemmas.List.Sums.{sum_by-cons}
 use Rattle.hs_law_journal.specs.Ends.{took_all, is_left_bare}
@@ -11,16 +11,15 @@ use Rattle.hs_law_lockstep.proofs.Followed.{number_is, count_nodes, fits, draws_
 use Rattle.hs_law_journal.proofs.Groups.{triggers_in}
 use Rattle.hs_law_lockstep.proofs.Items.{IsWithin, timely_at, crumbs_within, triggers_within, chunks_all, drawn_all, in_time, chunks_taken, crumbs_taken, triggers_taken, asks_taken}
 use Rattle.hs_law_lockstep.proofs.Takes.{gives}
-use Rattle.hs_law_lockstep.proofs.Pins.{HaveWeights}
 use Rattle.hs_law_lockstep.proofs.Progress.{IsWorked, pass_works, spoken}
 use Rattle.hs_law_lockstep.proofs.Hears.{more, heard_more, heard_now}
 use Rattle.hs_law_lockstep.proofs.PassFrom.{PassFrom, pass_from}
-use Rattle.hs_law_lockstep.proofs.Shapes.{all_covered, begins, ends_at, rounds_go}
+use Rattle.hs_law_lockstep.proofs.Shapes.{all_covered, begins, rounds_go}
 use Rattle.hs_law_lockstep.proofs.Standing as standing
 use Rattle.hs_law_lockstep.proofs.Standing.{kept}
 use Rattle.hs_law_lockstep.proofs.Keeping.{own_sends, Keeps}
 use Rattle.hs_law_lockstep.proofs.Working.{of_client, work, load}
-use Rattle.hs_law_journal.proofs.FewSent.{sends_few}
+use Rattle.hs_law_journal.proofs.FewSent.{sends_few, chunks_few}
 
 -- ---- sums
 
@@ -73,19 +72,6 @@ sum_list {X = X} f d front (x ∷ xs) =
 
     unshift : (i : ℕ) → f (unwrap_or (slice_get xs i) d) ≤ f (unwrap_or (slice_get (x ∷ xs) (1 + i)) d)
     unshift i = let same = moved i in omega (arith, same)
-
--- ---- how much a client sends
-
-pub drawn_few : (client : ClientId) (k : ℕ) (pages : List TimedPage) (draws : List Draw) → length (drawn_from client k pages draws) ≤ length pages
-drawn_few client k [] draws = omega arith
-drawn_few client k (page ∷ pages) [] = omega arith
-drawn_few client k (page ∷ pages) (draw ∷ draws) = let rest = drawn_few client (k + 1) pages draws in omega (arith, rest)
-
-chunks_few : (drawn : List DrawnPage) → length (sent_chunks drawn) ≤ length drawn
-chunks_few drawn =
-    let kept = filter_few (λ (d : DrawnPage). has_buffer d.draw) drawn in
-    let same : length (sent_chunks drawn) ≡ length (filter (λ (d : DrawnPage). has_buffer d.draw) drawn) = length-map (filter (λ (d : DrawnPage). has_buffer d.draw) drawn) _ in
-    omega (arith, kept, same)
 
 -- ---- what was not taken
 
@@ -453,7 +439,7 @@ module _ (k : Known) (W : PlainWorkload) (laid : IsLaidOut W) (least : MIN_SIZE 
         let client : ClientId = record { node = i; number = c } in
         let chunks = chunks_few (client_sends W m.journal i c).drawn in
         let drawn = drawn_few client 0 (timed_pages W.settings.size ops) (draws_at m.journal place) in
-        let pages = sym (length-map (timed_pages W.settings.size ops) (λ (p : TimedPage). p.page)) ∙ ap length (k.paged W.settings.size ops (ends_at k W laid W.clients place laid.ends)) in
+        let pages = sym (length-map (timed_pages W.settings.size ops) (λ (p : TimedPage). p.page)) ∙ ap length (k.paged W.settings.size ops (ends_at W.clients place laid.ends)) in
         let others = sends_few W.settings.autos [] 0 None ops in
         omega (arith, chunks, drawn, pages, others)
 

@@ -1,19 +1,17 @@
 -- The schedule's agents keep pace with what is sent and asked, and the coordinator with what is said.
 use Rattle.std.proofs.Common.{◌≡◌, ℕ, zero, suc, ◌+◌, ◌-◌, ◌*◌, ◌/◌, ◌<◌, ◌≤◌, min, Bool, true, false, cond, List, [], ◌∷◌, ◌++◌, length, fold, refl, sym, ap, subst, ◌∙◌, Some, arith, slice_get, count_by, nat_lt, take, drop, set, unwrap_or, append-nil, append_assoc, take-append-drop, length-take}
-use Rattle.hs_law_lockstep.proofs.Prelude.{flat_map, range_with_len, map-append, ClientId, MAX_TAKEN, Messages, Draw, PlainJournal, noted_as, AgentState, AgentEvent, pages_of, Operation, PlainWorkload, drawn_pages, Sent, ClientSends, client_sends, sent_within, sent_chunks, operations_at, draws_at, place_of, IsValid, rounds_of, Queue, Chunks, Crumbs, Triggers, Asks, takes, taken, asks_to, is_from, followed, IsRunnable, Machine, done_at, draws_in, client_goes, clients_go, count_append, Known, pass_steps}
+use Rattle.hs_law_lockstep.proofs.Prelude.{ends_at, place_low, flat_map, range_with_len, map-append, ClientId, MAX_TAKEN, Messages, Draw, PlainJournal, noted_as, AgentState, AgentEvent, pages_of, Operation, PlainWorkload, drawn_pages, Sent, ClientSends, client_sends, sent_within, sent_chunks, operations_at, draws_at, place_of, IsValid, rounds_of, Queue, Chunks, Crumbs, Triggers, Asks, takes, taken, asks_to, is_from, followed, IsRunnable, Machine, done_at, draws_in, client_goes, clients_go, count_append, Known, pass_steps}
 use Rattle.hs_law_journal.proofs.ItemsTaken.{taken_chunks, taken_crumbs, taken_triggers, taken_asks, own_log}
 use Rattle.hs_law_journal.specs.Doings.{events_in, steps_of, asks_in, chunk_in, crumb_in, trigger_in, ask_in, journal_of}
 use Rattle.hs_law_lockstep.proofs.Hears.{more, heard_now, heard_more}
 use Rattle.hs_law_lockstep.proofs.Items.{chunks_taken, crumbs_taken, triggers_taken, asks_taken}
 use Rattle.hs_law_lockstep.proofs.Passes.{pass_at, events_grow, gone_heard}
-use Rattle.hs_law_lockstep.proofs.Shapes.{ends_at}
 use Rattle.hs_law_lockstep.proofs.Stages.{gone_reached}
 use Rattle.hs_law_lockstep.proofs.Standing.{kept}
 use Rattle.hs_law_lockstep.proofs.Told.{heard_are, events_are, long, stands_at, state_there, said_rises, journal_is}
 use Rattle.hs_law_lockstep.specs.Parts.{next_pages}
 use Rattle.hs_law_lockstep.specs.Told.{stage, gone, events_at, heard_at, node_doings, doings_of}
 use Rattle.hs_law_run.proofs.Queues.{within_all}
-use Rattle.hs_law_run.proofs.Workloads.{place_low}
 use Rattle.hs_law_run.specs.Facts.{IsToldInRounds, TakesInPace, AsksInPace}
 use Rattle.hs_law_sends.specs.Draws.{count_started}
 use Rattle.hs_law_sends.specs.SoFar.{FirstOperationsSend, FirstChunksAreSent}
@@ -167,7 +165,7 @@ module _ (known : Known) (first_sent : FirstOperationsSend) (front_sent : FirstC
         let taken_long = length-take most ops in
         let long : length front ≡ most = omega (arith, taken_long) in
         let more = later_more W place k count below in
-        let bracketed : AreBracketed false (front ++ rest) = subst (AreBracketed false) (sym parts) (ends_at known W runs.laid W.clients place runs.laid.ends) in
+        let bracketed : AreBracketed false (front ++ rest) = subst (AreBracketed false) (sym parts) (ends_at W.clients place runs.laid.ends) in
         let w = whole known W runs.laid m (gone_reached W k) in
         let in_all = place_low W valid i client low few in
         let at = (from_at k).number in
@@ -189,7 +187,7 @@ module _ (known : Known) (first_sent : FirstOperationsSend) (front_sent : FirstC
 
     takes_all : TakesInPace W J (node_doings W count i) client
     takes_all =
-        let bracketed = ends_at known W runs.laid W.clients place runs.laid.ends in
+        let bracketed = ends_at W.clients place runs.laid.ends in
         record {
           chunks =
               in_rounds (Chunks client) (chunk_in client) (λ (s : ClientSends). s.chunks) (taken_chunks client)

@@ -1,6 +1,6 @@
 -- What each pass takes of a queue at least: what the rounds so far have put there, or 64 items.
 use Rattle.std.proofs.Common.{◌≡◌, ℕ, zero, suc, ◌+◌, ◌-◌, ◌<◌, ◌≤◌, min, Bool, true, false, cond, List, [], ◌∷◌, ◌++◌, length, refl, ap, subst, ◌∙◌, Option, Some, None, arith, map, filter, zip, slice_get, replicate, count_by, eq-eqb}
-use Rattle.hs_law_lockstep.proofs.Prelude.{AllByRecursion, flat_map, range_with_len, same_Some, one_if, count_cons, count_append, ClientId, TraceId, MAX_TAKEN, MIN_SIZE, Draw, Step, Operation, PlainWorkload, NumberedOperation, numbered_from, open_behind, DrawnPage, has_buffer, drawn_from, IsTimely, Sent, ClientSends, sheet_of, sent_chunks, sent_within, operations_at, place_of, TimedPage, timed_pages, Sheet, Queue, Chunks, Crumbs, Triggers, Asks, takes, taken, asks_to, NodeRun, followed, IsLaidOut, Known, Machine, done_at, takes_from, takes_of, takes_all, pass_steps}
+use Rattle.hs_law_lockstep.proofs.Prelude.{ends_at, AllByRecursion, flat_map, range_with_len, same_Some, one_if, count_cons, count_append, ClientId, TraceId, MAX_TAKEN, MIN_SIZE, Draw, Step, Operation, PlainWorkload, NumberedOperation, numbered_from, open_behind, DrawnPage, has_buffer, drawn_from, IsTimely, Sent, ClientSends, sheet_of, sent_chunks, sent_within, operations_at, place_of, TimedPage, timed_pages, Sheet, Queue, Chunks, Crumbs, Triggers, Asks, takes, taken, asks_to, NodeRun, followed, IsLaidOut, Known, Machine, done_at, takes_from, takes_of, takes_all, pass_steps}
 use Rattle.hs_lists.proofs.Places.{zipped_at}
 use Rattle.hs_base.specs.declared.settings.AutoRule.{AutoRule}
 use Rattle.hs_base.specs.declared.told.Crumb.{Crumb}
@@ -8,7 +8,6 @@ use Rattle.hs_base.specs.declared.told.Trigger.{Trigger}
 use Rattle.hs_journal.specs.declared.journal.Step.TheVariants as steps
 use Rattle.hs_law_sends.specs.Sending.{crumb_in, trigger_in, triggers_behind}
 use Rattle.hs_law_lockstep.proofs.Takes.{gives}
-use Rattle.hs_law_lockstep.proofs.Shapes.{ends_at}
 
 -- ---- counts
 
@@ -176,4 +175,4 @@ module _ (k : Known) (W : PlainWorkload) (laid : IsLaidOut W) (least : MIN_SIZE 
   pages_at place = timed_pages W.settings.size (operations_at W place)
 
   pub timely_at : (place : ℕ) → IsTimely 0 (length (operations_at W place)) (pages_at place)
-  timely_at place = k.timely W.settings.size (operations_at W place) least (ends_at k W laid W.clients place laid.ends)
+  timely_at place = k.timely W.settings.size (operations_at W place) least (ends_at W.clients place laid.ends)

@@ -1,6 +1,6 @@
 -- Behind each pass there is a number above all draws and gives up to there, and below all later ones.
 use Rattle.std.proofs.Common.{◌≡◌, ℕ, zero, suc, ◌+◌, ◌*◌, ◌<◌, ◌≤◌, min, Bool, true, false, cond, List, [], ◌∷◌, ◌++◌, length, refl, sym, ap, subst, ◌∙◌, Some, None, arith, map, option_map, filter, slice_get, nat_lt, ltb-true, ltb-false, append-nil}
-use Rattle.hs_law_lockstep.proofs.Prelude.{AllByRecursion, cons_option, range_with_len, slice_get-map, mul-le-mul_right, ClientId, Draw, Step, PlainJournal, sheets_of, AgentEvent, PlainWorkload, DrawnPage, stamp_of, IsTimely, ClientSends, client_sends, operations_at, draws_at, place_of, TimedPage, timed_pages, IsValid, rounds_of, NodeRun, followed, StampedPoolEvent, pool_history, step_stamp, log_stamps, IsRunnable, pass_steps, agents_take, agents_give, node_at, same_Some, all_append, all_at, range_at, Known, all_by_place}
+use Rattle.hs_law_lockstep.proofs.Prelude.{ends_at, place_low, AllByRecursion, cons_option, range_with_len, slice_get-map, mul-le-mul_right, ClientId, Draw, Step, PlainJournal, sheets_of, AgentEvent, PlainWorkload, DrawnPage, stamp_of, IsTimely, ClientSends, client_sends, operations_at, draws_at, place_of, TimedPage, timed_pages, IsValid, rounds_of, NodeRun, followed, StampedPoolEvent, pool_history, step_stamp, log_stamps, IsRunnable, pass_steps, agents_take, agents_give, node_at, same_Some, all_append, all_at, range_at, Known, all_by_place}
 use Rattle.hs_law_journal.specs.Doings.{steps_of, journal_of}
 use Rattle.hs_law_journal.specs.Unreads.{round_of}
 use Rattle.hs_law_lockstep.proofs.Giving.{history_long}
@@ -8,16 +8,16 @@ use Rattle.hs_law_lockstep.proofs.Held.{node_events}
 use Rattle.hs_law_lockstep.proofs.Holding.{gives_in, at_page}
 use Rattle.hs_law_lockstep.proofs.Marks.{given, Since, then_since, taken_since}
 use Rattle.hs_law_lockstep.proofs.Passes.{run_there, pass_at}
-use Rattle.hs_law_lockstep.proofs.Shapes.{ends_at, all_covered}
+use Rattle.hs_law_lockstep.proofs.Shapes.{all_covered}
 use Rattle.hs_law_lockstep.proofs.Stages.{reached, gone_reached}
 use Rattle.hs_law_lockstep.proofs.Standing.{held_at}
 use Rattle.hs_law_lockstep.proofs.Takes.{before_turn, all_takes}
 use Rattle.hs_law_lockstep.proofs.Told.{added_are, long, journal_is}
 use Rattle.hs_law_lockstep.specs.Told.{stage, gone, events_at, node_doings, doings_of}
-use Rattle.hs_law_run.proofs.Grown.{unmapped_at}
+use Rattle.hs_law_journal.proofs.Joined.{unmapped_at}
 use Rattle.hs_law_run.proofs.Lists.{get_low, get_high}
 use Rattle.hs_law_run.proofs.Rounds.{IsFit, starts_before, IsSplitAt, split_at, all_start, IsPageAt, page_at, page_of_draw, all_pages_at, round_within, round_behind}
-use Rattle.hs_law_run.proofs.Workloads.{fit_of, place_low}
+use Rattle.hs_law_run.proofs.Workloads.{fit_of}
 use Rattle.hs_law_run.specs.Facts.{MeetsInRounds}
 use Rattle.hs_law_run.specs.Stories.{added}
 use Rattle.std.proofs.lemmas.List.Elements.{filter_map-append}
@@ -74,7 +74,7 @@ module _ (known : Known) (W : PlainWorkload) (valid : IsValid W) (count : ℕ) (
     ends = length (operations_at W (place_of W.settings.clients i client))
 
     timely : IsTimely 0 ends pages
-    timely = known.timely W.settings.size (operations_at W place) runs.size (ends_at known W runs.laid W.clients place runs.laid.ends)
+    timely = known.timely W.settings.size (operations_at W place) runs.size (ends_at W.clients place runs.laid.ends)
 
     abbrev draws_by : ℕ → List Draw
     draws_by p = draws_at (stage W p).journal (place_of W.settings.clients i client)

@@ -13,7 +13,7 @@ use Rattle.hs_law_lockstep.proofs.Passes.{pass_at, given_heard, offers, is_pass,
 use Rattle.hs_law_lockstep.proofs.Told.{heard_are, all_heard_are, events_are, all_events_are, added_are, long, StandsAt, stands_at, state_there, last_there, journal_is}
 use Rattle.hs_law_lockstep.specs.Told.{stage, gone, events_at, heard_at, node_doings, doings_of}
 use Rattle.hs_law_journal.proofs.ItemsTaken.{taken_asks, own_log}
-use Rattle.hs_law_run.proofs.Grown.{mapped_long, unmapped_at, all_mapped_range}
+use Rattle.hs_law_journal.proofs.Joined.{mapped_long, unmapped_at, all_mapped_range}
 use Rattle.hs_law_run.specs.Facts.{TookFrontOf, IsPlayable, ArePlayable, HavePasses, HaveRounds, EndsPasses, HaveOffers}
 use Rattle.hs_law_run.specs.Stories.{added}
 use Rattle.hs_law_sends.specs.OneMore.{items_of}

@@ -15,9 +15,12 @@ pub use Rattle.hs_law_agent.specs.Standings.{stands, Taken}
 pub use Rattle.hs_law_agent.specs.State.{AgentState, GivenPlace}
 pub use Rattle.hs_law_agent.specs.Stepping.{after, after_event, AgentEvent, Asked, Chunk, Crumbed, Gave, Input, Took, Triggered, Turn}
 pub use Rattle.hs_law_journal.proofs.Groups.{admitted_at, is_known, Speaks}
+pub use Rattle.hs_law_journal.proofs.FewSent.{drawn_few}
+pub use Rattle.hs_law_journal.proofs.Shares.{HaveWeights}
 pub use Rattle.hs_law_journal.proofs.Sizes.{all_few}
 pub use Rattle.hs_law_journal.proofs.Sums.{sum_le, sum_lt, sum_to}
 pub use Rattle.hs_law_journal.proofs.Supplied.{same_supply}
+pub use Rattle.hs_law_journal.proofs.Workloads.{ends_at, place_low}
 pub use Rattle.hs_law_journal.specs.Ends.{is_bare, rounds_for, rounds_of}
 pub use Rattle.hs_law_journal.specs.Extending.{IsOfJournal, node_behind, run_behind, StepsAreNoted}
 pub use Rattle.hs_law_journal.specs.Following.{ask_by, Asks, asks_behind, asks_to, Chunks, Crumbs, event_of, followed, hear, is_from, log_at, message_of, next_of, node_start, NodeRun, perform, Queue, Run, run_start, step_node, step_of, taken, takes, Triggers}
@@ -43,8 +46,7 @@ pub use Rattle.hs_lists.proofs.Alls.{all_append, all_at, all_by_place, all_each,
 pub use Rattle.hs_lists.proofs.Counts.{count_append, count_cons, one_if}
 pub use Rattle.hs_lists.proofs.Filters.{filter_all, filter_few}
 pub use Rattle.hs_lists.proofs.Options.{option_unmap}
-pub use Rattle.hs_lists.proofs.Numbers.{mul_at_least}
-pub use Rattle.hs_lists.proofs.Parts.{drop_length, option_to_list_short}
+pub use Rattle.hs_lists.proofs.Parts.{drop_length}
 pub use Rattle.hs_lists.proofs.Places.{get_front, get_mid, get_there, unwrap_other, unwrap_set}
 pub use Rattle.hs_lists.proofs.Ranges.{list_all_range_below, range_at}
 pub use Rattle.hs_lists.proofs.Tests.{list_all_from}
@@ -63,5 +65,5 @@ pub use Rattle.std.proofs.lemmas.List.FromFn.{length-range_with_len}
 pub use Rattle.std.proofs.lemmas.Nat.{div-mul-add, mul-add-lt}
 pub use Rattle.std.proofs.lemmas.Option.{same_Some, slice_get-map, slice_get_within}
 pub use Rattle.std.specs.Cmp.Derive.{both_true}
-pub use Rattle.std.specs.List.{AllByRecursion, cons_option, flat_map, list_all, list_any, range_with_len}
+pub use Rattle.std.specs.List.{AllByRecursion, cons_option, flat_map, list_all, range_with_len}
 pub use Rattle.std.specs.Option.{option_and_then, option_map_or}

@@ -1,13 +1,13 @@
 -- What a pass does at each node: what the agent bears grows by what it takes at most, and where it takes nothing, a turn takes something
 -- off, if something was pinned.
 use Rattle.std.proofs.Common.{◌≡◌, ◌⊎◌, inl, inr, ℕ, ◌+◌, ◌<◌, ◌≤◌, false, List, [], ◌∷◌, length, refl, sym, ap, subst, ◌∙◌, Some, arith, slice_get, length-append}
-use Rattle.hs_law_lockstep.proofs.Prelude.{range_with_len, length-map, length-range_with_len, slice_get-map, same_Some, all_by_place, all_map, all_append, all_at, option_unmap, MIN_SIZE, Step, noted_as, CanReport, AgentState, AgentEvent, PlainWorkload, client_sends, node_sends, node_behind, NodeRun, Run, followed, event_of, perform, is_offer, pool_events, IsLaidOut, Known, Machine, pass_steps, give_steps, agents_take, agents_give, coordinator_hears, passes}
+use Rattle.hs_law_lockstep.proofs.Prelude.{HaveWeights, range_with_len, length-map, length-range_with_len, slice_get-map, same_Some, all_by_place, all_map, all_append, all_at, option_unmap, MIN_SIZE, Step, noted_as, CanReport, AgentState, AgentEvent, PlainWorkload, client_sends, node_sends, node_behind, NodeRun, Run, followed, event_of, perform, is_offer, pool_events, IsLaidOut, Known, Machine, pass_steps, give_steps, agents_take, agents_give, coordinator_hears, passes}
 use Rattle.hs_journal.specs.declared.journal.Step.TheVariants as steps
 use Rattle.hs_law_lockstep.proofs.Followed.{number_is, enough_of, left_is, steps_there, StepsThere, hear_there, IsDone}
 use Rattle.hs_law_journal.proofs.Groups.{Spoken, all_spoken}
 use Rattle.hs_law_lockstep.proofs.Held.{IsHeld}
 use Rattle.hs_law_lockstep.proofs.Keeping.{own_sends, Keeps, take_keeps_held, give_keeps_held}
-use Rattle.hs_law_lockstep.proofs.Pins.{HaveWeights, can_report}
+use Rattle.hs_law_lockstep.proofs.Pins.{reports_pinned}
 use Rattle.hs_law_lockstep.proofs.Takes.{before_turn, all_takes}
 use Rattle.hs_law_lockstep.proofs.Walks.{Walked, IsThrough, IsEmptied, takes_keep, gives_keep}
 use Rattle.hs_law_lockstep.proofs.Working.{work, load, Works, step_works, give_works}
@@ -44,7 +44,7 @@ module _ (k : Known) (W : PlainWorkload) (laid : IsLaidOut W) (least : MIN_SIZE 
         let number = number_is k W m.journal i node stands in
         let sends = own_sends k W m.journal i node stands ∙ ap (node_sends W m.journal) number in
         let speaks = all_at _ before.nodes i node (spoken m).nodes stands in
-        can_report k.places k.stands k.fit W m.journal least weights i before.nodes node held.comes held.holds sends speaks
+        reports_pinned k.places k.stands k.fit W m.journal least weights i before.nodes node held.comes held.holds sends speaks
 
     record Took (r : NodeRun) : Type 0 where
       node : NodeRun

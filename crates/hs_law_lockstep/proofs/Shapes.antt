@@ -1,12 +1,12 @@
 -- Round by round each client does its next operations, and its draws are as many as the pages that they start. After all rounds it
 -- has done all of them.
 use Rattle.std.proofs.Common.{◌≡◌, ◌⊎◌, ◌≢◌, inl, inr, ℕ, zero, suc, ◌+◌, ◌-◌, ◌*◌, ◌/◌, ◌<◌, ◌≤◌, min, max, Bool, true, false, cond, List, [], ◌∷◌, ◌++◌, length, refl, sym, ap, subst, ◌∙◌, Option, None, arith, map, filter, fold, slice_get, unwrap_or, get_or, zip, ltb, ltb-true, lt-ltb, eq-eqb, length-append, eq-zero-or-pos, eq-or-lt_of_le}
-use Rattle.hs_law_lockstep.proofs.Prelude.{AllByRecursion, flat_map, range_with_len, option_map_or, both_true, div-lt_iff_lt-mul, suc-mul, mul-le-mul_right, length-map, length-replicate, get_there, unwrap_set, unwrap_other, filter_few, filter_all, all_append, TraceId, Draw, pages_of, Operation, PlainWorkload, NumberedOperation, numbered_from, open_behind, operations_at, draws_at, TimedPage, timed_pages, length_next, rounds_for, rounds_of, NodeRun, followed, played, IsLaidOut, Known, Machine, machine_start, done_at, draws_by, draws_in, pages_started, client_goes, clients_go, pass_steps, give_steps, agents_take, passes, round, rounds, closing_limit, lockstep}
+use Rattle.hs_law_lockstep.proofs.Prelude.{ends_at, AllByRecursion, flat_map, range_with_len, option_map_or, both_true, div-lt_iff_lt-mul, suc-mul, mul-le-mul_right, length-map, length-replicate, get_there, unwrap_set, unwrap_other, filter_few, filter_all, all_append, TraceId, Draw, pages_of, Operation, PlainWorkload, NumberedOperation, numbered_from, open_behind, operations_at, draws_at, TimedPage, timed_pages, length_next, rounds_for, rounds_of, NodeRun, followed, played, IsLaidOut, Known, Machine, machine_start, done_at, draws_by, draws_in, pages_started, client_goes, clients_go, pass_steps, give_steps, agents_take, passes, round, rounds, closing_limit, lockstep}
 use Rattle.std.proofs.Math.Nat.{lt-div-mul-add}
 use Rattle.std.proofs.lemmas.List.{length-set}
 use Rattle.hs_lists.proofs.Counts.{max_at_least}
 use Rattle.hs_records.specs.Pages.{PlainPage, first_record, segment_pages}
-use Rattle.hs_records.specs.Records.{AreBracketed, Record, Segment, segments_of, record_at}
+use Rattle.hs_records.specs.Records.{Record, Segment, segments_of, record_at}
 use Rattle.hs_law_sends.specs.Timing.{timed, started_by, point_numbers, end_numbers}
 use Rattle.hs_law_journal.specs.Shape.{same_counts, has_shape}
 use Rattle.hs_law_lockstep.specs.Clauses.{ScheduleHasShape}
@@ -361,11 +361,6 @@ module _ (k : Known) (W : PlainWorkload) (laid : IsLaidOut W) where
     where
       zeroth : 0 + rounds_of W ≡ rounds_of W
       zeroth = omega arith
-
-  pub ends_at : (clients : List (List Operation)) (place : ℕ) → AllByRecursion (AreBracketed false) clients → AreBracketed false (unwrap_or (slice_get clients place) [])
-  ends_at [] place all = refl
-  ends_at (ops ∷ clients) zero all = all.0
-  ends_at (ops ∷ clients) (suc place) all = ends_at clients place all.1
 
   all_drawn : (place : ℕ) → place < count → length (draws_at (lockstep W) place) ≡ length (pages_of W.settings.size (operations_at W place))
   all_drawn place below =

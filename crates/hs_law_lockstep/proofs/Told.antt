@@ -4,6 +4,7 @@ use Rattle.hs_law_lockstep.proofs.Prelude.{range_with_len, option_map_or, NodeId
 use Rattle.hs_law_agent.specs.Laws.{StepsSayWhatTheyTell}
 use Rattle.hs_law_agent.specs.Stepping.{after_from}
 use Rattle.hs_law_journal.proofs.Heard.{said_by, event_says}
+use Rattle.hs_law_journal.proofs.Joined.{mapped_long, grown, grown_all}
 use Rattle.hs_law_journal.specs.Doings.{NodeDoings, all_events, events_in, steps_of, heard_in, state_after, last_state, all_heard, journal_of}
 use Rattle.hs_law_lockstep.proofs.Came.{added_is}
 use Rattle.hs_law_lockstep.proofs.Followed.{log_of}
@@ -11,7 +12,6 @@ use Rattle.hs_law_lockstep.proofs.Passes.{run_there, pass_at, more_at, events_gr
 use Rattle.hs_law_lockstep.proofs.Stages.{reached, shaped}
 use Rattle.hs_law_lockstep.proofs.Standing.{kept, held_at, number_at, told_is}
 use Rattle.hs_law_lockstep.specs.Told.{stage, events_at, heard_at, node_doings, doings_of}
-use Rattle.hs_law_run.proofs.Grown.{mapped_long, grown, grown_all}
 use Rattle.hs_law_journal.proofs.ItemsTaken.{own_log}
 use Rattle.hs_law_run.specs.Stories.{added}
 use Rattle.std.proofs.lemmas.Simd.{map-map}
@@ -31,10 +31,10 @@ module _ (known : Known) (W : PlainWorkload) (count : ℕ) where
       let h = heard_grows known W k in h ∙ ap (λ (more : Messages). heard_at W k ++ more) (sym (added_is (heard_at W k) (heard_at W (suc k)) (more_at known W k) h))
 
   pub heard_are : (k : ℕ) → k ≤ count → heard_in (doings_of W count) k ≡ heard_at W k
-  heard_are k low = grown (heard_at W) count (heard_none known W) heard_add k low
+  heard_are k low = grown (heard_at W) (added (heard_at W)) count (heard_none known W) heard_add k low
 
   pub all_heard_are : all_heard (doings_of W count) ≡ heard_at W count
-  all_heard_are = grown_all (heard_at W) count (heard_none known W) heard_add
+  all_heard_are = grown_all (heard_at W) (added (heard_at W)) count (heard_none known W) heard_add
 
   module _ (i : ℕ) (low : i < W.settings.nodes) where
     pub added_are : (k : ℕ) → added (events_at W i) k ≡ (pass_at known W k i low).from.new
@@ -44,10 +44,10 @@ module _ (known : Known) (W : PlainWorkload) (count : ℕ) where
     events_add k few = events_grow known W k i low ∙ ap (λ (new : List AgentEvent). events_at W i k ++ new) (sym (added_are k))
 
     pub events_are : (k : ℕ) → k ≤ count → events_in (node_doings W count i) k ≡ events_at W i k
-    events_are k few = grown (events_at W i) count (starts_bare known W i) events_add k few
+    events_are k few = grown (events_at W i) (added (events_at W i)) count (starts_bare known W i) events_add k few
 
     pub all_events_are : all_events (node_doings W count i) ≡ events_at W i count
-    all_events_are = grown_all (events_at W i) count (starts_bare known W i) events_add
+    all_events_are = grown_all (events_at W i) (added (events_at W i)) count (starts_bare known W i) events_add
 
     pub long : length (node_doings W count i).passes ≡ count
     long = mapped_long (added (events_at W i)) count

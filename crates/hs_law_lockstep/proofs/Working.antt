@@ -1,13 +1,13 @@
 -- What a pass works off at a node: with each item that the agent takes it bears one thing more at most, and a turn takes something off
 -- where something is pinned.
 use Rattle.std.proofs.Common.{◌≡◌, ◌⊎◌, inl, inr, ℕ, zero, suc, ◌+◌, ◌<◌, ◌≤◌, true, false, List, [], ◌∷◌, ◌++◌, length, refl, sym, ap, subst, ◌∙◌, Option, Some, None, arith, option_map, slice_get, eq-eqb, length-append}
-use Rattle.hs_law_lockstep.proofs.Prelude.{option_to_list_short, option_and_then, same_Some, option_unmap, one_if, count_cons, count_append, Messages, Step, brought_by, noted_as, EventsAddThis, CanReport, AgentState, Input, Chunk, Crumbed, Triggered, Asked, Turn, AgentEvent, Took, Gave, after_event, PlainSettings, ClientSends, Queue, Chunks, Crumbs, Triggers, Asks, takes, taken, asks_to, NodeRun, next_of, event_of, perform, is_offer, sum_to, sum_le, sum_lt}
+use Rattle.hs_law_lockstep.proofs.Prelude.{option_and_then, same_Some, option_unmap, one_if, count_cons, count_append, Messages, Step, noted_as, EventsAddThis, CanReport, AgentState, Input, Chunk, Crumbed, Triggered, Asked, Turn, AgentEvent, Took, Gave, after_event, PlainSettings, ClientSends, Queue, Chunks, Crumbs, Triggers, Asks, takes, taken, asks_to, NodeRun, next_of, event_of, perform, is_offer, sum_to, sum_le, sum_lt}
 use Rattle.std.specs.Option.{option_to_list}
-use Rattle.hs_base.specs.declared.told.Told.{Told}
 use Rattle.hs_journal.specs.declared.journal.Step.TheVariants as steps
 use Rattle.hs_law_agent.specs.Laws.{borne, EventsAddFew, StepsSayWhatTheyTell, TurnsReport}
 use Rattle.hs_law_agent.specs.Stepping.{told_by}
 use Rattle.hs_law_agent.specs.Stepping as model
+use Rattle.hs_law_journal.proofs.Loads.{load_in, load_input, weight}
 
 -- ---- what is taken
 
@@ -21,7 +21,7 @@ work clients log = sum_to (of_client log) clients + taken Asks log
 
 -- what an agent bears and said
 abbrev pub load : NodeRun → ℕ
-load run = borne run.state + length run.state.said
+load run = load_in run.state
 
 module _ (clients : ℕ) (log : List Step) where
   taken_one : (queue : Queue) (step : Step) → taken queue (log ++ step ∷ []) ≡ taken queue log + one_if (takes queue step)
@@ -85,32 +85,6 @@ module _ (clients : ℕ) (log : List Step) where
 module _ (add : EventsAddFew) (this : EventsAddThis) (says : StepsSayWhatTheyTell) (reports : TurnsReport) (settings : PlainSettings) (clients : ℕ) (start : NodeRun)
     (can : (place : ℕ) (places : List ℕ) → start.state.pinned ≡ place ∷ places → CanReport settings start.state)
   where
-    -- what an input adds
-    abbrev weight : Input → ℕ
-    weight (Chunk client sheet) = 1
-    weight (Crumbed client crumb) = 1
-    weight (Triggered client trigger) = 1
-    weight (Asked ask) = 1
-    weight Turn = 0
-
-    load_input : (node : ℕ) (state : AgentState) (input : Input)
-        → borne (after_event settings node state (Took input)) + length (after_event settings node state (Took input)).said ≤ borne state + length state.said + weight input
-    load_input node state input =
-        let more = (add settings node state).load input in
-        let said = ap length ((says settings node state).inputs input) in
-        let both = length-append state.said (option_to_list (told_by settings node state input)) in
-        by_input input more said both
-      where
-        by_input : (input : Input) → borne (after_event settings node state (Took input)) ≤ borne state + length (brought_by (Took input))
-            → length (after_event settings node state (Took input)).said ≡ length (state.said ++ option_to_list (told_by settings node state input))
-            → length (state.said ++ option_to_list (told_by settings node state input)) ≡ length state.said + length (option_to_list (told_by settings node state input))
-            → borne (after_event settings node state (Took input)) + length (after_event settings node state (Took input)).said ≤ borne state + length state.said + weight input
-        by_input (Chunk client sheet) more said both = omega (arith, more, said, both)
-        by_input (Crumbed client crumb) more said both = let few = option_to_list_short (told_by settings node state (Crumbed client crumb)) in omega (arith, more, said, both, few)
-        by_input (Triggered client trigger) more said both = let few = option_to_list_short (told_by settings node state (Triggered client trigger)) in omega (arith, more, said, both, few)
-        by_input (Asked ask) more said both = let few = option_to_list_short (told_by settings node state (Asked ask)) in omega (arith, more, said, both, few)
-        by_input Turn more said both = omega (arith, more, said, both)
-
     said_more : (node : ℕ) (state : AgentState) (input : Input) → length state.said ≤ length (after_event settings node state (Took input)).said
     said_more node state input =
         let said = ap length ((says settings node state).inputs input) in
@@ -130,7 +104,7 @@ module _ (add : EventsAddFew) (this : EventsAddThis) (says : StepsSayWhatTheyTel
     item_works : (run : NodeRun) (rest : List Step) (input : Input) → weight input ≡ 1 → work clients run.state.log < work clients (run.state.log ++ noted_as (Took input) ∷ []) → Works run → Works (perform settings rest run (Took input))
     item_works run rest input own less w =
         let log = ap (work clients) ((this settings run.node run.state).log (Took input)) in
-        let more = load_input run.node run.state input in
+        let more = load_input add says settings run.node run.state input in
         let even = w.even in
         let mono = w.mono in
         let said = said_more run.node run.state input in
@@ -146,7 +120,7 @@ module _ (add : EventsAddFew) (this : EventsAddThis) (says : StepsSayWhatTheyTel
     turn_works : (run : NodeRun) (rest : List Step) → Works run → Works (perform settings rest run (Took Turn))
     turn_works run rest w =
         let log = ap (work clients) ((this settings run.node run.state).log (Took Turn)) in
-        let more = load_input run.node run.state Turn in
+        let more = load_input add says settings run.node run.state Turn in
         let grows = work_more clients run.state.log steps.Turn in
         let even = w.even in
         let mono = w.mono in
@@ -174,7 +148,7 @@ module _ (add : EventsAddFew) (this : EventsAddThis) (says : StepsSayWhatTheyTel
             → (after_event settings run.node run.state (Took Turn) ≡ start.state) ⊎ ((start.state.pinned ≡ []) ⊎ (load (perform settings rest run (Took Turn)) < load start))
         calm_case (inl same) = inr (pinned_case start.state.pinned refl same)
         calm_case (inr (inl none)) = inr (inl none)
-        calm_case (inr (inr less)) = let more = load_input run.node run.state Turn in inr (inr (omega (arith, less, more)))
+        calm_case (inr (inr less)) = let more = load_input add says settings run.node run.state Turn in inr (inr (omega (arith, less, more)))
 
     get_low : {X : Type 0} (xs : List X) (i : ℕ) (x : X) → slice_get xs i ≡ Some x → i < length xs
     get_low [] i x h = let never : None ≡ Some x = h in absurd cc

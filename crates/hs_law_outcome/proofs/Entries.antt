@@ -6,6 +6,7 @@ use Rattle.std.proofs.lemmas.Bool.{and_cases}
 use Rattle.hs_lists.proofs.Ranges.{flat_range_alike}
 use Rattle.hs_ledger.specs.Books.{count_from}
 use Rattle.hs_records.specs.Laws.{CarryRecords}
+pub use Rattle.hs_law_journal.proofs.Workloads.{ends_at}
 
 -- what is said of the pages of a client
 abbrev pub PagesCarryTheRecords : Type 0
@@ -151,11 +152,6 @@ same_length (drawn ∷ draws) (ops ∷ clients) size zero h =
     eqb-true (length drawn) (length (pages_of size ops)) (and_parts (nat_eq (length drawn) (length (pages_of size ops))) (same_counts (map length draws) (map (λ ops. length (pages_of size ops)) clients)) h).0
 same_length (drawn ∷ draws) (ops ∷ clients) size (suc place) h =
     same_length draws clients size place (and_parts (nat_eq (length drawn) (length (pages_of size ops))) (same_counts (map length draws) (map (λ ops. length (pages_of size ops)) clients)) h).1
-
-pub ends_at : (clients : List (List Operation)) (place : ℕ) → AllByRecursion (AreBracketed false) clients → AreBracketed false (unwrap_or (slice_get clients place) [])
-ends_at [] place all = refl
-ends_at (ops ∷ clients) zero all = all.0
-ends_at (ops ∷ clients) (suc place) all = ends_at clients place all.1
 
 pub shape_counts : (W : PlainWorkload) (J : PlainJournal) → has_shape (played W J) ≡ true
     → same_counts (map length J.draws) (map (λ ops. length (pages_of W.settings.size ops)) W.clients) ≡ true

@@ -5,22 +5,22 @@ use Rattle.hs_law_sends.specs.Sending.{sends_of}
 use Rattle.hs_law_run.specs.Facts.{TookAllOf}
 use Rattle.hs_law_run.specs.Stories.{state_by, IsNodeStory}
 use Rattle.hs_law_run.specs.Stories as stories
+use Rattle.hs_law_journal.proofs.Joined.{mapped_long, unmapped_at, grown, grown_all, grown_beyond}
+use Rattle.hs_law_journal.proofs.Workloads.{place_low}
 use Rattle.hs_law_run.proofs.PoolOf.{IsDrawnFor, IsPoolOf}
-use Rattle.hs_law_run.proofs.Grown.{mapped_long, unmapped_at, grown, grown_all, grown_beyond}
-use Rattle.hs_law_run.proofs.Workloads.{place_low}
 
 module _ (W : PlainWorkload) (s : Story) (story : IsStory W s) where
   abbrev pub journal : PlainJournal
   journal = journal_of W (doings_of W s)
 
   pub heard_are : (k : ℕ) → k ≤ s.passes → heard_in (doings_of W s) k ≡ s.heard k
-  heard_are k low = grown s.heard s.passes story.begins story.grows k low
+  heard_are k low = grown s.heard (added s.heard) s.passes story.begins story.grows k low
 
   pub all_heard_are : all_heard (doings_of W s) ≡ s.heard s.passes
-  all_heard_are = grown_all s.heard s.passes story.begins story.grows
+  all_heard_are = grown_all s.heard (added s.heard) s.passes story.begins story.grows
 
   heard_beyond : (k : ℕ) → s.passes ≤ k → heard_in (doings_of W s) k ≡ s.heard s.passes
-  heard_beyond k high = grown_beyond s.heard s.passes story.begins story.grows k high
+  heard_beyond k high = grown_beyond s.heard (added s.heard) s.passes story.begins story.grows k high
 
   -- ---- draws
 
@@ -41,13 +41,13 @@ module _ (W : PlainWorkload) (s : Story) (story : IsStory W s) where
     own = story.each node low
 
     pub events_are : (k : ℕ) → k ≤ s.passes → events_in (node_doings s node) k ≡ (s.nodes node).events k
-    events_are k few = grown (s.nodes node).events s.passes (story.each node low).begins (story.each node low).grows k few
+    events_are k few = grown (s.nodes node).events (added (s.nodes node).events) s.passes (story.each node low).begins (story.each node low).grows k few
 
     pub all_events_are : all_events (node_doings s node) ≡ (s.nodes node).events s.passes
-    all_events_are = grown_all (s.nodes node).events s.passes (story.each node low).begins (story.each node low).grows
+    all_events_are = grown_all (s.nodes node).events (added (s.nodes node).events) s.passes (story.each node low).begins (story.each node low).grows
 
     pub events_beyond : (k : ℕ) → s.passes ≤ k → events_in (node_doings s node) k ≡ (s.nodes node).events s.passes
-    events_beyond k high = grown_beyond (s.nodes node).events s.passes (story.each node low).begins (story.each node low).grows k high
+    events_beyond k high = grown_beyond (s.nodes node).events (added (s.nodes node).events) s.passes (story.each node low).begins (story.each node low).grows k high
 
     pub state_is : last_state W.settings (node_doings s node) ≡ state_by W s node s.passes
     state_is = ap (after W.settings node) all_events_are

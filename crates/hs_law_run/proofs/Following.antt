@@ -15,6 +15,7 @@ use Rattle.hs_law_journal.specs.Following.{node_start, run_start, next_of, event
 use Rattle.hs_law_journal.specs.Orders.{Leads, Stays, Goes, OrdersAgree, DoneIsAtRest}
 use Rattle.hs_law_journal.specs.Doings.{ask_in}
 pub use Rattle.hs_law_journal.proofs.ItemsTaken.{taken_chunks, taken_crumbs, taken_triggers, taken_asks}
+use Rattle.hs_law_journal.proofs.Joined.{take_next}
 use Rattle.hs_law_run.proofs.Nodes.{node_there, own_log}
 
 -- ---- lists
@@ -31,12 +32,6 @@ module _ {X : Type 0} where
   joined_both : (a b : List (List X)) → joined (a ++ b) ≡ joined a ++ joined b
   joined_both [] b = refl
   joined_both (x ∷ a) b = ap (λ rest. x ++ rest) (joined_both a b) ∙ sym (append_assoc x (joined a) (joined b))
-
-  -- the first lists and one more
-  pub take_next : (lists : List (List X)) (k : ℕ) (next : List X) → slice_get lists k ≡ Some next → joined (take (suc k) lists) ≡ joined (take k lists) ++ next
-  take_next [] k next h = let no : None ≡ Some next = h in absurd cc
-  take_next (x ∷ lists) zero next h = append-nil x ∙ same_Some x next h
-  take_next (x ∷ lists) (suc k) next h = ap (λ rest. x ++ rest) (take_next lists k next h) ∙ sym (append_assoc x (joined (take k lists)) next)
 
   drop_next : (lists : List (List X)) (k : ℕ) (next : List X) → slice_get lists k ≡ Some next → joined (drop k lists) ≡ next ++ joined (drop (suc k) lists)
   drop_next [] k next h = let no : None ≡ Some next = h in absurd cc

@@ -8,8 +8,8 @@ use Rattle.hs_law_run.specs.Facts.{HaveDrawn}
 use Rattle.hs_law_run.specs.Playing.{AreLawfulDoings}
 use Rattle.hs_law_run.specs.Unread.{ArePooledUnread}
 use Rattle.hs_law_run.specs.Laws.{agent_behind}
+use Rattle.hs_law_journal.proofs.Joined.{mapped_long, all_mapped_range}
 use Rattle.hs_law_run.proofs.Rounds.{IsFit, all_start, all_counted}
-use Rattle.hs_law_run.proofs.Grown.{mapped_long, all_mapped_range}
 use Rattle.hs_law_run.proofs.Workloads.{fit_of, rounds_low, node_client}
 use Rattle.hs_law_run.proofs.Queues.{within_all, queue_in_rounds}
 use Rattle.hs_law_run.proofs.Meeting.{meets_in_rounds}

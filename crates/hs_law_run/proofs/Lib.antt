@@ -12,7 +12,6 @@ pub mod Spent
 pub mod DrawPlaces
 pub mod Unread
 pub mod Counted
-pub mod Joined
 pub mod Lists
 pub mod Turns
 pub mod PoolOf
@@ -21,7 +20,6 @@ pub mod History
 pub mod Pooled
 pub mod Meeting
 pub mod Places
-pub mod Grown
 pub mod Queues
 pub mod Workloads
 pub mod Doing

@@ -1,5 +1,5 @@
 -- The draw whose entry an unread offer would fill is that of a page at the offer's place.
-use Rattle.std.proofs.Common.{◌≡◌, inl, inr, ℕ, zero, suc, ◌+◌, ◌-◌, ◌*◌, ◌<◌, ◌≤◌, Bool, true, false, ◌==◌, cond, List, [], ◌∷◌, ◌++◌, length, reverse, refl, sym, ap, subst, ◌∙◌, Option, Some, None, arith, map, filter, option_map, slice_get, take, zip, not, ◌&&◌, nat_lt, nat_le, ltb-true, ltb-false, le-leb, eq-eqb, eqb-true, count_by, append-nil, append_assoc}
+use Rattle.std.proofs.Common.{◌≡◌, inl, inr, ℕ, zero, suc, ◌+◌, ◌-◌, ◌*◌, ◌<◌, ◌≤◌, Bool, true, false, ◌==◌, cond, List, [], ◌∷◌, ◌++◌, length, reverse, refl, sym, ap, subst, ◌∙◌, Option, Some, None, arith, map, filter, option_map, slice_get, take, zip, not, ◌&&◌, nat_lt, nat_le, ltb-true, ltb-false, le-leb, eq-eqb, eqb-true, count_by, append_assoc}
 use Rattle.hs_law_run.proofs.Prelude.{AllByRecursion, flat_map, range_with_len, list_any, list_all, and_from, and_parts, length-map, length-append, length-reverse, take-map, map-append, slice_get-map, same_Some, Draw, PlainJournal, noted_as, EventsAddThis, sheets_of, Taken, AgentState, GivenPlace, start, after, after_from, after_event, Sheet, IsUnreadAt, IsPooledUnread, DoingsAreFollowed, PlainSettings, PlainWorkload, DrawnPage, stamp_of, drawn_from, Deed, Answer, answer_to, answers_in, told_in, is_any_given, IsDeedAt, IsDraw, PoolEvent, NodeRun, Run, by_stamp, page_of, given_page, pool_events, round_of, state_behind, is_turn, is_unread, Step, draw_is_at, NodeDoings, all_events, steps_of, journal_of, node_at_end, draw_answer, give_of, give_at, IsPooled, pages_at, ClientId, ClientSends, client_sends, operations_at, draws_at, place_of, TimedPage, timed_pages, log_stamps, rise, rise_above, option_and_then, option_map_or, all_front, all_back, all_each, all_append, all_map, all_at, all_reverse, get_front, list_any_none}
 use Rattle.hs_journal.specs.declared.journal.Draw.TheVariants as draws
 use Rattle.hs_law_agent.specs.Laws.{brought_by}
@@ -14,6 +14,7 @@ use Rattle.hs_law_journal.specs.Unreads.{pages_by_stamp, same_page, is_given_in,
 use Rattle.hs_words.proofs.Deeds.{at_once}
 use Rattle.hs_law_run.proofs.Answers.{at_stamp, own, answers, answers_are, stamps, stamps_rise, drawers}
 use Rattle.hs_law_run.proofs.Spent.{of_kept}
+use Rattle.hs_law_journal.proofs.ItemsTaken.{sheets_on}
 use Rattle.hs_law_journal.proofs.Logs.{above_all, stamps_both}
 use Rattle.hs_lists.proofs.Alls.{all_filter, all_flat_map}
 use Rattle.hs_law_run.proofs.Counted.{below, below_both, below_all, few_below}
@@ -141,13 +142,6 @@ after_both settings node (event ∷ some) more state = after_both settings node 
 
 abbrev brought : List stepping.AgentEvent → List Sheet
 brought events = flat_map brought_by events
-
-sheets_on : EventsAddThis → (settings : PlainSettings) (node : ℕ) (events : List stepping.AgentEvent) (state : AgentState) → sheets_of (after_from settings node state events).taken ≡ sheets_of state.taken ++ brought events
-sheets_on adds settings node [] state = sym (append-nil (sheets_of state.taken))
-sheets_on adds settings node (event ∷ events) state =
-    sheets_on adds settings node events (after_event settings node state event)
-    ∙ ap (λ sheets. sheets ++ brought events) ((adds settings node state).chunks event)
-    ∙ append_assoc (sheets_of state.taken) (brought_by event) (brought events)
 
 by_sheet : (run : NodeRun) (state : AgentState) (place : ℕ) → given_page run state place ≡ option_and_then (page_of run) (slice_get (sheets_of state.taken) place)
 by_sheet run state place = either (slice_get state.taken place) ∙ ap (option_and_then (page_of run)) (sym (slice_get-map (λ (chunk : Taken). chunk.sheet) state.taken place))

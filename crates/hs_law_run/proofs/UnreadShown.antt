@@ -1,9 +1,10 @@
 -- What an unread offer shows, by what is known in the end.
-use Rattle.std.proofs.Common.{◌≡◌, ℕ, zero, suc, ◌+◌, ◌-◌, ◌<◌, ◌≤◌, Bool, true, false, ◌==◌, ◌||◌, List, [], ◌∷◌, ◌++◌, length, refl, sym, ap, subst, ◌∙◌, arith, take, min, count_by, append_assoc}
+use Rattle.std.proofs.Common.{◌≡◌, ℕ, zero, suc, ◌+◌, ◌-◌, ◌<◌, ◌≤◌, true, ◌==◌, List, [], ◌∷◌, ◌++◌, length, refl, sym, ap, subst, ◌∙◌, arith, take, min, count_by, append_assoc}
 use Rattle.hs_law_run.proofs.Prelude.{AllByRecursion, list_any, slice_get_within, all_front, all_each, all_at, all_by_place, get_some, PlainJournal, EventsAddThis, Unread, AgentEvent, Gave, PlainWorkload, DrawnPage, stamp_of, TimedPagesAreTimely, client_sends, Deed, Answer, GiverTurn, answered, unread, met, answers_in, told_in, is_turn, log_stamps, round_of, joined, NodeDoings, all_events, events_in, steps_of, node_at_end, IsPass, pages_at, draw_answer, give_at, IsUnreadAt, IsPooledUnread}
 use Rattle.hs_words.specs.Ends.{IsUnread, EachUnread}
+use Rattle.hs_law_journal.proofs.Joined.{take_next}
+use Rattle.hs_law_journal.proofs.Told.{told_more}
 use Rattle.hs_law_run.proofs.Pools.{stamp_same}
-use Rattle.hs_law_run.proofs.Following.{take_next}
 use Rattle.hs_law_run.proofs.PoolOf.{IsPoolOf}
 use Rattle.hs_law_run.proofs.Rounds.{IsFit, all_pages_at}
 use Rattle.hs_law_run.proofs.History.{late_pages}
@@ -19,20 +20,6 @@ each_unread n log [] earlier each = each.0
 each_unread n log (answered a ∷ later) earlier each = each_unread n log later earlier each
 each_unread n log (unread ∷ later) earlier each = each_unread n log later earlier each.1
 each_unread n log (met stamps ∷ later) earlier each = each_unread n log later earlier each
-
-any_behind : {X : Type 0} (q : X → Bool) (xs ys : List X) → list_any q ys ≡ true → list_any q (xs ++ ys) ≡ true
-any_behind q [] ys h = h
-any_behind q (x ∷ xs) ys h = or_right (q x) (list_any q (xs ++ ys)) (any_behind q xs ys h)
-  where
-    or_right : (a b : Bool) → b ≡ true → (a || b) ≡ true
-    or_right true b h = refl
-    or_right false b h = h
-
-pub told_more : (q : ℕ → Bool) (later earlier : List GiverTurn) → list_any q (told_in earlier) ≡ true → list_any q (told_in (later ++ earlier)) ≡ true
-told_more q [] earlier h = h
-told_more q (answered a ∷ later) earlier h = told_more q later earlier h
-told_more q (unread ∷ later) earlier h = told_more q later earlier h
-told_more q (met stamps ∷ later) earlier h = any_behind q stamps (told_in (later ++ earlier)) (told_more q later earlier h)
 
 -- turns that go on from others
 record GoOn (turns earlier : List GiverTurn) : Type 0 where

@@ -1,7 +1,7 @@
 -- What is needed of a valid workload.
 use Rattle.std.proofs.Common.{◌≡◌, ℕ, suc, ◌+◌, ◌-◌, ◌*◌, ◌/◌, ◌%◌, ◌<◌, ◌≤◌, max, false, List, [], ◌∷◌, length, refl, Option, Some, None, unwrap_or, fold, arith, map, slice_get}
 use Rattle.hs_law_run.proofs.Prelude.{AllByRecursion, div-lt_iff_lt-mul, slice_get_within, all_at, Operation, PlainWorkload, AreBracketed, place_of, IsValid, rounds_of}
-use Rattle.std.proofs.Math.Nat.{mul-le-mul_right, mod-lt, mod-eq-sub-div-mul, div-mul-le_self}
+use Rattle.std.proofs.Math.Nat.{mod-lt, mod-eq-sub-div-mul, div-mul-le_self}
 use Rattle.hs_workload.specs.Validity.{IsClient}
 use Rattle.hs_workload.specs.declared.word.Setting.TheVariants as settings
 use Rattle.hs_law_journal.specs.Ends.{rounds_for}
@@ -16,13 +16,6 @@ fit_of W valid =
     either : (place : ℕ) (o : Option (List Operation)) → slice_get W.clients place ≡ o → AreBracketed false (unwrap_or o [])
     either place None h = refl
     either place (Some ops) h = (all_at (IsClient W.version W.settings) W.clients place ops valid.each h).bracketed
-
-pub place_low : (W : PlainWorkload) → IsValid W → (node client : ℕ) → node < W.settings.nodes → client < W.settings.clients → place_of W.settings.clients node client < length W.clients
-place_low W valid node client low few =
-    let more : suc node * W.settings.clients ≤ W.settings.nodes * W.settings.clients = mul-le-mul_right W.settings.clients (omega (arith, low)) in
-    let next : suc node * W.settings.clients ≡ node * W.settings.clients + W.settings.clients = omega arith in
-    let count = valid.count in
-    omega (arith, more, next, few, count)
 
 -- ---- rounds
 
