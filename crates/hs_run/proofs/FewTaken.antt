@@ -1,10 +1,11 @@
 -- No agent takes more triggers than its clients sent, and these are no more than the workload has.
-use Rattle.std.proofs.Common.{◌≡◌, inl, inr, ℕ, zero, suc, ◌+◌, ◌*◌, ◌<◌, ◌≤◌, List, [], ◌∷◌, ◌++◌, length, take, cond, eq-eqb, Bool, false, Option, refl, ap, subst, ◌∙◌, arith, slice_get, unwrap_or, length-append}
-use Rattle.hs_run.proofs.Prelude.{AllByRecursion, sum_by-cons, get_there, same_or_less, triggers_in, Trigger, AgentEvent, Operation, PlainWorkload, NodeWork, IsFew, IsValid, client_pieces, last_low}
-use Rattle.hs_lists.proofs.Counts.{one_if as one}
+use Rattle.std.proofs.Common.{◌≡◌, ℕ, zero, suc, ◌+◌, ◌*◌, ◌<◌, ◌≤◌, List, [], ◌∷◌, ◌++◌, length, take, cond, eq-eqb, Bool, false, Option, refl, ap, ◌∙◌, arith, slice_get, unwrap_or, length-append}
+use Rattle.hs_run.proofs.Prelude.{AllByRecursion, get_there, triggers_in, Trigger, AgentEvent, Operation, PlainWorkload, NodeWork, IsFew, IsValid, client_pieces, last_low}
+use Rattle.hs_lists.proofs.Counts.{count_cons}
 use Rattle.hs_lists.proofs.Places.{take_more}
 use Rattle.hs_base.specs.declared.limits.TheConstants.{MAX_CLIENTS}
 use Rattle.hs_law_agent.specs.Stepping.{Chunk, Crumbed, Triggered, Asked, Turn, Took, Gave}
+use Rattle.hs_law_journal.proofs.Sums.{sum_to, sum_le, sum_lt}
 use Rattle.hs_law_journal.specs.Doings.{trigger_in}
 use Rattle.hs_workload.specs.Validity.{workload_pieces}
 use Rattle.hs_workload.specs.declared.word.Setting.TheVariants as settings
@@ -16,59 +17,30 @@ use Rattle.hs_run_agent.specs.Work.{is_triggered, triggered}
 pub few_clients : (W : PlainWorkload) → IsValid W → W.settings.clients ≤ MAX_CLIENTS
 few_clients W valid = (valid.head settings.Clients).1
 
--- ---- sums over numbers
-
-sum_to : ℕ → (ℕ → ℕ) → ℕ
-sum_to zero f = 0
-sum_to (suc n) f = sum_to n f + f n
-
-sum_less : (n : ℕ) (f g : ℕ → ℕ) → ((k : ℕ) → k < n → g k ≤ f k) → sum_to n g ≤ sum_to n f
-unfolding sum_to
-sum_less zero f g h = omega arith
-sum_less (suc n) f g h =
-    let rest = sum_less n f g (λ k low. h k (omega (arith, low))) in
-    let last = h n (omega arith) in
-    omega (arith, rest, last)
-
-sum_lesser : (n : ℕ) (f g : ℕ → ℕ) (i : ℕ) → i < n → ((k : ℕ) → g k ≤ f k) → g i + 1 ≤ f i → sum_to n g + 1 ≤ sum_to n f
-unfolding sum_to
-sum_lesser zero f g i low h one = absurd (omega arith)
-sum_lesser (suc n) f g i low h one =
-    elim (same_or_less i n low) [
-      | inl less ↦ let rest = sum_lesser n f g i less h one in let last = h n in omega (arith, rest, last)
-      | inr same ↦
-          let rest = sum_less n f g (λ k _. h k) in
-          let last : g n + 1 ≤ f n = subst (λ (k : ℕ). g k + 1 ≤ f k) same one in
-          omega (arith, rest, last)
-    ]
-
 -- ---- the triggers of all clients
 
-taken_of : List AgentEvent → ℕ → ℕ
-taken_of events client = length (triggers_in client events)
+triggers_of : List AgentEvent → ℕ → ℕ
+triggers_of events client = length (triggers_in client events)
 
-count_cons : (e : AgentEvent) (es : List AgentEvent) → triggered (e ∷ es) ≡ one (is_triggered e) + triggered es
-count_cons e es = sum_by-cons (λ (x : AgentEvent). cond (is_triggered x) 1 0) e es
+no_fewer : (e : AgentEvent) (es : List AgentEvent) (client : ℕ) → triggers_of es client ≤ triggers_of (e ∷ es) client
+unfolding triggers_of
+no_fewer e es client = let h = length-append (trigger_in client e) (triggers_in client es) in omega (arith, h)
 
-taken_more : (e : AgentEvent) (es : List AgentEvent) (client : ℕ) → taken_of es client ≤ taken_of (e ∷ es) client
-unfolding taken_of
-taken_more e es client = let h = length-append (trigger_in client e) (triggers_in client es) in omega (arith, h)
-
-taken_here : (client : ℕ) (t : Trigger) (es : List AgentEvent) → taken_of es client + 1 ≤ taken_of (Took (Triggered client t) ∷ es) client
-unfolding taken_of
-taken_here client t es =
+one_more : (client : ℕ) (t : Trigger) (es : List AgentEvent) → triggers_of es client < triggers_of (Took (Triggered client t) ∷ es) client
+unfolding triggers_of
+one_more client t es =
     let h = length-append (trigger_in client (Took (Triggered client t))) (triggers_in client es) in
     let e : length (trigger_in client (Took (Triggered client t))) ≡ 1 = ap (λ (b : Bool). length (cond b (t ∷ []) [])) (eq-eqb client client refl) in
     omega (arith, h, e)
 
 -- an event that is no trigger
-other : (n : ℕ) (e : AgentEvent) (es : List AgentEvent) → is_triggered e ≡ false → triggered es ≤ sum_to n (taken_of es) → triggered (e ∷ es) ≤ sum_to n (taken_of (e ∷ es))
+other : (n : ℕ) (e : AgentEvent) (es : List AgentEvent) → is_triggered e ≡ false → triggered es ≤ sum_to (triggers_of es) n → triggered (e ∷ es) ≤ sum_to (triggers_of (e ∷ es)) n
 other n e es off rest =
-    let count : triggered (e ∷ es) ≡ 0 + triggered es = count_cons e es ∙ ap (λ (b : Bool). cond b 1 0 + triggered es) off in
-    let less = sum_less n (taken_of (e ∷ es)) (taken_of es) (λ k _. taken_more e es k) in
+    let count : triggered (e ∷ es) ≡ 0 + triggered es = count_cons is_triggered e es ∙ ap (λ (b : Bool). cond b 1 0 + triggered es) off in
+    let less = sum_le (triggers_of es) (triggers_of (e ∷ es)) n (λ k _. no_fewer e es k) in
     omega (arith, rest, count, less)
 
-few_taken : (W : PlainWorkload) (node n : ℕ) → n ≡ W.settings.clients → (events : List AgentEvent) → AllByRecursion (IsWithin W node) events → triggered events ≤ sum_to n (taken_of events)
+few_taken : (W : PlainWorkload) (node n : ℕ) → n ≡ W.settings.clients → (events : List AgentEvent) → AllByRecursion (IsWithin W node) events → triggered events ≤ sum_to (triggers_of events) n
 few_taken W node n is [] h = omega arith
 few_taken W node n is (Took (Chunk client sheet) ∷ es) h = other n (Took (Chunk client sheet)) es refl (few_taken W node n is es h.1)
 few_taken W node n is (Took (Crumbed client crumb) ∷ es) h = other n (Took (Crumbed client crumb)) es refl (few_taken W node n is es h.1)
@@ -77,9 +49,9 @@ few_taken W node n is (Took Turn ∷ es) h = other n (Took Turn) es refl (few_ta
 few_taken W node n is (Gave answer ∷ es) h = other n (Gave answer) es refl (few_taken W node n is es h.1)
 few_taken W node n is (Took (Triggered client t) ∷ es) h =
     let rest = few_taken W node n is es h.1 in
-    let count : triggered (Took (Triggered client t) ∷ es) ≡ 1 + triggered es = count_cons (Took (Triggered client t)) es in
+    let count : triggered (Took (Triggered client t) ∷ es) ≡ 1 + triggered es = count_cons is_triggered (Took (Triggered client t)) es in
     let low = h.0.0 in
-    let less = sum_lesser n (taken_of (Took (Triggered client t) ∷ es)) (taken_of es) client (omega (arith, low, is)) (taken_more (Took (Triggered client t)) es) (taken_here client t es) in
+    let less = sum_lt (triggers_of es) (triggers_of (Took (Triggered client t) ∷ es)) n client (λ k _. no_fewer (Took (Triggered client t)) es k) (omega (arith, low, is)) (one_more client t es) in
     omega (arith, rest, count, less)
 
 -- ---- the operations of a node's clients
@@ -93,8 +65,8 @@ pieces_at : ℕ → List (List Operation) → ℕ → ℕ
 pieces_at size lists place = client_pieces size (unwrap_or (slice_get lists place) [])
 
 pieces_first : (size : ℕ) (lists : List (List Operation)) (start n : ℕ) → start + n ≤ length lists
-    → sum_to n (λ k. pieces_at size lists (start + k)) + workload_pieces size (take start lists) ≤ workload_pieces size (take (start + n) lists)
-unfolding sum_to pieces_at
+    → sum_to (λ k. pieces_at size lists (start + k)) n + workload_pieces size (take start lists) ≤ workload_pieces size (take (start + n) lists)
+unfolding pieces_at
 pieces_first size lists start zero high = let e = ap (λ (k : ℕ). workload_pieces size (take k lists)) same in omega (arith, e)
   where
     same : start + 0 ≡ start
@@ -120,10 +92,10 @@ pieces_all size (x ∷ xs) (suc n) = let rest = pieces_all size xs n in omega (a
 pub few_of_sent : (W : PlainWorkload) → IsValid W → (n : ℕ) → n < W.settings.nodes → (work : NodeWork) → AllByRecursion (IsWithin W work.node) work.events
     → ((client : ℕ) → client < W.settings.clients → length (triggers_in client work.events) ≤ client_pieces W.settings.size (unwrap_or (slice_get W.clients (n * W.settings.clients + client)) []))
     → IsFew W work
-unfolding sum_to taken_of pieces_at
+unfolding triggers_of pieces_at
 few_of_sent W valid n low work within sent =
     let taken = few_taken W work.node W.settings.clients refl work.events within in
-    let each = sum_less W.settings.clients (λ k. pieces_at W.settings.size W.clients (n * W.settings.clients + k)) (taken_of work.events) sent in
+    let each = sum_le (triggers_of work.events) (λ k. pieces_at W.settings.size W.clients (n * W.settings.clients + k)) W.settings.clients sent in
     let first = pieces_first W.settings.size W.clients (n * W.settings.clients) W.settings.clients (last_low W valid n low) in
     let all = pieces_all W.settings.size W.clients (n * W.settings.clients + W.settings.clients) in
     let most = valid.few in

@@ -1,17 +1,18 @@
 -- What a pass works off: with each item that an agent takes it bears one thing more at most, and a turn takes something off where something
 -- is pinned.
-use Rattle.std.proofs.Common.{◌≡◌, ℕ, zero, suc, ◌+◌, ◌*◌, ◌<◌, ◌≤◌, Bool, true, false, cond, ◌==◌, List, [], ◌∷◌, ◌++◌, length, refl, sym, ap, ◌∙◌, Option, Some, None, arith, map, replicate}
-use Rattle.hs_run.proofs.Prelude.{option_to_list_short, flat_map, length-append, map-append, noted_as, Step, after, AgentEvent, asks_in, crumbs_in, steps_of, triggers_in, PlainSettings, PlainWorkload, NodeWork}
-use Rattle.std.specs.Option.{option_to_list}
-use Rattle.hs_base.specs.declared.told.Told.{Told}
+use Rattle.std.proofs.Common.{◌≡◌, ℕ, zero, suc, ◌+◌, ◌*◌, ◌<◌, ◌≤◌, ◌==◌, List, [], ◌∷◌, ◌++◌, length, refl, sym, ap, ◌∙◌, arith, map, replicate}
+use Rattle.hs_run.proofs.Prelude.{flat_map, length-append, map-append, noted_as, Step, after, AgentEvent, asks_in, crumbs_in, steps_of, triggers_in, PlainSettings, PlainWorkload, NodeWork}
 use Rattle.hs_journal.specs.declared.journal.Step.TheVariants as steps
-use Rattle.hs_law_agent.specs.Laws.{borne, brought_by, CanReport, EventsAddFew, StepsSayWhatTheyTell, TurnsReport, EventsGoOn}
+use Rattle.hs_law_agent.specs.Laws.{CanReport, EventsAddFew, StepsSayWhatTheyTell, TurnsReport, EventsGoOn}
 use Rattle.hs_law_agent.specs.State.{AgentState, start}
-use Rattle.hs_law_agent.specs.Stepping.{Input, Chunk, Crumbed, Triggered, Asked, Turn, Answered, Given, Missed, Unread, Took, Gave, after_from, after_event, step_of_answer, told_by}
-use Rattle.hs_law_journal.specs.Doings.{ask_in, chunk_in, chunks_in, crumb_in, trigger_in}
-use Rattle.hs_law_journal.specs.Following.{Queue, Chunks, Crumbs, Triggers, Asks}
+use Rattle.hs_law_agent.specs.Stepping.{Input, Chunk, Crumbed, Triggered, Asked, Turn, Answered, Given, Missed, Unread, Took, Gave, after_from, after_event, step_of_answer}
+use Rattle.hs_law_journal.specs.Doings.{chunks_in}
+use Rattle.hs_law_journal.proofs.ItemsTaken.{taken_chunks, taken_crumbs, taken_triggers, taken_asks}
+use Rattle.hs_law_journal.proofs.Loads.{load_input, weight}
+use Rattle.hs_law_journal.specs.Following.{Queue, Chunks, Crumbs, Triggers, Asks, taken, takes}
 use Rattle.hs_law_journal.specs.LoopPasses.{IsPass, step_from}
 use Rattle.hs_law_journal.specs.Passes.{queues_of}
+use Rattle.hs_lists.proofs.Counts.{count_append, count_cons, one_few, one_if}
 use Rattle.hs_run_agent.specs.Agents.{state_at}
 use Rattle.hs_run.specs.Accounts.{weigh, worked, load, load_of}
 
@@ -21,66 +22,24 @@ worked_both : (xs ys : List Step) → worked (xs ++ ys) ≡ worked xs + worked y
 worked_both [] ys = let none : worked ys ≡ 0 + worked ys = omega arith in none
 worked_both (x ∷ xs) ys = let rest = worked_both xs ys in omega (arith, rest)
 
-few_of : {A : Type 0} (f : AgentEvent → List A) → ((event : AgentEvent) → length (f event) ≤ weigh (noted_as event)) → (events : List AgentEvent) → length (flat_map f events) ≤ worked (steps_of events)
-few_of f each [] = omega arith
-few_of f each (event ∷ events) = let both = length-append (f event) (flat_map f events) in let here = each event in let rest = few_of f each events in omega (arith, both, here, rest)
-
-one_most : {A : Type 0} (b : Bool) (x : A) → length (cond b (x ∷ []) []) ≤ 1
-one_most true x = omega arith
-one_most false x = omega arith
-
 none_given : (answer : Answered) → 0 ≤ weigh (step_of_answer answer)
 none_given answer = omega arith
 
-chunk_few : (client : ℕ) (event : AgentEvent) → length (chunk_in client event) ≤ weigh (noted_as event)
-chunk_few client (Took (Chunk other sheet)) = one_most (other == client) sheet
-chunk_few client (Took (Crumbed other crumb)) = omega arith
-chunk_few client (Took (Triggered other trigger)) = omega arith
-chunk_few client (Took (Asked ask)) = omega arith
-chunk_few client (Took Turn) = omega arith
-chunk_few client (Gave answer) = none_given answer
+weighs : (queue : Queue) (step : Step) → one_if (takes queue step) ≤ weigh step
+weighs (Chunks client) (steps.Chunk other) = one_few (other == client)
+weighs (Crumbs client) (steps.Crumb other) = one_few (other == client)
+weighs (Triggers client) (steps.Trigger other) = one_few (other == client)
+weighs Asks steps.Ask = omega arith
+weighs _ _ = omega arith
 
-crumb_few : (client : ℕ) (event : AgentEvent) → length (crumb_in client event) ≤ weigh (noted_as event)
-crumb_few client (Took (Chunk other sheet)) = omega arith
-crumb_few client (Took (Crumbed other crumb)) = one_most (other == client) crumb
-crumb_few client (Took (Triggered other trigger)) = omega arith
-crumb_few client (Took (Asked ask)) = omega arith
-crumb_few client (Took Turn) = omega arith
-crumb_few client (Gave answer) = none_given answer
-
-trigger_few : (client : ℕ) (event : AgentEvent) → length (trigger_in client event) ≤ weigh (noted_as event)
-trigger_few client (Took (Chunk other sheet)) = omega arith
-trigger_few client (Took (Crumbed other crumb)) = omega arith
-trigger_few client (Took (Triggered other trigger)) = one_most (other == client) trigger
-trigger_few client (Took (Asked ask)) = omega arith
-trigger_few client (Took Turn) = omega arith
-trigger_few client (Gave answer) = none_given answer
-
-ask_few : (event : AgentEvent) → length (ask_in event) ≤ weigh (noted_as event)
-ask_few (Took (Chunk other sheet)) = omega arith
-ask_few (Took (Crumbed other crumb)) = omega arith
-ask_few (Took (Triggered other trigger)) = omega arith
-ask_few (Took (Asked ask)) = omega arith
-ask_few (Took Turn) = omega arith
-ask_few (Gave answer) = none_given answer
-
-flat_both : {A : Type 0} (f : AgentEvent → List A) (xs ys : List AgentEvent) → length (flat_map f (xs ++ ys)) ≡ length (flat_map f xs) + length (flat_map f ys)
-flat_both f [] ys = let none : length (flat_map f ys) ≡ 0 + length (flat_map f ys) = omega arith in none
-flat_both f (x ∷ xs) ys =
-    let whole = length-append (f x) (flat_map f (xs ++ ys)) in let first = length-append (f x) (flat_map f xs) in let rest = flat_both f xs ys in omega (arith, whole, first, rest)
+taken_few : (queue : Queue) (log : List Step) → taken queue log ≤ worked log
+taken_few queue [] = omega arith
+taken_few queue (step ∷ log) = let both = count_cons (takes queue) step log in let here = weighs queue step in let rest = taken_few queue log in omega (arith, both, here, rest)
 
 -- what was taken more in a pass was taken in it
-chunks_few : (client : ℕ) (events pass : List AgentEvent) → length (chunks_in client (events ++ pass)) ≤ length (chunks_in client events) + worked (steps_of pass)
-chunks_few client events pass = let both = flat_both (chunk_in client) events pass in let few = few_of (chunk_in client) (chunk_few client) pass in omega (arith, both, few)
-
-crumbs_few : (client : ℕ) (events pass : List AgentEvent) → length (crumbs_in client (events ++ pass)) ≤ length (crumbs_in client events) + worked (steps_of pass)
-crumbs_few client events pass = let both = flat_both (crumb_in client) events pass in let few = few_of (crumb_in client) (crumb_few client) pass in omega (arith, both, few)
-
-triggers_few : (client : ℕ) (events pass : List AgentEvent) → length (triggers_in client (events ++ pass)) ≤ length (triggers_in client events) + worked (steps_of pass)
-triggers_few client events pass = let both = flat_both (trigger_in client) events pass in let few = few_of (trigger_in client) (trigger_few client) pass in omega (arith, both, few)
-
-asks_few : (events pass : List AgentEvent) → length (asks_in (events ++ pass)) ≤ length (asks_in events) + worked (steps_of pass)
-asks_few events pass = let both = flat_both ask_in events pass in let few = few_of ask_in ask_few pass in omega (arith, both, few)
+more_few : (queue : Queue) (events pass : List AgentEvent) → taken queue (steps_of (events ++ pass)) ≤ taken queue (steps_of events) + worked (steps_of pass)
+more_few queue events pass =
+    let same = ap (taken queue) (map-append noted_as events pass) in let both = count_append (takes queue) (steps_of events) (steps_of pass) in let few = taken_few queue (steps_of pass) in omega (arith, same, both, few)
 
 -- ---- a pass that takes nothing begins with its turn
 
@@ -141,25 +100,15 @@ begins_with_turn W pass p none =
 -- ---- what an agent bears
 
 module _ (add : EventsAddFew) (says : StepsSayWhatTheyTell) (settings : PlainSettings) (node : ℕ) where
-  load_input : (state : AgentState) (input : Input) → load (after_event settings node state (Took input)) ≤ load state + weigh (noted_as (Took input))
-  load_input state input =
-      let more = (add settings node state).load input in
-      let said = ap length ((says settings node state).inputs input) in
-      let both = length-append state.said (option_to_list (told_by settings node state input)) in
-      by_input input more said both
-    where
-      by_input : (input : Input) → borne (after_event settings node state (Took input)) ≤ borne state + length (brought_by (Took input))
-          → length (after_event settings node state (Took input)).said ≡ length (state.said ++ option_to_list (told_by settings node state input))
-          → length (state.said ++ option_to_list (told_by settings node state input)) ≡ length state.said + length (option_to_list (told_by settings node state input))
-          → load (after_event settings node state (Took input)) ≤ load state + weigh (noted_as (Took input))
-      by_input (Chunk client sheet) more said both = omega (arith, more, said, both)
-      by_input (Crumbed client crumb) more said both = let few = option_to_list_short (told_by settings node state (Crumbed client crumb)) in omega (arith, more, said, both, few)
-      by_input (Triggered client trigger) more said both = let few = option_to_list_short (told_by settings node state (Triggered client trigger)) in omega (arith, more, said, both, few)
-      by_input (Asked ask) more said both = let few = option_to_list_short (told_by settings node state (Asked ask)) in omega (arith, more, said, both, few)
-      by_input Turn more said both = omega (arith, more, said, both)
+  input_weighs : (input : Input) → weight input ≡ weigh (noted_as (Took input))
+  input_weighs (Chunk client sheet) = refl
+  input_weighs (Crumbed client crumb) = refl
+  input_weighs (Triggered client trigger) = refl
+  input_weighs (Asked ask) = refl
+  input_weighs Turn = refl
 
   load_event : (state : AgentState) (event : AgentEvent) → load (after_event settings node state event) ≤ load state + weigh (noted_as event)
-  load_event state (Took input) = load_input state input
+  load_event state (Took input) = let more = load_input add says settings node state input in let same = input_weighs input in omega (arith, more, same)
   load_event state (Gave answer) =
       let more = (add settings node state).offered answer in let said = ap length ((says settings node state).answers answer) in let none = none_given answer in omega (arith, more, said, none)
 
@@ -207,17 +156,20 @@ module _ (add : EventsAddFew) (says : StepsSayWhatTheyTell) (on : EventsGoOn) (W
     pub gains_heard : before < behind → Gains W 1 old before new behind
     gains_heard more = let l = load_on in let w = worked_on in omega (arith, l, w, more)
 
+    gains_queue : (queue : Queue) → taken queue (steps_of old.events) < taken queue (steps_of new.events) → Gains W 1 old before new behind
+    gains_queue queue more = let few = more_few queue old.events pass in let is = ap (λ list. taken queue (steps_of list)) events in gains_worked (omega (arith, few, is, more))
+
     pub gains_chunk : (client : ℕ) → length (chunks_in client old.events) < length (chunks_in client new.events) → Gains W 1 old before new behind
-    gains_chunk client more = let few = chunks_few client old.events pass in let is = ap (λ list. length (chunks_in client list)) events in gains_worked (omega (arith, few, is, more))
+    gains_chunk client more = let was = taken_chunks client old.events in let is = taken_chunks client new.events in gains_queue (Chunks client) (omega (arith, was, is, more))
 
     pub gains_crumb : (client : ℕ) → length (crumbs_in client old.events) < length (crumbs_in client new.events) → Gains W 1 old before new behind
-    gains_crumb client more = let few = crumbs_few client old.events pass in let is = ap (λ list. length (crumbs_in client list)) events in gains_worked (omega (arith, few, is, more))
+    gains_crumb client more = let was = taken_crumbs client old.events in let is = taken_crumbs client new.events in gains_queue (Crumbs client) (omega (arith, was, is, more))
 
     pub gains_trigger : (client : ℕ) → length (triggers_in client old.events) < length (triggers_in client new.events) → Gains W 1 old before new behind
-    gains_trigger client more = let few = triggers_few client old.events pass in let is = ap (λ list. length (triggers_in client list)) events in gains_worked (omega (arith, few, is, more))
+    gains_trigger client more = let was = taken_triggers client old.events in let is = taken_triggers client new.events in gains_queue (Triggers client) (omega (arith, was, is, more))
 
     pub gains_ask : length (asks_in old.events) < length (asks_in new.events) → Gains W 1 old before new behind
-    gains_ask more = let few = asks_few old.events pass in let is = ap (λ list. length (asks_in list)) events in gains_worked (omega (arith, few, is, more))
+    gains_ask more = let was = taken_asks old.events in let is = taken_asks new.events in gains_queue Asks (omega (arith, was, is, more))
 
     gains_turn : TurnsReport → CanReport W.settings (state_at W old) → (n : ℕ) → worked (steps_of pass) ≡ n → Gains W 1 old before new behind
     gains_turn reports can (suc n) is = gains_worked (omega (arith, is))

@@ -8,9 +8,9 @@ use Rattle.hs_lists.proofs.Parts.{take_whole}
 use Rattle.hs_link.specs.Contents.{Contains}
 use Rattle.hs_live.specs.Live.{hears, is_told, MeetAt}
 use Rattle.hs_ring.specs.Parts.{AllBelow}
-use Rattle.hs_words.specs.Ends.{Answer, GiverTurn, answers_in}
+use Rattle.hs_words.specs.Ends.{Answer, GiverTurn, answers_in, stamps_in}
 use Rattle.hs_run_story.specs.Meeting.{EndsMet, ClientActorMet, GiverMet, told_of}
-use Rattle.hs_run_story.proofs.Meetings.{answers_behind}
+use Rattle.hs_law_journal.proofs.Told.{answers_behind}
 
 -- ---- one link
 
@@ -125,7 +125,7 @@ module _ (W : PlainWorkload) (node : ℕ) (work : NodeWork) (number : ℕ) (old 
         rises = le-max_right mid.agent.port.giver.floor one.before.client.drawer.floor;
         above_given =
             subst (AllBelow (max mid.agent.port.giver.floor one.before.client.drawer.floor))
-            (ap answers_in h.giver.turns ∙ answers_behind (take number old.callers) old.agent.port.giver.turns) one.met.pool.above_given;
+            (ap answers_in h.giver.turns ∙ answers_behind (λ (caller : PlainClientActor). stamps_in caller.client.drawer.answers) (take number old.callers) old.agent.port.giver.turns) one.met.pool.above_given;
         above_drawn = one.met.pool.above_drawn;
       }
 

@@ -1,14 +1,14 @@
 -- Each group that is spoken of is one that a node of the run admitted, and no node admits more than there are operations. So a node is asked
 -- only so often.
-use Rattle.std.proofs.Common.{◌≡◌, ℕ, zero, suc, ◌+◌, ◌<◌, ◌≤◌, Bool, true, false, ◌&&◌, cond, List, [], ◌∷◌, ◌++◌, length, refl, sym, ap, subst, ◌∙◌, Option, Some, None, arith, map, filter, append_assoc, eqb, eq-eqb, ltb, lt-ltb, ltb-true, slice_get}
-use Rattle.hs_run.proofs.Prelude.{AllByRecursion, append-nil, flat_map, length-append, sum_by-cons, get_there, slice_get_within, Ask, Crumb, Told, Trigger, Messages, MAX_OPERATIONS, after, AgentEvent, asks_in, PlainWorkload, IsValid, heard_of, asks_for, NodeWork, IsFew, PlainCoordinatorActor, PlainClosedAgent, RunState, Came, NodeBetweenPasses, AllSents, ClosingAt}
+use Rattle.std.proofs.Common.{◌≡◌, ℕ, zero, suc, ◌+◌, ◌<◌, ◌≤◌, Bool, true, false, ◌&&◌, cond, List, [], ◌∷◌, ◌++◌, length, refl, sym, ap, subst, ◌∙◌, Option, Some, None, arith, map, filter, append_assoc, eq-eqb, ltb, lt-ltb, ltb-true, slice_get}
+use Rattle.hs_run.proofs.Prelude.{AllByRecursion, append-nil, get_there, Ask, Crumb, Told, Trigger, Messages, MAX_OPERATIONS, after, AgentEvent, asks_in, PlainWorkload, heard_of, asks_for, NodeWork, PlainCoordinatorActor, PlainClosedAgent, RunState, Came, NodeBetweenPasses, AllSents, ClosingAt}
 use Rattle.std.proofs.lemmas.Grind.{flat_map-append}
 use Rattle.std.proofs.lemmas.List.Sums.{sum_by-append}
 use Rattle.std.proofs.lemmas.Bool.{and_parts}
 use Rattle.std.specs.Cmp.Derive.{both_true}
 use Rattle.std.specs.Option.{option_and_then, option_to_list}
 use Rattle.hs_lists.proofs.Alls.{all_append, all_find, all_front}
-use Rattle.hs_lists.proofs.Counts.{one_few, one_if as one}
+use Rattle.hs_lists.proofs.Counts.{count_cons, one_few}
 use Rattle.hs_base.specs.Ids.{same_trace}
 use Rattle.hs_base.specs.declared.told.Group.{Group}
 use Rattle.hs_coord.specs.Messages.{Message}
@@ -17,8 +17,10 @@ use Rattle.hs_law_agent.specs.Messages.{has_crumb, late_of}
 use Rattle.hs_law_agent.specs.State.{AgentState, ClaimedTrace, claim_of, start}
 use Rattle.hs_law_agent.specs.Stepping.{Input, Chunk, Crumbed, Triggered, Asked, Turn, Took, Gave, admits, after_from, after_event, group_of, told_by}
 use Rattle.hs_law_journal.specs.Doings.{ask_in}
-use Rattle.hs_law_journal.specs.Following.{ask_by, asks_behind, asks_to, is_from}
+use Rattle.hs_law_journal.specs.Following.{asks_behind, asks_to, is_from}
 use Rattle.hs_law_journal.proofs.Groups.{asks_known}
+use Rattle.hs_law_journal.proofs.Hearing.{heard_both}
+use Rattle.hs_law_journal.proofs.Steps.{asks_more}
 use Rattle.hs_law_lockstep.proofs.FewAsks.{IsNumbered}
 use Rattle.hs_run_agent.specs.Coordinators.{IsHearable}
 use Rattle.hs_run_agent.specs.Work.{is_triggered, triggered}
@@ -46,26 +48,6 @@ grown_front list passes grows (suc d) k is =
     let here = grows k (omega (arith, is)) in
     let rest = grown_front list passes grows d (suc k) (omega (arith, is)) in
     record { more = here.more ++ rest.more; is = rest.is ∙ ap (λ front. front ++ rest.more) here.is ∙ append_assoc (list k) here.more rest.more }
-
-behind_both : (v : ℕ) (before xs ys : Messages) → asks_behind v before (xs ++ ys) ≡ asks_behind v before xs ++ asks_behind v (before ++ xs) ys
-behind_both v before [] ys = ap (λ front. asks_behind v front ys) (sym (append-nil before))
-behind_both v before (m ∷ xs) ys =
-    ap (λ rest. ask_by v before m ++ rest) (behind_both v (before ++ m ∷ []) xs ys)
-    ∙ sym (append_assoc (ask_by v before m) (asks_behind v (before ++ m ∷ []) xs) (asks_behind v ((before ++ m ∷ []) ++ xs) ys))
-    ∙ ap (λ front. (ask_by v before m ++ asks_behind v (before ++ m ∷ []) xs) ++ asks_behind v front ys) (append_assoc before (m ∷ []) xs)
-
-heard_both : (node : ℕ) (xs ys : Messages) → heard_of node (xs ++ ys) ≡ heard_of node xs ++ heard_of node ys
-heard_both node [] ys = refl
-heard_both node (m ∷ xs) ys = either (is_from (record { 0 = node }) m) (heard_both node xs ys)
-  where
-    either : (b : Bool) → heard_of node (xs ++ ys) ≡ heard_of node xs ++ heard_of node ys
-        → map (λ (m : Message). m.told) (cond b (m ∷ filter (is_from (record { 0 = node })) (xs ++ ys)) (filter (is_from (record { 0 = node })) (xs ++ ys)))
-        ≡ map (λ (m : Message). m.told) (cond b (m ∷ filter (is_from (record { 0 = node })) xs) (filter (is_from (record { 0 = node })) xs)) ++ heard_of node ys
-    either true h = ap (λ rest. m.told ∷ rest) h
-    either false h = h
-
-count_cons : (e : AgentEvent) (es : List AgentEvent) → triggered (e ∷ es) ≡ one (is_triggered e) + triggered es
-count_cons e es = sum_by-cons (λ (x : AgentEvent). cond (is_triggered x) 1 0) e es
 
 -- ---- an agent
 
@@ -126,10 +108,10 @@ module _ (few : EventsAddFew) (says : StepsSayWhatTheyTell) (W : PlainWorkload) 
 
     adds : (state : AgentState) (input : Input) (events : List AgentEvent) → AllPass test state.claims → AskPasses (Took input) → state.admitted + triggered (Took input ∷ events) ≤ limit → Adds state input events
     adds state (Chunk client sheet) events claims ask most =
-        let more = (few W.settings node state).admitted (Chunk client sheet) in let count = count_cons (Took (Chunk client sheet)) events in record { claim = tt; told = tt; room = omega (arith, more, count, most) }
+        let more = (few W.settings node state).admitted (Chunk client sheet) in let count = count_cons is_triggered (Took (Chunk client sheet)) events in record { claim = tt; told = tt; room = omega (arith, more, count, most) }
     adds state (Crumbed client crumb) events claims ask most =
         let more = (few W.settings node state).admitted (Crumbed client crumb) in
-        let count = count_cons (Took (Crumbed client crumb)) events in
+        let count = count_cons is_triggered (Took (Crumbed client crumb)) events in
         record {
           claim = tt;
           told = claim_told crumb state (claim_of state.claims crumb.trace) (λ claim e. all_find (λ (c : ClaimedTrace). test c.group ≡ true) (λ (c : ClaimedTrace). same_trace crumb.trace c.trace) state.claims claim claims e);
@@ -137,7 +119,7 @@ module _ (few : EventsAddFew) (says : StepsSayWhatTheyTell) (W : PlainWorkload) 
         }
     adds state (Triggered client trigger) events claims ask most =
         let more = (few W.settings node state).admitted (Triggered client trigger) in
-        let count = count_cons (Took (Triggered client trigger)) events in
+        let count = count_cons is_triggered (Took (Triggered client trigger)) events in
         let own = own_group state trigger (omega (arith, count, most)) in
         let once = one_few (admits W.settings state.tried trigger) in
         record {
@@ -146,8 +128,8 @@ module _ (few : EventsAddFew) (says : StepsSayWhatTheyTell) (W : PlainWorkload) 
           room = omega (arith, more, count, once, most);
         }
     adds state (Asked asked) events claims ask most =
-        let more = (few W.settings node state).admitted (Asked asked) in let count = count_cons (Took (Asked asked)) events in record { claim = ask; told = (ask, tt); room = omega (arith, more, count, most) }
-    adds state Turn events claims ask most = let more = (few W.settings node state).admitted Turn in let count = count_cons (Took Turn) events in record { claim = tt; told = tt; room = omega (arith, more, count, most) }
+        let more = (few W.settings node state).admitted (Asked asked) in let count = count_cons is_triggered (Took (Asked asked)) events in record { claim = ask; told = (ask, tt); room = omega (arith, more, count, most) }
+    adds state Turn events claims ask most = let more = (few W.settings node state).admitted Turn in let count = count_cons is_triggered (Took Turn) events in record { claim = tt; told = tt; room = omega (arith, more, count, most) }
 
     said_from : (state : AgentState) (events : List AgentEvent) → AllByRecursion AskPasses events → state.admitted + triggered events ≤ limit → AllPass test state.claims → AllByRecursion Known state.said
         → AllByRecursion Known (after_from W.settings node state events).said
@@ -158,7 +140,7 @@ module _ (few : EventsAddFew) (says : StepsSayWhatTheyTell) (W : PlainWorkload) 
         (subst (λ (l : List Told). AllByRecursion Known l) (sym ((says W.settings node state).inputs input)) (all_append Known state.said (option_to_list (told_by W.settings node state input)) said a.told))
     said_from state (Gave answer ∷ events) asks most claims said =
         let same = (few W.settings node state).counted answer in
-        let count = count_cons (Gave answer) events in
+        let count = count_cons is_triggered (Gave answer) events in
         said_from (after_event W.settings node state (Gave answer)) events asks.1 (omega (arith, same, count, most)) (subst (λ (l : List ClaimedTrace). AllPass test l) (sym ((few W.settings node state).kept answer)) claims)
         (subst (λ (l : List Told). AllByRecursion Known l) (sym ((says W.settings node state).answers answer)) said)
 
@@ -247,7 +229,7 @@ module _ (few : EventsAddFew) (says : StepsSayWhatTheyTell) (on : EventsGoOn) (W
           let taken = asks_in (ev node (suc k)) in
           let whole : taken ++ (asks_in front.more ++ rest) ≡ asks_to node (hb k) ++ asks_behind node ([] ++ hb k) heard.more =
           sym (append_assoc taken (asks_in front.more) rest) ∙ ap (λ all. all ++ rest) (sym own) ∙ sym (append_assoc (asks_in work.events) shut_there.0.asks (asks_for node c.asks))
-          ∙ ap (λ all. all ++ asks_for node c.asks) stood.asks_are ∙ sym (at.stand.coordinates.asks_are node low) ∙ ap (asks_to node) heard.is ∙ behind_both node [] (hb k) heard.more
+          ∙ ap (λ all. all ++ asks_for node c.asks) stood.asks_are ∙ sym (at.stand.coordinates.asks_are node low) ∙ ap (asks_to node) heard.is ∙ asks_more node [] (hb k) heard.more
           in
           fronts_pass (λ (ask : Ask). test few says W MAX_OPERATIONS ask.group ≡ true) taken (asks_in front.more ++ rest) (asks_to node (hb k)) (asks_behind node ([] ++ hb k) heard.more) whole
           (asked_before W node at.passes hb (ps node) posts steps k (omega (arith, is))) (asks_known (test few says W MAX_OPERATIONS) node [] (hb k) tt known)
@@ -271,7 +253,7 @@ module _ (few : EventsAddFew) (says : StepsSayWhatTheyTell) (on : EventsGoOn) (W
           let later = said_more few says W MAX_OPERATIONS node low (after W.settings node (ev node (suc k))) front.more in
           let rest = told.0 ++ shut_there.0.said in
           let whole : here ++ (heard_of node heard.more ++ rest) ≡ (after W.settings node (ev node (suc k))).said ++ later.more =
-          sym (append_assoc here (heard_of node heard.more) rest) ∙ ap (λ all. all ++ rest) (sym (ap (heard_of node) heard.is ∙ heard_both node (hb (suc k)) heard.more)) ∙ sym (append_assoc (heard_of node at.heard) told.0 shut_there.0.said)
+          sym (append_assoc here (heard_of node heard.more) rest) ∙ ap (λ all. all ++ rest) (sym (ap (heard_of node) heard.is ∙ heard_both (record { 0 = node }) (hb (suc k)) heard.more)) ∙ sym (append_assoc (heard_of node at.heard) told.0 shut_there.0.said)
           ∙ ap (λ all. all ++ shut_there.0.said) (at.stand.coordinates.waits node told.0 told.1) ∙ works.said_is ∙ last
           ∙ ap (λ (s : AgentState). s.said) (ap (after W.settings node) front.is ∙ on W.settings node (ev node (suc k)) front.more) ∙ later.is
           in

@@ -1,21 +1,22 @@
 -- A pass behind the rounds, before which anything is left, is paid for.
-use Rattle.std.proofs.Common.{◌≡◌, ◌⊎◌, inl, inr, ℕ, ◌+◌, ◌*◌, ◌<◌, ◌≤◌, List, [], ◌∷◌, ◌++◌, length, map, refl, sym, ap, subst, ◌∙◌, Some, arith, eq-eqb, slice_get, false}
-use Rattle.hs_run.proofs.Prelude.{AllByRecursion, flat_map, length-append, length-map, slice_get_within, get_there, ClientId, Messages, Sheet, brought_by, EventsAddThis, steps_of, PlainWorkload, Leased, Buffer, PlainCoordinatorActor, Hears, heard_of, ListsHaveTheirChunks, NodeWork, came_of, is_of, PlainClosedAgent, RunState, moved_by, asked_by, AllSents, IsClosedAgentAt, PassedAlone, Passing, Asked, ClosingAt}
+use Rattle.std.proofs.Common.{◌≡◌, inl, inr, ℕ, ◌+◌, ◌<◌, ◌≤◌, List, ◌∷◌, ◌++◌, length, sym, ap, subst, ◌∙◌, arith, eq-eqb}
+use Rattle.hs_run.proofs.Prelude.{AllByRecursion, length-append, length-map, slice_get_within, get_there, ClientId, Messages, Sheet, EventsAddThis, PlainWorkload, Leased, Buffer, PlainCoordinatorActor, Hears, heard_of, ListsHaveTheirChunks, NodeWork, came_of, is_of, PlainClosedAgent, RunState, moved_by, asked_by, AllSents, IsClosedAgentAt, Passing, Asked, ClosingAt}
 use Rattle.hs_agent.specs.Points.{sheet_in}
-use Rattle.hs_base.specs.declared.settings.TriggerRule.{TriggerRule}
 use Rattle.hs_lists.proofs.Alls.{all_at, all_by_place, all_front, all_map}
 use Rattle.hs_law_agent.specs.Laws.{CanReport, ChunksStandByTheirClaim, EventsAddFew, EventsGoOn, sheets_of, StepsSayWhatTheyTell, TurnsReport}
+use Rattle.hs_law_journal.proofs.ItemsTaken.{sheets_taken}
+use Rattle.hs_law_journal.proofs.Shares.{HaveWeights}
 use Rattle.hs_law_journal.specs.Doings.{chunks_in}
 use Rattle.hs_run_agent.specs.Agents.{IsPageThere, state_at}
-use Rattle.hs_run_story.proofs.Chunks.{chunks_came, sheet_is, sheets_taken}
-use Rattle.hs_run_story.proofs.Lists.{all_passing}
+use Rattle.hs_run_story.proofs.Chunks.{chunks_came, sheet_is}
+use Rattle.hs_law_journal.proofs.Lists.{all_passing}
 use Rattle.hs_words.specs.Chunks.{used_of}
-use Rattle.hs_run.specs.Accounts.{load_of, done_for, total, PaysFor, worked}
+use Rattle.hs_run.specs.Accounts.{load_of, done_for, PaysFor}
 use Rattle.hs_run.specs.Closings.{SentsFit}
 use Rattle.hs_run.specs.Shutting.{IsSomethingLeft}
 use Rattle.hs_run.proofs.Gains.{Gains}
-use Rattle.hs_run.proofs.Reporting.{can_report}
-use Rattle.hs_run.proofs.Totals.{total_both, total_le, total_lt}
+use Rattle.hs_run.proofs.Reporting.{pins_report}
+use Rattle.hs_run.proofs.Totals.{total_both, total_lt}
 use Rattle.hs_run.proofs.Waiting.{Waits, AMessage, node_waits, find_told, pass_even, pass_gains}
 
 -- what is known of agents
@@ -27,7 +28,7 @@ pub record Laws (W : PlainWorkload) : Type 0 where
   pub reports : TurnsReport
   pub places : ListsHaveTheirChunks
   pub claims : ChunksStandByTheirClaim
-  pub weights : AllByRecursion (λ (rule : TriggerRule). 1 ≤ rule.weight) W.settings.triggers
+  pub weights : HaveWeights W.settings.triggers
 
 -- ---- one node
 
@@ -59,7 +60,7 @@ module _ (W : PlainWorkload) (node : ℕ) (sents : AllSents) (work : NodeWork) (
       (all_map (λ (sheet : Sheet). used_of sheet ≤ W.settings.size) sheet_in work.came (came_fits fit low))
 
   pub reports_pinned : Laws W → (fit : SentsFit W sents) → node < W.settings.nodes → (place : ℕ) (others : List ℕ) → (state_at W work).pinned ≡ place ∷ others → CanReport W.settings (state_at W work)
-  reports_pinned laws fit low = can_report laws.places laws.claims laws.few W laws.weights work.node work.events at.is.stands.works.is.within (taken_fits laws.adds fit low)
+  reports_pinned laws fit low = pins_report laws.places laws.claims laws.few W laws.weights work.node work.events at.is.stands.works.is.within (taken_fits laws.adds fit low)
 
 -- ---- all nodes
 

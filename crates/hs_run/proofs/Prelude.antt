@@ -32,8 +32,8 @@ pub use Rattle.hs_law_sends.specs.Timing.{timed_pages, TimedPage}
 pub use Rattle.hs_link.specs.Contents.{Incoming, Outgoing, Remaining, sent}
 pub use Rattle.hs_lists.proofs.Alls.{all_each}
 pub use Rattle.hs_lists.proofs.Lent.{indexed, lent_from, lent_is, lent_whole, lent_whole_is}
-pub use Rattle.hs_lists.proofs.Numbers.{mul_at_least, same_or_less}
-pub use Rattle.hs_lists.proofs.Parts.{map_self, option_to_list_short}
+pub use Rattle.hs_lists.proofs.Numbers.{same_or_less}
+pub use Rattle.hs_lists.proofs.Parts.{map_self}
 pub use Rattle.hs_lists.proofs.Places.{get_other, get_set, get_set_cases, get_there, get_unmap}
 pub use Rattle.hs_lists.proofs.Updates.{same_everywhere}
 pub use Rattle.hs_live.specs.Calls.{AreMates}

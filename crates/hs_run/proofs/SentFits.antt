@@ -1,6 +1,6 @@
 -- What the clients of a run sent: of each kind no more than a workload has, and pages that fit.
-use Rattle.std.proofs.Common.{◌≡◌, ℕ, zero, suc, ◌+◌, ◌*◌, ◌<◌, ◌≤◌, Bool, false, List, [], ◌∷◌, ◌++◌, length, map, filter, nat_lt, refl, sym, ap, subst, ◌∙◌, Option, None, Some, arith, slice_get, unwrap_or}
-use Rattle.hs_run.proofs.Prelude.{AllByRecursion, length-map, sum_by-cons, get_there, ClientId, client_of, MAX_OPERATIONS, sent, Operation, PlainSettings, PlainWorkload, operations_at, place_of, TimedPage, timed_pages, Leased, Buffer, Sheet, PlainClientActor, ClientActorIsAt, HasSentSoFar, RunState, RunStands, PlainNodeActors, sents_at}
+use Rattle.std.proofs.Common.{◌≡◌, ℕ, zero, suc, ◌+◌, ◌*◌, ◌<◌, ◌≤◌, List, [], ◌∷◌, ◌++◌, length, map, filter, nat_lt, refl, sym, ap, subst, ◌∙◌, None, Some, arith, slice_get, unwrap_or}
+use Rattle.hs_run.proofs.Prelude.{AllByRecursion, length-map, sum_by-cons, get_there, ClientId, client_of, MAX_OPERATIONS, sent, Operation, PlainWorkload, operations_at, place_of, TimedPage, timed_pages, Leased, Buffer, Sheet, PlainClientActor, ClientActorIsAt, RunState, RunStands, PlainNodeActors, sents_at}
 use Rattle.std.specs.List.{sum_by}
 use Rattle.hs_agent.specs.Points.{sheet_in}
 use Rattle.hs_client.specs.Calls.{sheet_for}
@@ -8,15 +8,15 @@ use Rattle.hs_journal.specs.declared.journal.Draw.{Draw}
 use Rattle.hs_lists.proofs.Alls.{all_filter, all_map, all_unmap}
 use Rattle.hs_lists.proofs.Filters.{filter_few}
 use Rattle.hs_law_journal.specs.Known.{PiecesCounted}
-use Rattle.hs_law_journal.proofs.FewSent.{sends_few}
+use Rattle.hs_law_journal.proofs.FewSent.{chunks_few, drawn_few, sends_few}
 use Rattle.hs_law_journal.proofs.Sizes.{all_few, client_few}
+use Rattle.hs_law_journal.proofs.Workloads.{ends_at}
 use Rattle.hs_law_lockstep.specs.Clauses.{ValidWorkloadsRun}
 use Rattle.hs_law_sends.specs.Drawn.{DrawnPage, drawn_from, has_buffer}
 use Rattle.hs_law_sends.specs.Laws.{PagesFit, TimedPagesAreThePages}
 use Rattle.hs_law_sends.specs.OneMore.{items_of}
 use Rattle.hs_law_sends.specs.Sending.{Sent, sends_of, sent_chunks, sent_within, sheet_of}
-use Rattle.hs_records.specs.Pages.{PlainPage, pages_of}
-use Rattle.hs_records.specs.Records.{AreBracketed}
+use Rattle.hs_records.specs.Pages.{pages_of}
 use Rattle.hs_run_story.proofs.Chunks.{sheets_are}
 use Rattle.hs_words.specs.Chunks.{used_of}
 use Rattle.hs_run.specs.Closings.{SentsFit}
@@ -37,23 +37,7 @@ drawn_fit size client number [] draws fit = tt
 drawn_fit size client number (page ∷ pages) [] fit = tt
 drawn_fit size client number (page ∷ pages) (draw ∷ draws) fit = (fit.0 client number, drawn_fit size client (number + 1) pages draws fit.1)
 
-drawn_few : (client : ClientId) (number : ℕ) (pages : List TimedPage) (draws : List Draw) → length (drawn_from client number pages draws) ≤ length pages
-drawn_few client number [] draws = omega arith
-drawn_few client number (page ∷ pages) [] = omega arith
-drawn_few client number (page ∷ pages) (draw ∷ draws) = let rest = drawn_few client (number + 1) pages draws in omega (arith, rest)
-
-chunks_few : (drawn : List DrawnPage) → length (sent_chunks drawn) ≤ length drawn
-chunks_few drawn =
-    let kept = filter_few (λ (d : DrawnPage). has_buffer d.draw) drawn in
-    let same : length (sent_chunks drawn) ≡ length (filter (λ (d : DrawnPage). has_buffer d.draw) drawn) = length-map (filter (λ (d : DrawnPage). has_buffer d.draw) drawn) _ in
-    omega (arith, kept, same)
-
 -- ---- a client among the others
-
-ends_there : (clients : List (List Operation)) (place : ℕ) → AllByRecursion (AreBracketed false) clients → AreBracketed false (unwrap_or (slice_get clients place) [])
-ends_there [] place all = refl
-ends_there (ops ∷ clients) zero all = all.0
-ends_there (ops ∷ clients) (suc place) all = ends_there clients place all.1
 
 sum_has : (f : List Operation → ℕ) → f [] ≡ 0 → (clients : List (List Operation)) (place : ℕ) → f (unwrap_or (slice_get clients place) []) ≤ sum_by f clients
 sum_has f none [] place = omega (arith, none)
@@ -96,7 +80,7 @@ module _ (known : Known) (W : PlainWorkload) (m : RunState) (stands : RunStands 
       let few_chunks = items_few (map sheet_in (sent caller.client.chunks)) all caller.done sheets in
       let few_sent = chunks_few drawn in
       let few_drawn = drawn_few client 0 (timed_pages size ops) draws in
-      let pages = sym (length-map (timed_pages size ops) (λ (p : TimedPage). p.page)) ∙ ap length (known.paged size ops (ends_there W.clients place runs.laid.ends)) in
+      let pages = sym (length-map (timed_pages size ops) (λ (p : TimedPage). p.page)) ∙ ap length (known.paged size ops (ends_at W.clients place runs.laid.ends)) in
       let has = sum_has (λ ops. length (pages_of size ops) + length ops) refl W.clients place in
       let every = all_few known.counted size W.clients runs.laid.ends in
       let most = valid.few in

@@ -9,7 +9,7 @@ use Rattle.hs_law_agent.specs.Laws.{ListsEach, count_of, given_places}
 use Rattle.hs_law_agent.specs.Standings.{Taken, is_let_go, stands}
 use Rattle.hs_law_agent.specs.State.{AgentState, GivenPlace, start}
 use Rattle.hs_law_agent.specs.Stepping.{Input, Chunk, Crumbed, Triggered, Asked, Turn, Given, Missed, Unread, Took, Gave, after_event, after_from, give_back, step_of}
-use Rattle.hs_run_story.proofs.Chunks.{sheets_taken}
+use Rattle.hs_law_journal.proofs.ItemsTaken.{sheets_taken}
 use Rattle.hs_run.proofs.TallyLists.{few_for_each}
 
 -- ---- steps

@@ -1,6 +1,5 @@
 mod Prelude
 pub mod Coming
-pub mod Lists
 pub mod Chunks
 pub mod Drawing
 pub mod Spanning

@@ -6,17 +6,11 @@ use Rattle.hs_lists.proofs.Alls.{all_each}
 use Rattle.hs_ring.specs.Parts.{AllBelow}
 use Rattle.hs_law_sends.specs.Timing.{TimedPage, timed_pages}
 use Rattle.hs_words.specs.Ends.{GiverTurn, met, answers_in, told_in, stamps_in}
-use Rattle.hs_law_run.proofs.UnreadShown.{told_more}
+use Rattle.hs_law_journal.proofs.Told.{answers_behind, any_behind, told_more}
 use Rattle.hs_run_story.proofs.Drawing.{draws_long}
 use Rattle.hs_run_story.proofs.Moments.{site_of, caller_of, site_there, caller_there, site_stands, site_acts, site_meets, site_moves, giver_same}
 
 -- ---- meetings among turns
-
-pub answers_behind : (callers : List PlainClientActor) (turns : List GiverTurn) → answers_in (reverse (map told_of callers) ++ turns) ≡ answers_in turns
-answers_behind [] turns = refl
-answers_behind (caller ∷ callers) turns =
-    ap (λ front. answers_in (front ++ turns)) (reverse_cons (told_of caller) (map told_of callers)) ∙ ap answers_in (append_assoc (reverse (map told_of callers)) (told_of caller ∷ []) turns)
-    ∙ answers_behind callers (told_of caller ∷ turns)
 
 any_front : (q : ℕ → Bool) (xs ys : List ℕ) → list_any q xs ≡ true → list_any q (xs ++ ys) ≡ true
 any_front q [] ys h = let no : false ≡ true = h in absurd cc
@@ -25,14 +19,6 @@ any_front q (x ∷ xs) ys h = either (q x) h (λ g. any_front q xs ys g)
     either : (b : Bool) → (b || list_any q xs) ≡ true → (list_any q xs ≡ true → list_any q (xs ++ ys) ≡ true) → (b || list_any q (xs ++ ys)) ≡ true
     either true h rest = refl
     either false h rest = rest h
-
-any_behind : (q : ℕ → Bool) (xs ys : List ℕ) → list_any q ys ≡ true → list_any q (xs ++ ys) ≡ true
-any_behind q [] ys h = h
-any_behind q (x ∷ xs) ys h = or_right (q x) (list_any q (xs ++ ys)) (any_behind q xs ys h)
-  where
-    or_right : (a b : Bool) → b ≡ true → (a || b) ≡ true
-    or_right true b h = refl
-    or_right false b h = h
 
 -- who was met told of all draws
 told_by_met : (q : ℕ → Bool) (callers : List PlainClientActor) (turns : List GiverTurn) (number : ℕ) (caller : PlainClientActor) → slice_get callers number ≡ Some caller → list_any q (stamps_in caller.client.drawer.answers) ≡ true
@@ -149,7 +135,7 @@ module _ (W : PlainWorkload) (valid : IsValid W) (rounds : ℕ) (m : RunState) (
           drawn_below = subst (λ (list : List Answer). AllBelow (ends_at node (suc k)).floor list) (sym answers)
               (subst (λ bound. AllBelow bound (acted_at node k client).client.drawer.answers) (sym (ap (λ g. g.floor) same)) (giver.above_drawn client (acted_at node k client) (here_acted k client low own)));
           given_below = subst (λ (list : List Answer). AllBelow ((ends_at node (suc k)).floors client) list)
-              (sym (ap answers_in turns ∙ answers_behind (site_of W valid rounds m came (came.acted k) node).callers (site_of W valid rounds m came (came.acted k) node).agent.port.giver.turns))
+              (sym (ap answers_in turns ∙ answers_behind (λ (caller : PlainClientActor). stamps_in caller.client.drawer.answers) (site_of W valid rounds m came (came.acted k) node).callers (site_of W valid rounds m came (came.acted k) node).agent.port.giver.turns))
               (subst (λ bound. AllBelow bound (answers_in (site_of W valid rounds m came (came.acted k) node).agent.port.giver.turns)) (sym floor) met.above_given);
           told = subst (λ (list : List Answer). AllByRecursion (λ (a : Answer). list_any (λ told. told == a.stamp) (told_in (ends_at node (suc k)).turns) ≡ true) list) (sym answers)
               (all_each (λ (a : Answer). list_any (λ told. told == a.stamp) (stamps_in (acted_at node k client).client.drawer.answers) ≡ true)

@@ -1,18 +1,12 @@
 -- What a node's log has noted behind a round.
-use Rattle.std.proofs.Common.{◌≡◌, ℕ, zero, suc, ◌+◌, ◌<◌, ◌≤◌, List, [], map, take, sym, ap, ◌∙◌, arith}
+use Rattle.std.proofs.Common.{◌≡◌, ℕ, List, [], map, take, sym, ap, ◌∙◌, arith}
 use Rattle.hs_run_story.proofs.Prelude.{AllByRecursion, flat_map, range_with_len, steps_of, grown_all, added, Step, passes_of, AgentEvent, NodeWork, RoundsAreNoted, NodeBetweenPasses}
+use Rattle.hs_law_journal.proofs.Joined.{all_mapped_range, grown, steps_joined}
 use Rattle.hs_law_journal.proofs.Passes.{passes_are}
 use Rattle.hs_law_journal.specs.Doings.{joined}
 use Rattle.hs_law_journal.specs.LoopPasses.{IsPass}
-use Rattle.hs_law_run.proofs.Joined.{steps_joined}
-use Rattle.hs_law_run.proofs.Grown.{grown}
 use Rattle.hs_run_story.proofs.Joined.{post, heard_by, post_low, post_last, all_posts, all_steps}
 use Rattle.hs_run_story.proofs.Spanning.{grows, ends_pass}
-
--- what holds of each of so many numbers
-ranged : {X : Type 0} (P : X → Type 0) (f : ℕ → X) (from count : ℕ) → ((k : ℕ) → from ≤ k → k < from + count → P (f k)) → AllByRecursion P (map f (range_with_len from count))
-ranged P f from zero each = tt
-ranged P f from (suc count) each = (each from (omega arith) (omega arith), ranged P f (from + 1) count (λ k low high. each k (omega (arith, low)) (omega (arith, high))))
 
 pub noted : RoundsAreNoted
 noted W rounds m passes nodes heard valid came closing node few k low =
@@ -25,10 +19,10 @@ noted W rounds m passes nodes heard valid came closing node few k low =
     ap (λ (p : NodeBetweenPasses). p.work.events) (post_low W valid rounds m came passes nodes heard closing node 0 (omega arith)) ∙ ap (λ (w : NodeWork). w.events) (came.begun.works node) in
     let grow = grows W node passes heards here stands steps in
     let lists = map (added events) (range_with_len 0 passes) in
-    let all : AllByRecursion (IsPass W) lists = ranged (IsPass W) (added events) 0 passes (λ j from high. (ends_pass W node passes heards here stands steps j (omega (arith, high))).is_pass) in
+    let all : AllByRecursion (IsPass W) lists = all_mapped_range (IsPass W) (added events) passes (λ j high. (ends_pass W node passes heards here stands steps j high).is_pass) in
     let enough = closing.enough in
-    let end : joined lists ≡ (nodes node).work.events = grown_all events passes begins grow ∙ ap (λ (p : NodeBetweenPasses). p.work.events) (post_last W valid rounds m came passes nodes heard closing node few) in
+    let end : joined lists ≡ (nodes node).work.events = grown_all events (added events) passes begins grow ∙ ap (λ (p : NodeBetweenPasses). p.work.events) (post_last W valid rounds m came passes nodes heard closing node few) in
     let front : joined (take k lists) ≡ ((came.at k).works node).events =
-    grown events passes begins grow k (omega (arith, low, enough)) ∙ ap (λ (p : NodeBetweenPasses). p.work.events) (post_low W valid rounds m came passes nodes heard closing node k low) in
+    grown events (added events) passes begins grow k (omega (arith, low, enough)) ∙ ap (λ (p : NodeBetweenPasses). p.work.events) (post_low W valid rounds m came passes nodes heard closing node k low) in
     ap (λ (l : List AgentEvent). flat_map (λ pass. pass) (take k (passes_of (steps_of l)))) (sym end)
     ∙ ap (λ (l : List (List Step)). flat_map (λ pass. pass) (take k l)) (passes_are W lists all) ∙ steps_joined k lists ∙ ap steps_of front

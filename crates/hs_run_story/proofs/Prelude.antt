@@ -9,12 +9,12 @@ pub use Rattle.hs_law_agent.specs.Books.{book_of}
 pub use Rattle.hs_law_agent.specs.Laws.{EventsAddThis, sheets_of}
 pub use Rattle.hs_law_agent.specs.State.{AgentState, start}
 pub use Rattle.hs_law_agent.specs.Stepping.{after, AgentEvent}
+pub use Rattle.hs_law_journal.proofs.Joined.{grown_all}
 pub use Rattle.hs_law_journal.specs.Doings.{asks_in, chunks_in, crumbs_in, steps_of, triggers_in}
 pub use Rattle.hs_law_journal.specs.Following.{asks_to, is_from}
 pub use Rattle.hs_law_journal.specs.LoopPasses.{HandsReady}
 pub use Rattle.hs_law_journal.specs.Passes.{passes_of}
 pub use Rattle.hs_law_journal.specs.Turns.{AreTurns}
-pub use Rattle.hs_law_run.proofs.Grown.{grown_all}
 pub use Rattle.hs_law_run.specs.Ends.{done_by, PoolEnds, PoolEndsMeet}
 pub use Rattle.hs_law_run.specs.Pools.{draw_answer}
 pub use Rattle.hs_law_run.specs.Stories.{added, sent_by, Story}

@@ -1,6 +1,6 @@
 -- What the story of a run that is over comes to.
 use Rattle.std.proofs.Common.{◌≡◌, ℕ, suc, ◌+◌, ◌*◌, ◌<◌, ◌≤◌, length, refl, sym, ap, subst, ◌∙◌, Option, Some, None, unwrap_or, option_map, arith, map, filter, slice_get, List, []}
-use Rattle.hs_run_story.proofs.Prelude.{range_with_len, option_map_or, map-map, Message, Messages, PlainJournal, Incoming, Key, book_of, EventsAddThis, after, PlainWorkload, draws_at, place_of, IsValid, crumbs_in, triggers_in, steps_of, PlainClientActor, NodeWork, is_of, PlainNodeActors, RunState, Came, Story, grown_all, Step, slice_get_within, NodeBetweenPasses, Closing, IsOver}
+use Rattle.hs_run_story.proofs.Prelude.{added, range_with_len, option_map_or, map-map, Message, Messages, PlainJournal, Incoming, Key, book_of, EventsAddThis, after, PlainWorkload, draws_at, place_of, IsValid, crumbs_in, triggers_in, steps_of, PlainClientActor, NodeWork, is_of, PlainNodeActors, RunState, Came, Story, grown_all, Step, slice_get_within, NodeBetweenPasses, Closing, IsOver}
 use Rattle.std.proofs.Math.Nat.{mul-le-mul_right}
 use Rattle.hs_law_journal.specs.Following.{NodeRun, followed, log_at}
 use Rattle.hs_law_journal.specs.Doings.{NodeDoings, all_events, journal_of}
@@ -81,7 +81,7 @@ module _ (adds : EventsAddThis) (sends : HaveSent) (sends_all : HaveSentAll) (la
         let log : NodeDoings → List Step = λ n. steps_of (all_events n) in
         ap (λ (o : Option (List Step)). unwrap_or o [])
         (slice_get-map log (map (node_doings told_by) (range_with_len 0 W.settings.nodes)) node ∙ ap (option_map log) (map_range_at (node_doings told_by) W.settings.nodes node few))
-        ∙ ap steps_of (grown_all (told_by.nodes node).events passes story_at.begins story_at.grows ∙ last)
+        ∙ ap steps_of (grown_all (told_by.nodes node).events (added (told_by.nodes node).events) passes story_at.begins story_at.grows ∙ last)
 
     pub recounted : (J : PlainJournal) × IsRecounted W m nodes heard J
     recounted = (

@@ -5,7 +5,7 @@ use Rattle.std.proofs.lemmas.List.Sums.{length-filter}
 use Rattle.hs_law_journal.specs.LoopPasses.{EndsPass}
 use Rattle.hs_law_journal.specs.Turns.{Lent}
 use Rattle.hs_law_journal.proofs.Lents.{turns_more}
-use Rattle.hs_run_story.proofs.Chunks.{sheets_taken}
+use Rattle.hs_law_journal.proofs.ItemsTaken.{sheets_taken}
 
 -- ---- messages
 

@@ -16,7 +16,7 @@ use Rattle.hs_run_story.proofs.Drawing.{draws_answers}
 use Rattle.hs_run_story.proofs.Joined.{post, heard_by, post_low, post_high, last_site, heard_low, heard_last, post_last, heard_grows, all_posts, all_steps, ends_by, all_met, ends_low}
 use Rattle.hs_run_story.proofs.LinkKinds.{chunk_links, crumb_links, trigger_links}
 use Rattle.hs_run_story.proofs.Links.{Kind, LinkBegan, told_at, takes_told, hears_sent, told_few}
-use Rattle.hs_run_story.proofs.Lists.{all_passing}
+use Rattle.hs_law_journal.proofs.Lists.{all_passing}
 use Rattle.hs_run_story.proofs.Moments.{site_of, site_stands}
 use Rattle.hs_run_story.proofs.Meetings.{HaveSent, caller_at, acted_at, here_at, is_at, done_at, sent_at, started_at, none_drawn}
 use Rattle.hs_run_story.proofs.Sending.{last_draws, sends_last, chunks_sent, crumbs_sent, triggers_sent}
