@@ -4,20 +4,12 @@ use Rattle.hs_replay.proofs.Prelude.{range_with_len, div-mul-add, slice_get_with
 use Rattle.std.proofs.lemmas.List.{length-map}
 use Rattle.std.proofs.Math.Nat.{suc-mul}
 use Rattle.std.proofs.lemmas.List.Sums.{fold-append}
-use Rattle.std.proofs.lemmas.Nat.{mul-add-lt}
 use Rattle.hs_base.specs.declared.limits.TheConstants.{MAX_CLIENTS}
+use Rattle.hs_law_journal.proofs.Workloads.{place_low}
 use Rattle.hs_law_lockstep.specs.Reaching as reaching
 use Rattle.hs_workload.specs.Views.{operations_of}
 use Rattle.hs_workload.specs.declared.word.Setting.TheVariants as settings
-use Rattle.hs_workload.proofs.Sizes.{product_few, last_low, operations_sliced}
-
--- ---- lists
-
-pub place_below : (W : PlainWorkload) → IsValid W → (n client : ℕ) → n < W.settings.nodes → client < W.settings.clients → place_of W.settings.clients n client < length W.clients
-place_below W valid n client node_low low =
-    let there = mul-add-lt n W.settings.clients client W.settings.nodes node_low low in
-    let count = valid.count in
-    omega (arith, there, count)
+use Rattle.hs_workload.proofs.Sizes.{few_nodes, product_few, last_low, operations_sliced}
 
 -- ---- a client's turn
 
@@ -26,7 +18,7 @@ module _ (whole : MachinesAreWhole) (goes : ClientsGoSo) (W : PlainWorkload) (va
   each = W.settings.clients
 
   low_place : (n client : ℕ) → n < W.settings.nodes → client < each → place_of each n client < length W.clients
-  low_place n client node_low low = place_below W valid n client node_low low
+  low_place n client node_low low = place_low W valid n client node_low low
 
   pub run_at : (m : Machine) → IsReached W m → (n : ℕ) → n < W.settings.nodes → (run : NodeRun) × (node_at W m.journal n ≡ Some run)
   run_at m r n low = let count = (whole W valid m r).count in get_there (followed W m.journal).nodes n (omega (arith, low, count))
@@ -210,17 +202,8 @@ heard_still takes gives whole W valid some m r =
 
 -- ---- sizes
 
--- nodes and clients are few
-pub record AreFew (W : PlainWorkload) : Type 0 where
-  pub some : 0 < W.settings.nodes
-  pub nodes : W.settings.nodes ≤ MAX_NODES
-  pub clients : W.settings.clients ≤ MAX_CLIENTS
-
-pub are_few : (W : PlainWorkload) → IsValid W → AreFew W
-are_few W valid = let n = valid.head settings.Nodes in let c = valid.head settings.Clients in record { some = n.0; nodes = n.1; clients = c.1 }
-
 pub first_few : (W : PlainWorkload) → IsValid W → (n : ℕ) → n < W.settings.nodes → n * W.settings.clients ≤ MAX_NODES * MAX_CLIENTS
-first_few W valid n low = let few = are_few W valid in let a = few.nodes in product_few n W.settings.clients (omega (arith, low, a)) few.clients
+first_few W valid n low = let few = few_nodes W valid in product_few n W.settings.clients (omega (arith, low, few)) (valid.head settings.Clients).1
 
 -- the operations of a node's clients, as they lie in the workload
 pub clients_are : (w : Workload) → IsValid (workload_of w) → (n : ℕ) → n < w.settings.nodes → (given : List (Listing Op)) → given ≡ w.clients.items → (count : ℕ) → count ≡ w.settings.clients
@@ -257,4 +240,4 @@ all_still W m next nodes later coordinator all same at =
 pub all_passed : AgentsTakeSo → AgentsGiveSo → MachinesAreWhole → (W : PlainWorkload) (m : Machine) (nodes : List PlainReplayNode) (coordinator : PlainCoordinator) → AllAt W m nodes coordinator → (later : List PlainReplayNode)
     → NodesAt W (agents_give W (agents_take W m)) later → AllAt W (agents_give W (agents_take W m)) later coordinator
 all_passed takes gives whole W m nodes coordinator all later at =
-    all_still W m (agents_give W (agents_take W m)) nodes later coordinator all (heard_still takes gives whole W all.valid (are_few W all.valid).some m all.reached) at
+    all_still W m (agents_give W (agents_take W m)) nodes later coordinator all (heard_still takes gives whole W all.valid (all.valid.head settings.Nodes).0 m all.reached) at

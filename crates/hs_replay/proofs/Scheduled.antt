@@ -7,7 +7,8 @@ use Rattle.hs_law_journal.specs.Played.{played}
 use Rattle.hs_law_lockstep.specs.Ending.{HasRounds}
 use Rattle.hs_law_lockstep.specs.Lockstep.{passes, round}
 use Rattle.hs_law_lockstep.specs.Reaching as reaching
-use Rattle.hs_replay.proofs.Others.{place_below, gone, clients_are, all_still}
+use Rattle.hs_law_journal.proofs.Workloads.{place_low}
+use Rattle.hs_replay.proofs.Others.{gone, clients_are, all_still}
 
 -- each place is that of a client of a node
 place_parts : (W : PlainWorkload) → IsValid W → (place : ℕ) → place < length W.clients → (n : ℕ) × (number : ℕ) × (n < W.settings.nodes) × (number < W.settings.clients) × (place_of W.settings.clients n number ≡ place)
@@ -38,12 +39,12 @@ module _ (W : PlainWorkload) (valid : IsValid W) (m : Machine) where
   -- a client that has something left has it of all
   pub some_left : (n : ℕ) → n < W.settings.nodes → TellsNodeLeft W m n true → AllDone W m → ⊥
   some_left n low left all =
-      let done = all (place_of W.settings.clients n left.0) (place_below W valid n left.0 low left.1) in
+      let done = all (place_of W.settings.clients n left.0) (place_low W valid n left.0 low left.1) in
       let less = left.2 in
       omega (arith, done, less)
 
   pub node_done : AllDone W m → (n : ℕ) → n < W.settings.nodes → IsNodeDone W m n
-  node_done all n low client below = all (place_of W.settings.clients n client) (place_below W valid n client low below)
+  node_done all n low client below = all (place_of W.settings.clients n client) (place_low W valid n client low below)
 
   -- where all nodes are through, all clients are
   pub all_done : ((n : ℕ) → n < W.settings.nodes → IsNodeDone W m n) → AllDone W m

@@ -1,6 +1,6 @@
 -- The clients of a node in a valid workload, and their drawers.
 use Rattle.std.proofs.Common.{◌≡◌, ℕ, zero, suc, ◌+◌, ◌*◌, ◌<◌, ◌≤◌, List, [], ◌∷◌, length, map, take, drop, get_or, Some, None, sym, ap, ◌∙◌, arith, length-take, length-drop}
-use Rattle.hs_run_client.proofs.Prelude.{length-map, same_Some, slice_get, AllByRecursion, MAX_CLIENTS, Operation, PlainSettings, PlainWorkload, settings_of, Drawing, Giving, new_drawers, new_drawers_length, place_of, ops_of, PoolName, client_pieces, operations_of, workload_of, Op, lefts_of, drawer_for, IsDrawerFor}
+use Rattle.hs_run_client.proofs.Prelude.{length-map, same_Some, slice_get, AllByRecursion, MAX_CLIENTS, Operation, PlainSettings, PlainWorkload, settings_of, Drawing, Giving, new_drawers, new_drawers_length, ops_of, PoolName, client_pieces, operations_of, workload_of, Op, lefts_of, drawer_for, IsDrawerFor}
 use Rattle.std.proofs.lemmas.List.Sums.{sum_by-cons}
 use Rattle.std.proofs.lemmas.Option.{slice_get-get_or}
 use Rattle.std.specs.Prelude.{sum}
@@ -10,7 +10,7 @@ use Rattle.hs_base.specs.declared.limits.TheConstants.{MAX_OPERATIONS, MAX_NODES
 use Rattle.hs_workload.specs.Validity.{IsValid, workload_pieces}
 use Rattle.hs_workload.specs.declared.operation.Workload.{Workload}
 use Rattle.hs_workload.specs.declared.word.Setting.TheVariants as words
-use Rattle.hs_workload.proofs.Sizes.{product_few, last_low}
+use Rattle.hs_workload.proofs.Sizes.{last_low}
 use Rattle.hs_run_client.specs.Nodes.{AreClientsOf}
 
 -- ---- how many there are
@@ -22,12 +22,6 @@ pub record AreFew (W : PlainWorkload) : Type 0 where
 
 pub are_few : (W : PlainWorkload) → IsValid W → AreFew W
 are_few W valid = record { nodes = (valid.head words.Nodes).1; some = (valid.head words.Clients).0; clients = (valid.head words.Clients).1 }
-
-pub first_few : (W : PlainWorkload) → IsValid W → (node : ℕ) → node < W.settings.nodes → node * W.settings.clients ≤ MAX_NODES * MAX_CLIENTS
-first_few W valid node low = let few = are_few W valid in product_few node W.settings.clients (omega (arith, low, few.nodes)) few.clients
-
-pub place_low : (W : PlainWorkload) → IsValid W → (node number : ℕ) → node < W.settings.nodes → number < W.settings.clients → place_of W.settings.clients node number < length W.clients
-place_low W valid node number low within = let last = last_low W valid node low in omega (arith, last, within)
 
 pub count_of : (w : Workload) (node : ℕ) (clients : List (Listing Op)) → AreClientsOf w node clients → length clients ≡ w.settings.clients
 count_of w node clients is =

@@ -1,6 +1,7 @@
 use Rattle.std.proofs.Common.{◌+◌, ◌-◌, ◌*◌, arith}
 use Rattle.hs_replay.proofs.Prelude.{workload_of}
-use Rattle.hs_replay.proofs.Others.{first_few, are_few, clients_are}
+use Rattle.hs_workload.proofs.Sizes.{few_nodes}
+use Rattle.hs_replay.proofs.Others.{first_few, clients_are}
 use Rattle.hs_replay.proofs.start.make_at.Goals as goal
 
 pub overflow_mul-first : goal.overflow_mul-first
@@ -10,7 +11,7 @@ overflow_mul-first c =
 
 pub overflow_cast-number : goal.overflow_cast-number
 overflow_cast-number c =
-    let few = (are_few (workload_of c.args.workload.now) c.requires.valid).nodes in
+    let few = few_nodes (workload_of c.args.workload.now) c.requires.valid in
     let low = c.requires.low in
     omega (arith, few, low)
 

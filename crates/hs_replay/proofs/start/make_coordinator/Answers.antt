@@ -1,12 +1,12 @@
 use Rattle.std.proofs.Common.{arith}
 use Rattle.hs_replay.proofs.Prelude.{workload_of}
-use Rattle.hs_replay.proofs.Others.{are_few}
+use Rattle.hs_workload.proofs.Sizes.{few_nodes}
 use Rattle.hs_replay.proofs.Started.{coordinator_made}
 use Rattle.hs_replay.proofs.start.make_coordinator.Goals as goal
 
 pub make-requires : goal.make-requires
 make-requires c =
-    let few = (are_few (workload_of c.args.workload.now) c.requires.valid).nodes in
+    let few = few_nodes (workload_of c.args.workload.now) c.requires.valid in
     omega (arith, few)
 
 pub returns : goal.returns

@@ -1,6 +1,7 @@
 use Rattle.std.proofs.Common.{◌≡◌, ◌+◌, [], ◌∷◌, ◌++◌, List, length, map, sym, ap, ◌∙◌, subst, arith, length-append}
 use Rattle.hs_run_client.proofs.Prelude.{YieldsList-from_vec, YieldsList-turn, YieldsList-end, length-map, map-append, client_of, incoming, IsPlayable, Operation, place_of, ops_of, operation_of, workload_of, new_drawers_length, PlainClientActor, IsConnected, AreBegun, Receiving, lefts_of, IsDrawerFor}
-use Rattle.hs_run_client.proofs.Clients.{next_is, can_draw, are_few, place_low, count_of}
+use Rattle.hs_workload.proofs.Sizes.{last_low}
+use Rattle.hs_run_client.proofs.Clients.{next_is, can_draw, are_few, count_of}
 use Rattle.hs_run_client.proofs.Connecting.{begun_more}
 use Rattle.hs_run_client.proofs.node.connect_all.Goals as goal
 
@@ -20,7 +21,7 @@ make-requires-clause-playable c =
     let next = next_is w c.args.node c.args.clients.now c.args.giver.now c.args.drawers.items number (length c.loop-drawer.yielded) c.in-Some.drawer c.requires.clients c.requires.drawers c.loop-drawer.invariant.2 turn in
     let ops : map operation_of c.as_slice-operations.result.now ≡ ops_of W c.args.node number = ap (map operation_of) c.as_slice-operations.ensures ∙ next.ops_are c.index-clients-number.result c.index-clients-number.is in
     subst (λ (l : List Operation). IsPlayable W.settings l) (sym ops)
-    (c.valid_clients_may_be_played.ensures W c.requires.clients.valid (place_of W.settings.clients c.args.node number) (place_low W c.requires.clients.valid c.args.node number c.requires.clients.low next.low))
+    (c.valid_clients_may_be_played.ensures W c.requires.clients.valid (place_of W.settings.clients c.args.node number) (omega (arith, next.low, last_low W c.requires.clients.valid c.args.node c.requires.clients.low)))
 
 pub make-requires-clause-drawer : goal.make-requires-clause-drawer
 make-requires-clause-drawer c =
