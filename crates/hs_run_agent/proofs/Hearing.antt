@@ -8,6 +8,7 @@ use Rattle.hs_coord.specs.Kept.{PlainCoordinator, HasTaken}
 use Rattle.hs_coord.specs.Messages.{Message, message, is_of}
 use Rattle.hs_coord.specs.declared.asks.Asks.{Asks}
 use Rattle.hs_law_journal.specs.Following.{asks_to, ask_by, is_from}
+use Rattle.hs_law_journal.proofs.Hearing.{heard_both}
 use Rattle.hs_law_journal.proofs.Logs.{behind_more}
 use Rattle.hs_run_agent.specs.Coordinators.{IsHearable, Hears, IsMoved, AreFetched, IsPutBehind, heard_of, ask_for, asks_for}
 
@@ -26,18 +27,6 @@ module _ {A : Type 0} where
 
 abbrev pub name : ℕ → NodeId
 name n = record { 0 = n }
-
-heard_more : (node : ℕ) (xs ys : Messages) → heard_of node (xs ++ ys) ≡ heard_of node xs ++ heard_of node ys
-heard_more node [] ys = refl
-heard_more node (m ∷ xs) ys = by_test (is_from (name node) m) (heard_more node xs ys)
-  where
-    told : Message → Told
-    told m = m.told
-
-    by_test : (b : Bool) → heard_of node (xs ++ ys) ≡ heard_of node xs ++ heard_of node ys
-        → map told (cond b (m ∷ filter (is_from (name node)) (xs ++ ys)) (filter (is_from (name node)) (xs ++ ys))) ≡ map told (cond b (m ∷ filter (is_from (name node)) xs) (filter (is_from (name node)) xs)) ++ heard_of node ys
-    by_test true e = ap (λ (l : List Told). m.told ∷ l) e
-    by_test false e = e
 
 heard_own : (node : ℕ) (told : List Told) → heard_of node (map (message (name node)) told) ≡ told
 heard_own node [] = refl
@@ -98,11 +87,11 @@ module _ (W : PlainWorkload) (heard : Messages) (moved : Tellings) (asked : Aski
     waits_more other queue found =
         elim (found_set c.told node other rest queue found) [
           | inl h ↦
-              let here : heard_of node (heard ++ m ∷ []) ≡ heard_of node heard ++ told ∷ [] = heard_more node heard (m ∷ []) ∙ ap (λ (l : List Told). heard_of node heard ++ l) (heard_own node (told ∷ [])) in
+              let here : heard_of node (heard ++ m ∷ []) ≡ heard_of node heard ++ told ∷ [] = heard_both (name node) heard (m ∷ []) ∙ ap (λ (l : List Told). heard_of node heard ++ l) (heard_own node (told ∷ [])) in
               ap₂ (λ (n : ℕ) (l : List Told). heard_of n (heard ++ m ∷ []) ++ l) (sym h.0) (sym h.1) ∙ ap (λ (l : List Told). l ++ rest) here ∙ append_assoc (heard_of node heard) (told ∷ []) rest ∙ is.waits node (told ∷ rest) at
               ∙ ap moved h.0
           | inr h ↦
-              ap (λ (l : List Told). l ++ queue) (heard_more other heard (m ∷ []) ∙ ap (λ (l : List Told). heard_of other heard ++ l) (heard_other node other (told ∷ []) h.0) ∙ append-nil (heard_of other heard))
+              ap (λ (l : List Told). l ++ queue) (heard_both (name other) heard (m ∷ []) ∙ ap (λ (l : List Told). heard_of other heard ++ l) (heard_other node other (told ∷ []) h.0) ∙ append-nil (heard_of other heard))
               ∙ is.waits other queue h.1
         ]
 
@@ -158,7 +147,7 @@ module _ (W : PlainWorkload) (heard : Messages) (moved : Tellings) (asked : Aski
         }
 
     counted : length (heard_of node heard_now) ≡ length (heard_of node heard) + length some.more
-    counted = ap length (heard_more node heard (map (message (name node)) some.more) ∙ ap (λ (l : List Told). heard_of node heard ++ l) (heard_own node some.more)) ∙ length-append (heard_of node heard) some.more
+    counted = ap length (heard_both (name node) heard (map (message (name node)) some.more) ∙ ap (λ (l : List Told). heard_of node heard ++ l) (heard_own node some.more)) ∙ length-append (heard_of node heard) some.more
 
     pub heard_out : count < MAX_TAKEN → slice_get c.told node ≡ Some [] → HearsNode W heard moved asked node c
     heard_out low at =
@@ -198,11 +187,11 @@ module _ (W : PlainWorkload) (heard : Messages) (moved : Tellings) (asked : Aski
     first_more c' n =
         let told = map (message (name first)) n.more in
         let other : (node : ℕ) → (first ≡ node → ⊥) → heard_of node (h.more ++ told) ≡ heard_of node h.more = λ node apart.
-        heard_more node h.more told ∙ ap (λ (l : List Told). heard_of node h.more ++ l) (heard_other first node n.more apart) ∙ append-nil (heard_of node h.more)
+        heard_both (name node) h.more told ∙ ap (λ (l : List Told). heard_of node h.more ++ l) (heard_other first node n.more apart) ∙ append-nil (heard_of node h.more)
         in
-        let here : heard_of first (h.more ++ told) ≡ n.more = heard_more first h.more told ∙ ap₂ (λ (x y : List Told). x ++ y) (h.none first (omega arith)) (heard_own first n.more) in
+        let here : heard_of first (h.more ++ told) ≡ n.more = heard_both (name first) h.more told ∙ ap₂ (λ (x y : List Told). x ++ y) (h.none first (omega arith)) (heard_own first n.more) in
         let before : length (heard_of first (heard ++ h.more)) ≡ length (heard_of first heard) =
-        ap length (heard_more first heard h.more ∙ ap (λ (l : List Told). heard_of first heard ++ l) (h.none first (omega arith)) ∙ append-nil (heard_of first heard))
+        ap length (heard_both (name first) heard h.more ∙ ap (λ (l : List Told). heard_of first heard ++ l) (h.none first (omega arith)) ∙ append-nil (heard_of first heard))
         in
         record {
           more = h.more ++ told;
@@ -237,7 +226,7 @@ module _ (W : PlainWorkload) (heard : Messages) (moved : Tellings) (asked : Aski
         few = λ node low. h.few node (omega (arith, low, high));
         all = λ node low.
             (let all = h.all node (omega (arith, low, high)) in
-            let both = ap length (heard_more node heard h.more) ∙ length-append (heard_of node heard) (heard_of node h.more) in
+            let both = ap length (heard_both (name node) heard h.more) ∙ length-append (heard_of node heard) (heard_of node h.more) in
             omega (arith, all, both));
       },
     )

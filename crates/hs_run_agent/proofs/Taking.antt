@@ -1,6 +1,6 @@
 -- The agent takes an input that may come.
 use Rattle.std.proofs.Common.{◌≡◌, ℕ, List, [], ◌∷◌, ◌++◌, map, Option, Some, None, refl, sym, ap, subst, ◌∙◌, arith, append_assoc}
-use Rattle.hs_run_agent.proofs.Prelude.{map-append, IsSome, slice_get, AllByRecursion, flat_map, option_map_or, option_to_list, all_append, PlainAgent, sheet_in, Run, Follows, Knows, point_of, Told, EventsGoOn, EventsAddFew, StepsSayWhatTheyTell, brought_by, AgentState, start, AgentEvent, Took, Gave, Answered, after, after_from, after_event, told_by, PlainSettings, PlainWorkload, Leased, Buffer, buffer_of, Sheet, AgentIs, AgentWorks, IsPageThere, IsPooled, IsWithin, Label, label_of, run_at, state_at, NodeWork}
+use Rattle.hs_run_agent.proofs.Prelude.{map-append, IsSome, slice_get, AllByRecursion, flat_map, option_to_list, all_append, PlainAgent, sheet_in, Run, Follows, Knows, point_of, Told, EventsGoOn, EventsAddFew, StepsSayWhatTheyTell, brought_by, AgentState, start, AgentEvent, Took, Gave, Answered, after_from, after_event, PlainSettings, PlainWorkload, Leased, Buffer, buffer_of, Sheet, AgentIs, AgentWorks, IsPageThere, IsPooled, IsWithin, Label, label_of, run_at, state_at, NodeWork}
 use Rattle.hs_agent.specs.declared.input.Input.{Input}
 use Rattle.hs_agent.specs.declared.input.Input.TheVariants as inputs
 use Rattle.hs_agent.specs.Runs.{IsTakable, after_input, buffers_in, input_of, told_in}
@@ -30,9 +30,9 @@ brought_more (event ∷ events) more = ap (λ (l : List Sheet). brought_by event
 
 -- ---- inputs
 
--- the page of a chunk
-pub sheet_is : (buffer : Buffer Leased) (sheet : Sheet) → buffer.chunk.page ≡ Some sheet → sheet_in buffer ≡ sheet
-sheet_is buffer sheet e = ap (λ (o : Option Sheet). option_map_or (λ (s : Sheet). s) o (sheet_in (record { chunk = record buffer.chunk { page = None }; lease = buffer.lease }))) e
+-- a buffer in which a page came is of the page's client
+owner_is : (buffer : Buffer Leased) (sheet : Sheet) → buffer.chunk.page ≡ Some sheet → (sheet_in buffer).header.client ≡ sheet.header.client
+owner_is buffer sheet e = ap (λ (page : Option Sheet). (sheet_in (record buffer { chunk = record (buffer.chunk) { page = page } })).header.client) e
 
 brought : {g : _} (input : Input Leased g) → map sheet_in (buffers_in input) ≡ flat_map brought_by (Took (input_of input) ∷ [])
 brought (inputs.Chunk client held) = refl
@@ -46,7 +46,7 @@ module _ (W : PlainWorkload) (work : NodeWork) where
   may_take few buffers (inputs.Chunk client held) may =
       record {
         started = subst (λ (page : Option Sheet). IsSome page) (sym may.page) refl;
-        from = ap (λ (s : Sheet). s.header.client) (sheet_is (buffer_of held) may.sheet may.page) ∙ may.owner;
+        from = owner_is (buffer_of held) may.sheet may.page ∙ may.owner;
         size = may.size;
       }
   may_take few buffers (inputs.Crumb client crumb) may = may.1
@@ -73,7 +73,7 @@ module _ (W : PlainWorkload) (work : NodeWork) where
   brings_pages inputs.Turn may = tt
 
   is_within : {g : _} (input : Input Leased g) → MayCome W work input → IsWithin W work.node (Took (input_of input))
-  is_within (inputs.Chunk client held) may = (may.low, ap (λ (s : Sheet). s.header.client) (sheet_is (buffer_of held) may.sheet may.page) ∙ may.owner)
+  is_within (inputs.Chunk client held) may = (may.low, owner_is (buffer_of held) may.sheet may.page ∙ may.owner)
   is_within (inputs.Crumb client crumb) may = may
   is_within (inputs.Trigger client trigger) may = (may.0, may.1)
   is_within (inputs.Ask ask) may = may
