@@ -16,7 +16,7 @@ use Rattle.hs_words.specs.Chunks.{used_of}
 use Rattle.hs_words.specs.Pages.{FitsPiece}
 use Rattle.hs_workload.specs.declared.word.Setting.TheVariants as settings
 use Rattle.hs_report.specs.Fitting.{ReportedPagesArePages, JournalsCanBeRead}
-use Rattle.hs_report.proofs.Shapes.{ends_its_traces}
+use Rattle.hs_law_outcome.proofs.Followed.{ends_its_traces}
 use Rattle.hs_law_outcome.specs.Records.{client_records}
 use Rattle.hs_law_outcome.proofs.ClientBooks.{length_named}
 use Rattle.hs_records.specs.Pages.{PlainPage, first_record, pages_of}

@@ -8,7 +8,7 @@ use Rattle.hs_report.proofs.Prelude.{filter, flat_map, length-map, TraceId, Plac
 use Rattle.hs_law_outcome.specs.declared.form.Form.{Form}
 use Rattle.hs_law_outcome.specs.OutcomeText.{reports_text, ledger_text, outcome_text}
 use Rattle.hs_law_outcome.specs.Reports.{Report, report_of, reports_in}
-use Rattle.hs_report.proofs.Shapes.{ends_its_traces}
+use Rattle.hs_law_outcome.proofs.Followed.{ends_its_traces}
 
 -- what the collector joined of a trace, as far as it was reported, is what the trace's report shows
 pub shown : CollectedRecordsAreWhole → (W : PlainWorkload) (J : PlainJournal) (outcome : Outcome) → IsValid W → IsLawful W J → IsOutcome W J outcome

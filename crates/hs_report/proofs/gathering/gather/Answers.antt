@@ -5,7 +5,7 @@ use Rattle.hs_ledger.specs.Fates.{entries_of}
 use Rattle.hs_ledger.specs.Totals.{totals_of}
 use Rattle.hs_law_outcome.specs.Outcomes.{client_books}
 use Rattle.hs_report.proofs.Journals.{journal_is, claimed_are, sent_are}
-use Rattle.hs_report.proofs.Shapes.{ends_its_traces}
+use Rattle.hs_law_outcome.proofs.Followed.{ends_its_traces}
 use Rattle.hs_report.proofs.gathering.gather.Goals as goal
 
 pub make_ledger-requires : goal.make_ledger-requires
