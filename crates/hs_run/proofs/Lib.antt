@@ -7,6 +7,7 @@ pub mod Moments
 pub mod Telling
 pub mod Changed
 pub mod FewTaken
+pub mod Pages
 pub mod Few
 pub mod Moved
 pub mod Rounded

@@ -1,6 +1,6 @@
 -- A pass behind the rounds, before which anything is left, is paid for.
-use Rattle.std.proofs.Common.{◌≡◌, inl, inr, ℕ, ◌+◌, ◌<◌, ◌≤◌, List, ◌∷◌, ◌++◌, length, sym, ap, subst, ◌∙◌, arith, eq-eqb}
-use Rattle.hs_run.proofs.Prelude.{AllByRecursion, length-append, length-map, slice_get_within, get_there, ClientId, Messages, Sheet, EventsAddThis, PlainWorkload, Leased, Buffer, PlainCoordinatorActor, Hears, heard_of, ListsHaveTheirChunks, NodeWork, came_of, is_of, PlainClosedAgent, RunState, moved_by, asked_by, AllSents, IsClosedAgentAt, Passing, Asked, ClosingAt}
+use Rattle.std.proofs.Common.{◌≡◌, inl, inr, ℕ, ◌+◌, ◌<◌, ◌≤◌, List, ◌∷◌, ◌++◌, length, sym, ap, subst, ◌∙◌, arith}
+use Rattle.hs_run.proofs.Prelude.{AllByRecursion, length-append, length-map, slice_get_within, get_there, Messages, Sheet, EventsAddThis, PlainWorkload, Leased, Buffer, PlainCoordinatorActor, Hears, heard_of, ListsHaveTheirChunks, NodeWork, came_of, is_of, PlainClosedAgent, RunState, moved_by, asked_by, AllSents, IsClosedAgentAt, Passing, Asked, ClosingAt}
 use Rattle.hs_agent.specs.Points.{sheet_in}
 use Rattle.hs_lists.proofs.Alls.{all_at, all_by_place, all_front, all_map}
 use Rattle.hs_law_agent.specs.Laws.{CanReport, ChunksStandByTheirClaim, EventsAddFew, EventsGoOn, sheets_of, StepsSayWhatTheyTell, TurnsReport}
@@ -8,13 +8,14 @@ use Rattle.hs_law_journal.proofs.ItemsTaken.{sheets_taken}
 use Rattle.hs_law_journal.proofs.Shares.{HaveWeights}
 use Rattle.hs_law_journal.specs.Doings.{chunks_in}
 use Rattle.hs_run_agent.specs.Agents.{IsPageThere, state_at}
-use Rattle.hs_run_story.proofs.Chunks.{chunks_came, sheet_is}
+use Rattle.hs_run_story.proofs.Chunks.{chunks_came}
 use Rattle.hs_law_journal.proofs.Lists.{all_passing}
 use Rattle.hs_words.specs.Chunks.{used_of}
 use Rattle.hs_run.specs.Accounts.{load_of, done_for, PaysFor}
 use Rattle.hs_run.specs.Closings.{SentsFit}
 use Rattle.hs_run.specs.Shutting.{IsSomethingLeft}
 use Rattle.hs_run.proofs.Gains.{Gains}
+use Rattle.hs_run.proofs.Pages.{of_client}
 use Rattle.hs_run.proofs.Reporting.{pins_report}
 use Rattle.hs_run.proofs.Totals.{total_both, total_lt}
 use Rattle.hs_run.proofs.Waiting.{Waits, AMessage, node_waits, find_told, pass_even, pass_gains}
@@ -52,7 +53,7 @@ module _ (W : PlainWorkload) (node : ℕ) (sents : AllSents) (work : NodeWork) (
       let sent = subst (AllByRecursion Fits) (sym (at.is.left.chunks there.client rest.0 rest.1)) (fit.fit node there.client low own) in
       let came = all_passing Fits (is_of there.client) work.came (all_front Fits (came_of there.client work) rest.0.items sent) in
       all_at (λ (b : Buffer Leased). is_of there.client b ≡ _ → Fits b) work.came i buffer came h
-      (eq-eqb _ there.client (ap (λ (sheet : Sheet). sheet.header.client.number) (sheet_is buffer there.is.sheet there.is.page) ∙ ap (λ (owner : ClientId). owner.number) there.is.owner)))
+      (of_client W work.node work.pool buffer there))
 
   taken_fits : EventsAddThis → (fit : SentsFit W sents) → node < W.settings.nodes → AllByRecursion (λ (sheet : Sheet). used_of sheet ≤ W.settings.size) (sheets_of (state_at W work).taken)
   taken_fits adds fit low =

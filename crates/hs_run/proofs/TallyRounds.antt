@@ -1,19 +1,19 @@
 -- How the counts go on behind a round: what was counted behind the round before is a part of what there is to count now, and no sum is large.
-use Rattle.std.proofs.Common.{◌≡◌, ℕ, suc, ◌*◌, ◌/◌, ◌%◌, ◌<◌, ◌≤◌, true, List, ◌++◌, length, map, take, replicate, Some, sym, ap, ◌∙◌, arith, slice_get, count_by, eq-eqb, length-append, div-lt_iff_lt-mul, div-add-mod'}
-use Rattle.hs_run.proofs.Prelude.{mod-lt, suc-mul, mul-le-mul_right, length-map, map-append, same_Some, flat_map, all_each, get_there, steps_of, ClientId, MAX_OPERATIONS, client_of, PlainClientActor, ClientCount, LogCount, AreCounts, client_count, log_count, PlainCoordinatorActor, PlainAgentActor, IsAgentActor, NodeWork, came_of, is_of, Step, EventsAddThis, ListsHaveTheirChunks, brought_by, noted_as, is_point, is_chunk, is_given, PlainWorkload, Leased, NodeActorsMeet, PlainNodeActors, RunState, NodeActorsStand, RunStands, IsBegun, operations_at, place_of, Buffer, Sheet, IsValid, product_few, few_nodes, last_low, ActingNode, EachChanged, RoundsMade, sites_of, FitTotals, no_operations, no_steps, MayCountClient, MayCountNodes, CountedNodes, MayCountLog, LogCounted}
+use Rattle.std.proofs.Common.{◌≡◌, ℕ, suc, ◌*◌, ◌/◌, ◌%◌, ◌<◌, ◌≤◌, true, List, ◌++◌, length, map, take, replicate, Some, sym, ap, ◌∙◌, arith, slice_get, count_by, length-append, div-lt_iff_lt-mul, div-add-mod'}
+use Rattle.hs_run.proofs.Prelude.{mod-lt, suc-mul, mul-le-mul_right, length-map, map-append, same_Some, flat_map, all_each, get_there, steps_of, MAX_OPERATIONS, client_of, PlainClientActor, ClientCount, LogCount, AreCounts, client_count, log_count, PlainCoordinatorActor, PlainAgentActor, IsAgentActor, NodeWork, came_of, is_of, Step, EventsAddThis, ListsHaveTheirChunks, brought_by, noted_as, is_point, is_chunk, is_given, PlainWorkload, Leased, NodeActorsMeet, PlainNodeActors, RunState, NodeActorsStand, RunStands, IsBegun, operations_at, place_of, Buffer, IsValid, product_few, few_nodes, last_low, ActingNode, EachChanged, RoundsMade, sites_of, FitTotals, no_operations, no_steps, MayCountClient, MayCountNodes, CountedNodes, MayCountLog, LogCounted}
 use Rattle.std.proofs.Math.Seq.{take-append_seam}
 use Rattle.std.proofs.lemmas.List.{length-replicate}
 use Rattle.std.proofs.lemmas.Option.{slice_get_within as within}
 use Rattle.hs_law_journal.proofs.ItemsTaken.{own_log}
 use Rattle.hs_base.specs.declared.limits.TheConstants.{MAX_NODES, MAX_CLIENTS}
 use Rattle.hs_run_agent.specs.Agents.{IsPageThere}
-use Rattle.hs_run_story.proofs.Chunks.{sheet_is}
 use Rattle.hs_run_story.proofs.Meetings.{caller_at, done_at, here_at}
 use Rattle.hs_run_story.proofs.Moments.{doing_same, round_steps, site_acts, site_meets, site_of, site_there, stands_at}
 use Rattle.hs_workload.specs.declared.word.Setting.TheVariants as settings
 use Rattle.hs_run.specs.TallyingNodes.{MayCountLogs}
 use Rattle.hs_run.proofs.FewTaken.{few_clients}
 use Rattle.hs_run.proofs.Moments.{node_count, node_low, node_stands, node_there, site_there as there_among}
+use Rattle.hs_run.proofs.Pages.{of_client}
 use Rattle.hs_run.proofs.Rounded.{few_operations}
 use Rattle.hs_run.proofs.TallyAgents.{chunks_noted, few_gives}
 use Rattle.hs_run.proofs.TallyClients.{SendSo, few_chunks, few_nulls, few_points, nothing_counted}
@@ -52,11 +52,7 @@ module _ (so : SendSo) (W : PlainWorkload) (node : ℕ) (work : NodeWork) (old n
       omega (arith, parts, long, is, few)
 
   owned : (buffer : Buffer Leased) → IsPageThere W work.node work.pool buffer → (k : ℕ) × (k < W.settings.clients) × (is_of k buffer ≡ true)
-  owned buffer there = (
-    there.client,
-    there.is.low,
-    eq-eqb _ there.client (ap (λ (sheet : Sheet). sheet.header.client.number) (sheet_is buffer there.is.sheet there.is.page) ∙ ap (λ (owner : ClientId). owner.number) there.is.owner),
-  )
+  owned buffer there = (there.client, there.is.low, of_client W work.node work.pool buffer there)
 
   chunks_low : count_by is_chunk (steps_of work.events) ≤ W.settings.clients * MAX_OPERATIONS
   chunks_low =

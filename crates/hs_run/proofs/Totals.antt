@@ -1,23 +1,22 @@
 -- Totals over nodes and over clients.
-use Rattle.std.proofs.Common.{◌≡◌, ◌⊎◌, inl, inr, ℕ, zero, suc, ◌+◌, ◌*◌, ◌<◌, ◌≤◌, refl, subst, arith}
-use Rattle.hs_run.proofs.Prelude.{same_or_less, mul-le-mul_right, suc-mul}
+use Rattle.std.proofs.Common.{◌≡◌, ℕ, zero, suc, ◌+◌, ◌*◌, ◌<◌, ◌≤◌, refl, arith}
+use Rattle.hs_run.proofs.Prelude.{mul-le-mul_right, suc-mul}
+use Rattle.hs_law_journal.proofs.Sums.{sum_to, sum_le, sum_lt}
+use Rattle.hs_law_lockstep.proofs.Closing.{sum_both}
 use Rattle.hs_run.specs.Accounts.{total}
 
+total_is : (f : ℕ → ℕ) (n : ℕ) → total f n ≡ sum_to f n
+total_is f zero = refl
+total_is f (suc n) = let rest = total_is f n in omega (arith, rest)
+
 pub total_both : (f g : ℕ → ℕ) (n : ℕ) → total (λ i. f i + g i) n ≡ total f n + total g n
-total_both f g zero = refl
-total_both f g (suc n) = let rest = total_both f g n in omega (arith, rest)
+total_both f g n = let both = total_is (λ i. f i + g i) n in let a = total_is f n in let b = total_is g n in let all = sum_both f g n in omega (arith, both, a, b, all)
 
 pub total_le : (f g : ℕ → ℕ) (n : ℕ) → ((i : ℕ) → i < n → f i ≤ g i) → total f n ≤ total g n
-total_le f g zero each = omega arith
-total_le f g (suc n) each = let rest = total_le f g n (λ i low. each i (omega (arith, low))) in let here = each n (omega arith) in omega (arith, rest, here)
+total_le f g n each = let a = total_is f n in let b = total_is g n in let all = sum_le f g n each in omega (arith, a, b, all)
 
 pub total_lt : (f g : ℕ → ℕ) (n i : ℕ) → ((i : ℕ) → i < n → f i ≤ g i) → i < n → f i < g i → total f n < total g n
-total_lt f g zero i each low less = absurd (omega (arith, low))
-total_lt f g (suc n) i each low less = either (same_or_less i n low) (λ l. total_lt f g n i (λ i low. each i (omega (arith, low))) l less)
-  where
-    either : (i < n) ⊎ (i ≡ n) → (i < n → total f n < total g n) → total f (suc n) < total g (suc n)
-    either (inl l) on = let rest = on l in let here = each n (omega arith) in omega (arith, rest, here)
-    either (inr e) on = let here = subst (λ m. f m < g m) e less in let rest = total_le f g n (λ i low. each i (omega (arith, low))) in omega (arith, rest, here)
+total_lt f g n i each low less = let a = total_is f n in let b = total_is g n in let all = sum_lt f g n i each low less in omega (arith, a, b, all)
 
 -- so many terms, none of which is greater than this
 pub total_most : (f : ℕ → ℕ) (most n : ℕ) → ((i : ℕ) → i < n → f i ≤ most) → total f n ≤ n * most
