@@ -1,13 +1,12 @@
 -- A client that has recorded some pieces of a payload, and has the rest of it still to record.
 use Rattle.std.proofs.Common.{◌≡◌, ℕ, suc, ◌+◌, ◌-◌, ◌<◌, ◌≤◌, List, [], ◌∷◌, ◌++◌, length, map, take, drop, Bool, Option, IsSome, refl, sym, ap, ap₂, ◌∙◌, arith, subst, append_assoc, length-append}
-use Rattle.hs_live.proofs.Prelude.{AllByRecursion, option_to_list, Piece, Segment, piece_limit, record_pieces, Drawn, PoolEvent, Got, Empty, Answer, Buffer, Core, after_step, closed, supplied, Outgoing, sent, Leased, Drawing, Draws, after_draw, Key, GoesOn, Made, Writing, IsSound, IsWriting, WritesPieces}
+use Rattle.hs_live.proofs.Prelude.{option_to_list_short, AllByRecursion, option_to_list, Piece, Segment, piece_limit, record_pieces, Drawn, PoolEvent, Got, Empty, Answer, Buffer, Core, after_step, closed, supplied, Outgoing, sent, Leased, Drawing, Draws, after_draw, Key, GoesOn, Made, Writing, IsSound, IsWriting, WritesPieces}
 use Rattle.hs_base.specs.declared.limits.TheConstants.{MIN_SIZE}
 use Rattle.hs_records.specs.Records.{payload_pieces, piece_count}
 use Rattle.hs_records.proofs.Payloads.{AreCut}
 use Rattle.hs_words.specs.declared.token.Drawn.TheVariants as drawn
 use Rattle.hs_live.specs.Writing.{DrawsOn, IsDraw, IsDrawn, Spends}
 use Rattle.hs_live.proofs.Senders.{goes_trans, goes_same}
-use Rattle.hs_live.proofs.Sound.{one_at_most}
 use Rattle.hs_live.proofs.Steps.{piece_of}
 
 -- answers above a floor are above a lower one, too
@@ -114,7 +113,7 @@ spends_page old core drawer chunks handed draw moment payload more is draws goes
       drawer = draws_one old.drawer drawer draw draws;
       left = omega (arith, left);
       chunks = goes;
-      items = omega (arith, ap length sends, length-append (sent old.chunks) (option_to_list handed), one_at_most handed);
+      items = omega (arith, ap length sends, length-append (sent old.chunks) (option_to_list handed), option_to_list_short handed);
     }
 
 -- ---- a payload of which this rest is still to be recorded

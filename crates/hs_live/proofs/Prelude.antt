@@ -12,6 +12,7 @@ pub use Rattle.hs_law_sends.specs.OneMore.{AreWatching}
 pub use Rattle.hs_law_sends.specs.Sending.{trigger_in}
 pub use Rattle.hs_link.specs.Contents.{IsBeginning, IsSameSender, OneBegins, Outgoing, sent}
 pub use Rattle.hs_lists.proofs.Lent.{lent, lent_from, lent_is}
+pub use Rattle.hs_lists.proofs.Parts.{option_to_list_short}
 pub use Rattle.hs_live.specs.Calls.{IsOf, made_of}
 pub use Rattle.hs_live.specs.ClientInside.{live_of}
 pub use Rattle.hs_live.specs.Done.{Does, DoesNothing, HasDone}

@@ -57,10 +57,6 @@ sound_supplied old drawer chunks (drawn.Empty stamp) moment payload more s goes 
       room = room;
     }
 
-pub one_at_most : {A : Type 0} (one : Option A) → length (option_to_list one) ≤ 1
-one_at_most None = omega arith
-one_at_most (Some x) = omega arith
-
 -- as long as the sender is the same, and was given nothing
 pub sound_kept : (old : Writing) (chunks : Outgoing (Buffer Leased) Key) → IsSound old → IsSameSender old.chunks chunks → sent chunks ≡ sent old.chunks → IsSound (record { core = old.core; drawer = old.drawer; chunks = chunks })
 sound_kept old chunks s same items =

@@ -1,7 +1,7 @@
 use Rattle.std.proofs.Common.{length, ◌∷◌, ◌++◌, refl, sym, ap, ◌∙◌, subst, arith, ◌≤◌, length-append}
-use Rattle.hs_live.proofs.Prelude.{option_to_list, Core, after_step, supplied, sent, Leased, outgoing, writing_in, Writing, IsWriting, IsSound, buffer_in}
+use Rattle.hs_live.proofs.Prelude.{option_to_list, option_to_list_short, Core, after_step, supplied, sent, Leased, outgoing, writing_in, Writing, IsWriting, IsSound, buffer_in}
 use Rattle.hs_live.proofs.Cuts.{spends_page}
-use Rattle.hs_live.proofs.Sound.{sound_supplied, one_at_most}
+use Rattle.hs_live.proofs.Sound.{sound_supplied}
 use Rattle.hs_live.proofs.Steps.{piece_of, needed, drew}
 use Rattle.hs_live.proofs.writer.Writer.turn_page.Goals as goal
 
@@ -12,7 +12,7 @@ returns-clause-sound c =
     let step = supplied c.draw-drawn.result c.args.moment c.args.payload.now c.args.more in
     let core_is = c.supply.ensures.after ∙ ap (λ core. after_step core step) c.in-NeedPage.ensures.after in
     let more = length-append (sent (outgoing old.chunks)) (option_to_list (buffer_in c.in-NeedPage.full)) in
-    let one = one_at_most (buffer_in c.in-NeedPage.full) in
+    let one = option_to_list_short (buffer_in c.in-NeedPage.full) in
     let room : length (sent chunks) ≤ old.chunks.room = omega (arith, ap length c.send_chunk.ensures.sent, more, one, c.requires.room) in
     subst (λ (core : Core Leased). IsSound (record { core = core; drawer = c.draw-drawn.new.self; chunks = chunks })) (sym core_is)
     (sound_supplied (writing_in old) c.draw-drawn.new.self chunks c.draw-drawn.result c.args.moment c.args.payload.now c.args.more c.requires.sound c.send_chunk.ensures.goes
