@@ -4,7 +4,6 @@ pub mod Clients
 pub mod Acted
 pub mod Meetings
 pub mod Moments
-pub mod Telling
 pub mod Changed
 pub mod FewTaken
 pub mod Pages
@@ -38,7 +37,6 @@ pub mod Taken
 pub mod Gathering
 pub mod Gathered
 pub mod FewShut
-pub mod ToldBehind
 pub mod Sums
 pub mod Counted
 pub mod Seeing

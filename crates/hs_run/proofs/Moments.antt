@@ -1,9 +1,25 @@
 -- From what each node did to what all did between two moments.
 use Rattle.std.proofs.Common.{◌≡◌, inl, inr, ℕ, zero, suc, ◌<◌, List, [], ◌∷◌, ◌++◌, length, Some, None, refl, sym, ap, subst, ◌∙◌, arith, slice_get}
-use Rattle.hs_run.proofs.Prelude.{cases_lt, length-map, same_Some, slice_get_within, Result, Ok, Err, OnOk, get_there, Ask, Told, Messages, PlainWorkload, workload_of, Workload, PlainCoordinatorActor, IsCoordinatorActor, Hears, NodeWork, PlainNodeActors, RunState, NodeActorsStand, RunStands, moved_by, asked_by, NodeActorsAct, NodeActorsMeet, ActingNode, EachChanged, IsHere, AreFew, ActedTo, MetTo, HasMet, AllHaveActed, NoneFailed, sites_of}
-use Rattle.hs_run.proofs.ToldBehind.{coordinates_same}
+use Rattle.hs_run.proofs.Prelude.{AllByRecursion, cases_lt, length-map, same_Some, slice_get_within, Result, Ok, Err, OnOk, get_there, Ask, Told, Messages, PlainWorkload, workload_of, Workload, PlainCoordinatorActor, IsCoordinatorActor, asks_for, Hears, NodeWork, PlainNodeActors, RunState, NodeActorsStand, RunStands, moved_by, asked_by, NodeActorsAct, NodeActorsMeet, ActingNode, EachChanged, IsHere, AreFew, ActedTo, MetTo, HasMet, AllHaveActed, NoneFailed, sites_of}
+use Rattle.hs_run_agent.specs.Agents.{IsTellable}
 use Rattle.hs_run.specs.Nodes.{HasHeard}
 use Rattle.hs_run.proofs.Choosing.{Chosen, choose}
+
+-- the coordinator stands by what was moved and asked, node by node
+pub coordinates_same : (W : PlainWorkload) (heard : Messages) (moved moved' : ℕ → List Told) (asked asked' : ℕ → List Ask) (c : PlainCoordinatorActor) → ((n : ℕ) → moved' n ≡ moved n) → ((n : ℕ) → asked' n ≡ asked n)
+    → IsCoordinatorActor W heard moved asked c → IsCoordinatorActor W heard moved' asked' c
+coordinates_same W heard moved moved' asked asked' c mv ak h =
+    record {
+      few = h.few;
+      taken = h.taken;
+      nodes = h.nodes;
+      count = h.count;
+      waits = λ n t at. h.waits n t at ∙ sym (mv n);
+      hearable = h.hearable;
+      tellable = λ n low. subst (AllByRecursion (IsTellable W)) (sym (mv n)) (h.tellable n low);
+      askable = h.askable;
+      asks_are = λ n low. h.asks_are n low ∙ ap (λ (l : List Ask). l ++ asks_for n c.asks) (sym (ak n));
+    }
 
 abbrev site_in : ActingNode → PlainNodeActors
 site_in node = node.site

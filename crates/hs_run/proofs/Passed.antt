@@ -1,66 +1,46 @@
 -- A pass of one node, and of one node after another.
-use Rattle.std.proofs.Common.{◌≡◌, inl, inr, ℕ, ◌+◌, ◌<◌, List, [], ◌++◌, set, filter, length, length-set, Some, refl, sym, ap, subst, ◌∙◌, arith, slice_get}
-use Rattle.hs_run.proofs.Prelude.{length-append, same_Some, Result, Ok, Err, OnOk, same_or_less, get_set_cases, get_other, Messages, AgentEvent, PlainWorkload, Leased, Buffer, asks_in, crumbs_in, triggers_in, steps_of, put, put_here, put_else, log_stamps, PlainCoordinatorActor, PlainClosedAgent, AllSent, NodeWork, with_events, is_of, AllSents, IsClosedAgentAt, PassedAlone, ClosingTells, ClosingHasTold, ClosingStands, Passing}
+use Rattle.std.proofs.Common.{◌≡◌, inl, inr, ℕ, ◌+◌, ◌<◌, List, [], ◌++◌, set, length, length-set, Some, refl, sym, ap, subst, ◌∙◌, arith, slice_get}
+use Rattle.hs_run.proofs.Prelude.{length-append, same_everywhere, same_Some, same_or_less, get_set_cases, get_other, Messages, AgentEvent, PlainWorkload, Leased, Buffer, asks_in, steps_of, put, put_here, put_else, log_stamps, PlainCoordinatorActor, Brings, PlainClosedAgent, AllSent, IsClosedAgent, NodeWork, with_events, with_moved, moved_by, asked_by, AllSents, IsClosedAgentAt, PassedAlone, ClosingStands, Passing}
 use Rattle.hs_run_agent.specs.Turns.{GiverGoesOn}
 use Rattle.hs_run_agent.specs.ClosedAgents.{ClosedAgentPasses}
-use Rattle.hs_run.specs.Shutting.{TakesItems, ClosingMayTell, ClosingCanPass, ClosingHasPassed}
+use Rattle.hs_run.specs.Shutting.{ClosingCanPass, ClosingHasPassed}
+use Rattle.hs_run.proofs.Moments.{coordinates_same}
 
 -- what a pass of this node led to
 abbrev pub Passed : PlainWorkload → AllSent → NodeWork → PlainClosedAgent → PlainClosedAgent → Type 0
 Passed W sents work old new = (pass : List AgentEvent) × (came : List (Buffer Leased)) × ClosedAgentPasses W work sents pass came old new
 
-module _ (W : PlainWorkload) (n : ℕ) (sents : AllSents) (heard : Messages) (works : ℕ → NodeWork) (old : PlainClosedAgent) (before : PlainCoordinatorActor) (mid : PlainClosedAgent) (can : ClosingCanPass W n sents heard works old before) (passed : Passed W (sents n) (works n) old mid) where
-  pub told_behind : ClosingTells W n sents (with_events passed.0 passed.1 (works n)) heard works mid before
-  told_behind = record { low = can.low; stands = record { node_is = can.stands.node_is; is = passed.2.stands }; coordinates = can.coordinates; same = (refl, refl) }
-
-  pub may_tell : ClosingMayTell n mid before
-  may_tell = record { workload = W; sents = sents; work = with_events passed.0 passed.1 (works n); heard = heard; works = works; tells = told_behind }
-
-  -- the same of another work with the same events and chunks
-  takes_same : (client : ℕ) (next : NodeWork) → next.events ≡ (works n).events ++ passed.0 → next.came ≡ (works n).came ++ passed.1 → client < W.settings.clients → TakesItems (sents n) client (works n) next
-  takes_same client next events came few =
-      let chunks = ap (λ (l : List (Buffer Leased)). length (filter (is_of client) l)) came in
-      let crumbs = ap (λ (l : List AgentEvent). length (crumbs_in client l)) events in
-      let triggers = ap (λ (l : List AgentEvent). length (triggers_in client l)) events in
-      let a = passed.2.chunks client few in
-      let b = passed.2.crumbs client few in
-      let d = passed.2.triggers client few in
-      record { chunks = omega (arith, a, chunks); crumbs = omega (arith, b, crumbs); triggers = omega (arith, d, triggers) }
-
-  pub passed_one : (new : PlainClosedAgent) (after : PlainCoordinatorActor) {T E : Type 0} (r : Result T E) → OnOk r (ClosingHasTold W n sents (with_events passed.0 passed.1 (works n)) heard works mid before new after × (new.said ≡ []))
-      → OnOk r (ClosingHasPassed W n sents heard works old before new after)
-  passed_one new after (Err e) h = tt
-  passed_one new after (Ok x) h =
-      let told = h.0 in
-      let p = passed.2 in
-      let events : told.next.events ≡ (works n).events ++ passed.0 = told.same.events in
-      let came : told.next.came ≡ (works n).came ++ passed.1 = told.same.came in
-      let giver : new.giver ≡ mid.giver = ap (λ (s : PlainClosedAgent). s.giver) told.only in
-      let asks = p.asks in
-      let asks_are = ap length told.stands.is.stands.asks_are in
-      let both = length-append (asks_in told.next.events) new.asks in
-      let asked = ap length told.asked in
-      let taken = ap (λ (l : List AgentEvent). length (asks_in l)) events in
-      record {
-        next = told.next;
-        stands = told.stands;
-        alone =
-            record {
-              pass = passed.0;
-              events = events;
-              came = passed.1;
-              came_is = came;
-              ends = p.ends;
-              gives = subst (λ g. GiverGoesOn old.giver g (log_stamps (steps_of passed.0))) (sym giver) p.gives;
-              takes = λ client few. takes_same client told.next events came few;
-              asks = omega (arith, asks, taken);
-              few = omega (arith, asks_are, both, asked);
-              grows = told.grows;
-            };
-        said = h.1;
-        brought = told.brought;
-        asks = told.asks;
-      }
+-- its messages went to the coordinator
+pub passed_one : (W : PlainWorkload) (n : ℕ) (sents : AllSents) (heard : Messages) (works : ℕ → NodeWork) (old : PlainClosedAgent) (before : PlainCoordinatorActor) (mid new : PlainClosedAgent) (after : PlainCoordinatorActor) → ClosingCanPass W n sents heard works old before
+    → (p : Passed W (sents n) (works n) old mid) → new ≡ record mid { said = [] } → after.asks ≡ before.asks → IsClosedAgent W (with_moved mid.said (with_events p.0 p.1 (works n))) (sents n) new → Brings W n mid.said before after
+    → ClosingHasPassed W n sents heard works old before new after
+passed_one W n sents heard works old before mid new after can (pass, came, p) only asks is brings =
+    let asks_are = ap length is.stands.asks_are in
+    let both = length-append (asks_in ((works n).events ++ pass)) new.asks in
+    record {
+      next = with_moved mid.said (with_events pass came (works n));
+      stands = record { node_is = can.stands.node_is; is = is };
+      alone =
+          record {
+            pass = pass;
+            events = refl;
+            came = came;
+            came_is = refl;
+            ends = p.ends;
+            gives = subst (λ g. GiverGoesOn old.giver g (log_stamps (steps_of pass))) (sym (ap (λ (s : PlainClosedAgent). s.giver) only)) p.gives;
+            takes = λ client few. record { chunks = p.chunks client few; crumbs = p.crumbs client few; triggers = p.triggers client few };
+            asks = p.asks;
+            few = omega (arith, asks_are, both);
+            grows = let grows = length-append (works n).moved mid.said in omega (arith, grows);
+          };
+      said = ap (λ (s : PlainClosedAgent). s.said) only;
+      brought = λ works' here there.
+          coordinates_same W heard (moved_by works') (moved_by works') (asked_by works) (asked_by works') after (λ k. refl)
+          (same_everywhere (asked_by works') (asked_by works) n (ap (λ (x : NodeWork). x.asked) here) (λ other ne. ap (λ (x : NodeWork). x.asked) (there other ne)))
+          (brings.by heard (moved_by works) (moved_by works') (asked_by works) can.coordinates
+          (record { here = ap (λ (x : NodeWork). x.moved) here; others = λ other ne. ap (λ (x : NodeWork). x.moved) (there other ne) }));
+      asks = asks;
+    }
 
 -- ---- one node after another
 

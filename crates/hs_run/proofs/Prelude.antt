@@ -51,12 +51,12 @@ pub use Rattle.hs_run.specs.Going.{AllHaveGone, AllMayGo}
 pub use Rattle.hs_run.specs.Layout.{site_of}
 pub use Rattle.hs_run.specs.Making.{AreMade}
 pub use Rattle.hs_run.specs.Moments.{ActedTo, AreFew, CanBegin, DoneIn, IsHere, MetTo, MovedTo, RoundsMade, RoundsOver}
-pub use Rattle.hs_run.specs.Movings.{AskedFirst, HasMet, HasTold, Moving, SitesStand, Telling, Tells}
+pub use Rattle.hs_run.specs.Movings.{HasMet, Moving}
 pub use Rattle.hs_run.specs.Nodes.{AllHaveActed, NoneFailed, sites_of, TellsLeft, TellsNodeLeft}
 pub use Rattle.hs_run.specs.Noted.{books_of, first_books, IsNoted}
 pub use Rattle.hs_run.specs.Progress.{done_after, is_chunk, is_given, is_point, nulls_after, points_after, progress_after, steps_after}
 pub use Rattle.hs_run.specs.Seen.{IsTotal, IsTotalBehind, ShownIsSeen}
-pub use Rattle.hs_run.specs.Shutting.{AllSents, AreClosedAgentsFrom, Asked, ClosedAgentsStand, ClosedAt, ClosingAskedFirst, ClosingAt, ClosingHasTold, ClosingStands, ClosingTells, IsClosedAgentAt, PassedAlone, Passing, sents_at}
+pub use Rattle.hs_run.specs.Shutting.{AllSents, AreClosedAgentsFrom, Asked, ClosedAgentsStand, ClosedAt, ClosingAt, ClosingStands, IsAsked, IsClosedAgentAt, PassedAlone, Passing, sents_at}
 pub use Rattle.hs_run.specs.Sites.{AreClients, HasActed, HaveMet, MeetsOne}
 pub use Rattle.hs_run.specs.Tallying.{FitTotals, MayCount}
 pub use Rattle.hs_run.specs.TallyingNodes.{CountedFirst, CountedNodes, LogCounted, MayCountClient, MayCountLog, MayCountNodes, no_operations, no_steps}
@@ -67,9 +67,9 @@ pub use Rattle.hs_run.specs.declared.node.ActingNode.{ActingNode}
 pub use Rattle.hs_run_agent.specs.AgentActors.{IsAgentActor, PlainAgentActor}
 pub use Rattle.hs_run_agent.specs.Agents.{IsAskable}
 pub use Rattle.hs_run_agent.specs.ClosedAgents.{AllSent, AreMatesOf, IsClosedAgent, IsClosedAgentBare, PlainClosedAgent}
-pub use Rattle.hs_run_agent.specs.Coordinators.{asked_all, asks_for, heard_of, Hears, IsCoordinatorActor, PlainCoordinatorActor}
+pub use Rattle.hs_run_agent.specs.Coordinators.{asked_all, asks_for, Brings, heard_of, Hears, IsCoordinatorActor, PlainCoordinatorActor}
 pub use Rattle.hs_run_agent.specs.Intakes.{closed, linked}
-pub use Rattle.hs_run_agent.specs.Work.{came_of, is_of, IsFew, NodeWork, with_events, with_moved}
+pub use Rattle.hs_run_agent.specs.Work.{came_of, is_of, IsFew, NodeWork, with_asks, with_events, with_moved}
 pub use Rattle.hs_run_client.specs.ClientActors.{PlainClientActor}
 pub use Rattle.hs_run_client.specs.Standing.{ClientActorIsAt, HasSentSoFar}
 pub use Rattle.hs_run_story.specs.Acting.{NodeActorsAct}

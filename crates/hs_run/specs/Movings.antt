@@ -1,17 +1,14 @@
--- What was told and asked is moved between the agents and the coordinator, node by node and ask by ask.
-use Rattle.std.specs.Prelude.{◌≡◌, ℕ, ◌<◌, ◌≤◌, List, length, slice_get, Some}
-use Rattle.hs_base.specs.declared.limits.TheConstants.{MAX_NODES}
-use Rattle.hs_coord.specs.Messages.{Messages}
+-- What was told and asked is moved between the agents and the coordinator, node by node.
+use Rattle.std.specs.Prelude.{◌≡◌, ℕ, ◌<◌, ◌≤◌, List, slice_get, Some}
+use Rattle.hs_base.specs.declared.told.Told.{Told}
 use Rattle.hs_coord.specs.declared.asks.Asks.{Asks}
 use Rattle.hs_records.specs.Plain.{PlainWorkload}
-use Rattle.hs_workload.specs.Validity.{IsValid}
-use Rattle.hs_run_agent.specs.Coordinators.{PlainCoordinatorActor, IsCoordinatorActor, asked_all}
-use Rattle.hs_run_agent.specs.AgentActors.{PlainAgentActor, IsAgentActor}
-use Rattle.hs_run_agent.specs.Work.{NodeWork}
+use Rattle.hs_run_agent.specs.Coordinators.{PlainCoordinatorActor, IsCoordinatorActor, AllAskable, Brings, asks_for}
+use Rattle.hs_run_agent.specs.Work.{NodeWork, with_asks, with_moved}
 use Rattle.hs_run_story.specs.RunStates.{PlainNodeActors, RunState, NodeActorsStand, moved_by, asked_by}
 use Rattle.hs_run_story.specs.Meeting.{NodeActorsMeet}
-use Rattle.hs_run_story.specs.Moving.{IsSameDoing, NodeActorsMove}
-use Rattle.hs_run.specs.Changing.{EachChanged, FirstChanged}
+use Rattle.hs_run_story.specs.Moving.{NodeActorsMove}
+use Rattle.hs_run.specs.Changing.{FirstChanged}
 use Rattle.hs_run.specs.Sites.{StandsSomewhere}
 use Rattle.hs_run.specs.declared.node.ActingNode.{ActingNode}
 
@@ -27,85 +24,33 @@ pub record AllStand (nodes : List ActingNode) : Type 0 where
 abbrev pub HasMet : ℕ → ActingNode → ActingNode → Type 0
 HasMet place old new = (W : PlainWorkload) (node : ℕ) (work : NodeWork) → NodeActorsStand W node work old.site → NodeActorsMeet W node work old.site new.site
 
--- ---- messages
+-- ---- messages and asks
 
--- The agent has done this work, and the coordinator has heard these messages of the works of all nodes, of which this is one.
-pub record Tells (W : PlainWorkload) (node : ℕ) (work : NodeWork) (heard : Messages) (works : ℕ → NodeWork) (agent : PlainAgentActor) (coordinator : PlainCoordinatorActor) : Type 0 where
-  pub low : node < W.settings.nodes
-  pub manned : IsAgentActor W work agent
-  pub is : works node ≡ work
-  pub coordinates : IsCoordinatorActor W heard (moved_by works) (asked_by works) coordinator
+-- the work of a node when asks for it and its messages were moved
+abbrev pub exchanged : List Asks → ℕ → List Told → NodeWork → NodeWork
+exchanged asks node told work = with_moved told (with_asks (asks_for node asks) work)
 
-pub record MayTell (node : ℕ) (agent : PlainAgentActor) (coordinator : PlainCoordinatorActor) : Type 0 where
-  pub workload : PlainWorkload
-  pub work : NodeWork
-  pub heard : Messages
-  pub works : ℕ → NodeWork
-  pub tells : Tells workload node work heard works agent coordinator
-
--- Messages of the agent went to the coordinator, so that its work has them as moved. Nothing else changed.
-pub record HasTold (W : PlainWorkload) (node : ℕ) (work : NodeWork) (heard : Messages) (works : ℕ → NodeWork) (old : PlainAgentActor) (before : PlainCoordinatorActor) (new : PlainAgentActor) (after : PlainCoordinatorActor) : Type 0 where
-  pub next : NodeWork
-  pub same : IsSameDoing work next
-  pub asked : next.asked ≡ work.asked
-  pub manned : IsAgentActor W next new
-  pub only : new ≡ record old { said = new.said }
-  pub brought : (works' : ℕ → NodeWork) → works' node ≡ next → ((other : ℕ) → (other ≡ node → ⊥) → works' other ≡ works other) → IsCoordinatorActor W heard (moved_by works') (asked_by works') after
-  pub kept : after.kept ≡ before.kept
-  pub asks : after.asks ≡ before.asks
-
--- ---- asks
-
--- Nothing changed but the asks that wait for the agent.
-pub record NodeActorsAreAsked (old new : PlainNodeActors) : Type 0 where
-  pub callers : new.callers ≡ old.callers
-  pub port : new.agent.port ≡ old.agent.port
-  pub agent : new.agent.agent ≡ old.agent.agent
-  pub said : new.agent.said ≡ old.agent.said
-
-abbrev pub NodeAsked : ℕ → ActingNode → ActingNode → Type 0
-NodeAsked place old new = NodeActorsAreAsked old.site new.site
-
-pub record SitesStand (W : PlainWorkload) (works : ℕ → NodeWork) (nodes : List ActingNode) : Type 0 where
-  pub each : (number : ℕ) (node : ActingNode) → slice_get nodes number ≡ Some node → NodeActorsStand W number (works number) node.site
-
--- There are few nodes.
-pub record MayBeAsked (nodes : List ActingNode) : Type 0 where
-  pub few : length nodes ≤ MAX_NODES
-
--- The ask went to the first so many nodes, as far as it is for them.
-pub record AskedFirst (W : PlainWorkload) (asks : Asks) (works : ℕ → NodeWork) (count : ℕ) (old nodes : List ActingNode) : Type 0 where
-  pub changed : FirstChanged NodeAsked count old nodes
-  pub asked : (number : ℕ) (node : ActingNode) → number < count → slice_get nodes number ≡ Some node → NodeActorsStand W number (asked_all asks works number) node.site
-  pub others : (number : ℕ) (node : ActingNode) → count ≤ number → slice_get nodes number ≡ Some node → NodeActorsStand W number (works number) node.site
-
--- ---- on the way
+-- The asks for the node went to its agent, and its messages to the coordinator. Nothing else changed.
+pub record HasExchanged (node : ℕ) (old : PlainNodeActors) (before : PlainCoordinatorActor) (new : PlainNodeActors) (after : PlainCoordinatorActor) : Type 0 where
+  pub moves : NodeActorsMove old new
+  pub only : after ≡ record before { told = after.told }
+  pub by : (W : PlainWorkload) (work : NodeWork) → NodeActorsStand W node work old → AllAskable W before.asks
+      → NodeActorsStand W node (exchanged before.asks node old.agent.said work) new × Brings W node old.agent.said before after
 
 abbrev pub NodeMoves : ℕ → ActingNode → ActingNode → Type 0
 NodeMoves place old new = NodeActorsMove old.site new.site
 
--- Of a moment at which these nodes stood, no message waits to be moved, and of the asks some were moved.
-pub record Moving (W : PlainWorkload) (m : RunState) (before nodes : List ActingNode) (coordinator : PlainCoordinatorActor) : Type 0 where
-  pub works : ℕ → NodeWork
-  pub valid : IsValid W
-  pub count : length nodes ≡ W.settings.nodes
-  pub same : (node : ℕ) → IsSameDoing (m.works node) (works node)
-  pub moved : EachChanged NodeMoves before nodes
-  pub stands : SitesStand W works nodes
-  pub coordinates : IsCoordinatorActor W m.heard (moved_by works) (asked_by works) coordinator
-  pub kept : coordinator.kept ≡ m.standing.coordinator.kept
+-- The work of a node came of this one by what was moved.
+abbrev pub IsExchanged : List Asks → ℕ → NodeWork → NodeWork → Type 0
+IsExchanged asks node work work' = (told : List Told) × (work' ≡ exchanged asks node told work)
 
--- Of a moment at which these nodes stood, no message of the first so many nodes waits to be moved.
-pub record Telling (W : PlainWorkload) (m : RunState) (first : ℕ) (before nodes : List ActingNode) (coordinator : PlainCoordinatorActor) : Type 0 where
+-- Of a moment at which these nodes stood, the messages of the first so many nodes and the asks for them were moved.
+pub record Moving (W : PlainWorkload) (m : RunState) (first : ℕ) (before nodes : List ActingNode) (coordinator : PlainCoordinatorActor) : Type 0 where
   pub works : ℕ → NodeWork
-  pub same : (node : ℕ) → IsSameDoing (m.works node) (works node)
+  pub done : (node : ℕ) → node < first → IsExchanged m.standing.coordinator.asks node (m.works node) (works node)
+  pub others : (node : ℕ) → first ≤ node → works node ≡ m.works node
   pub moved : FirstChanged NodeMoves first before nodes
-  pub stands : SitesStand W works nodes
-  pub coordinates : IsCoordinatorActor W m.heard (moved_by works) (asked_by works) coordinator
+  pub stands : (number : ℕ) (node : ActingNode) → slice_get nodes number ≡ Some node → NodeActorsStand W number (works number) node.site
+  pub coordinates : IsCoordinatorActor W m.heard (moved_by works) (asked_by m.works) coordinator
   pub kept : coordinator.kept ≡ m.standing.coordinator.kept
-
-pub record IsMoving (nodes : List ActingNode) (coordinator : PlainCoordinatorActor) : Type 0 where
-  pub workload : PlainWorkload
-  pub moment : RunState
-  pub before : List ActingNode
-  pub moving : Moving workload moment before nodes coordinator
+  pub asks : coordinator.asks ≡ m.standing.coordinator.asks

@@ -14,16 +14,17 @@ use Rattle.hs_law_journal.specs.Doings.{asks_in, crumbs_in, triggers_in, steps_o
 use Rattle.hs_law_journal.specs.LoopPasses.{EndsPass}
 use Rattle.hs_law_journal.specs.Shape.{log_stamps}
 use Rattle.hs_run_client.specs.ClientActors.{PlainClientActor}
-use Rattle.hs_run_agent.specs.Coordinators.{PlainCoordinatorActor, IsCoordinatorActor, all_empty, asked_all}
+use Rattle.hs_run_agent.specs.Coordinators.{PlainCoordinatorActor, IsCoordinatorActor, AllAskable, all_empty, asks_for}
 use Rattle.hs_run_agent.specs.AgentActors.{IsAgentActor}
 use Rattle.hs_run_agent.specs.ClosedAgents.{PlainClosedAgent, AllSent, IsClosedAgent, IsClosedAgentBare}
 use Rattle.hs_run_agent.specs.Turns.{GiverGoesOn}
-use Rattle.hs_run_agent.specs.Work.{NodeWork, IsFew, came_of, with_events}
+use Rattle.hs_run_agent.specs.Work.{NodeWork, IsFew, came_of, with_asks, with_events}
 use Rattle.hs_run_agent.specs.Agents.{state_at}
 use Rattle.hs_run_story.specs.RunStates.{PlainNodeActors, RunState, moved_by, asked_by}
 use Rattle.hs_run_story.specs.Moving.{IsSameDoing}
 use Rattle.hs_run_story.specs.Spans.{NodeBetweenPasses}
 use Rattle.hs_run_story.specs.Closing.{Closing}
+use Rattle.hs_run.specs.Changing.{EachChanged}
 use Rattle.hs_run.specs.Ended.{sents_of}
 
 -- what the clients of each node sent
@@ -59,34 +60,6 @@ pub record PassedAlone (W : PlainWorkload) (node : ℕ) (sents : AllSents) (old 
   pub asks : min (length old.asked) (length (asks_in old.events) + MAX_TAKEN) ≤ length (asks_in new.events)
   pub few : length (asks_in new.events) ≤ length old.asked
   pub grows : length old.moved ≤ length new.moved
-
--- ---- messages
-
--- The node has done this work, and the coordinator has heard these messages of the works of all nodes, of which this is one.
-pub record ClosingTells (W : PlainWorkload) (node : ℕ) (sents : AllSents) (work : NodeWork) (heard : Messages) (works : ℕ → NodeWork) (shut : PlainClosedAgent) (coordinator : PlainCoordinatorActor) : Type 0 where
-  pub low : node < W.settings.nodes
-  pub stands : IsClosedAgentAt W node sents work shut
-  pub coordinates : IsCoordinatorActor W heard (moved_by works) (asked_by works) coordinator
-  pub same : (work.moved ≡ (works node).moved) × (work.asked ≡ (works node).asked)
-
-pub record ClosingMayTell (node : ℕ) (shut : PlainClosedAgent) (coordinator : PlainCoordinatorActor) : Type 0 where
-  pub workload : PlainWorkload
-  pub sents : AllSents
-  pub work : NodeWork
-  pub heard : Messages
-  pub works : ℕ → NodeWork
-  pub tells : ClosingTells workload node sents work heard works shut coordinator
-
--- Messages of the agent went to the coordinator, so that its work has them as moved. Nothing else changed.
-pub record ClosingHasTold (W : PlainWorkload) (node : ℕ) (sents : AllSents) (work : NodeWork) (heard : Messages) (works : ℕ → NodeWork) (old : PlainClosedAgent) (before : PlainCoordinatorActor) (new : PlainClosedAgent) (after : PlainCoordinatorActor) : Type 0 where
-  pub next : NodeWork
-  pub same : IsSameDoing work next
-  pub asked : next.asked ≡ work.asked
-  pub grows : length work.moved ≤ length next.moved
-  pub stands : IsClosedAgentAt W node sents next new
-  pub only : new ≡ record old { said = new.said }
-  pub brought : (works' : ℕ → NodeWork) → works' node ≡ next → ((other : ℕ) → (other ≡ node → ⊥) → works' other ≡ works other) → IsCoordinatorActor W heard (moved_by works') (asked_by works') after
-  pub asks : after.asks ≡ before.asks
 
 -- ---- a pass of one node
 
@@ -147,19 +120,10 @@ pub record IsAskedOnly (old new : PlainClosedAgent) : Type 0 where
   pub giver : new.giver ≡ old.giver
   pub said : new.said ≡ old.said
 
-pub record AskedOnly (old new : List PlainClosedAgent) : Type 0 where
-  pub many : length new ≡ length old
-  pub each : (number : ℕ) (x y : PlainClosedAgent) → slice_get old number ≡ Some x → slice_get new number ≡ Some y → IsAskedOnly x y
-
-pub record ClosingMayBeAsked (nodes : List PlainClosedAgent) : Type 0 where
-  pub few : length nodes ≤ MAX_NODES
-
--- The ask went to the first so many nodes, as far as it is for them.
-pub record ClosingAskedFirst (W : PlainWorkload) (sents : AllSents) (asks : Asks) (works : ℕ → NodeWork) (count : ℕ) (old nodes : List PlainClosedAgent) : Type 0 where
-  pub many : length nodes ≡ length old
-  pub changed : (number : ℕ) (x y : PlainClosedAgent) → slice_get old number ≡ Some x → slice_get nodes number ≡ Some y → IsAskedOnly x y
-  pub asked : (number : ℕ) (shut : PlainClosedAgent) → number < count → slice_get nodes number ≡ Some shut → IsClosedAgentAt W number sents (asked_all asks works number) shut
-  pub others : (number : ℕ) (shut : PlainClosedAgent) → count ≤ number → slice_get nodes number ≡ Some shut → IsClosedAgentAt W number sents (works number) shut
+-- The asks for the node went to its agent.
+pub record IsAsked (asks : List Asks) (node : ℕ) (old new : PlainClosedAgent) : Type 0 where
+  pub only : IsAskedOnly old new
+  pub shut : (W : PlainWorkload) (work : NodeWork) (all : AllSent) → IsClosedAgent W work all old → AllAskable W asks → IsClosedAgent W (with_asks (asks_for node asks) work) all new
 
 -- Asks were moved to nodes that had done these works. Nothing else changed.
 pub record Asked (W : PlainWorkload) (sents : AllSents) (heard : Messages) (begun : ℕ → NodeWork) (old nodes : List PlainClosedAgent) (coordinator : PlainCoordinatorActor) : Type 0 where
@@ -167,7 +131,7 @@ pub record Asked (W : PlainWorkload) (sents : AllSents) (heard : Messages) (begu
   pub few : length nodes ≤ MAX_NODES
   pub same : (number : ℕ) → IsSameDoing (begun number) (works number) × ((works number).moved ≡ (begun number).moved)
   pub stands : ClosedAgentsStand W sents works nodes
-  pub only : AskedOnly old nodes
+  pub only : EachChanged (λ (number : ℕ). IsAskedOnly) old nodes
   pub coordinates : IsCoordinatorActor W heard (moved_by works) (asked_by works) coordinator
 
 pub record IsAsking (nodes : List PlainClosedAgent) (coordinator : PlainCoordinatorActor) : Type 0 where

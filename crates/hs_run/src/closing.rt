@@ -1,20 +1,15 @@
 //! Passes behind the rounds, until nothing waits and nothing is pinned.
 
 ghost use Rattle.std.specs.Prelude.{◌≡◌, ℕ, ◌<◌, [], true, false, length, OnOk};
-ghost use Rattle.hs_base.specs.NodeSets.{has_node};
-ghost use Rattle.hs_base.specs.declared.limits.TheConstants.{MAX_NODES};
 ghost use Rattle.hs_coord.specs.Messages.{Messages};
 ghost use Rattle.hs_records.specs.Plain.{PlainWorkload};
 ghost use Rattle.hs_run_story.specs.RunStates.{RunState};
-ghost use Rattle.hs_run_agent.specs.Agents.{IsAskable};
-ghost use Rattle.hs_run_agent.specs.Coordinators.{ask_for, asked_all};
-ghost use Rattle.hs_run_agent.specs.Work.{NodeWork, with_asks};
+ghost use Rattle.hs_run_agent.specs.Work.{NodeWork};
 ghost use Rattle.hs_run.specs.Closings.{ClosingPaid, LedOn};
-ghost use Rattle.hs_run.specs.Shutting.{AllSents, IsClosedAgentAt, IsAskedOnly, AskedOnly, ClosingMayPass, ClosingCanPass, ClosingHasPassed, ClosingMayTell, ClosingTells, ClosingHasTold, MayPassAll, ClosingStands, Passing, ClosingMayBeAsked, ClosedAgentsStand, Asked, IsAsking, AllBare, IsSomethingLeft, ClosedAt, ClosingAt, MayClose};
+ghost use Rattle.hs_run.specs.Shutting.{AllSents, ClosingMayPass, ClosingCanPass, ClosingHasPassed, MayPassAll, ClosingStands, Passing, ClosedAgentsStand, Asked, IsAsking, AllBare, IsSomethingLeft, ClosedAt, ClosingAt, MayClose};
 
 use crate::laws::{passes_are_few, passes_pay};
 use hs_base::{List, Memory, NodeId, OpenGate};
-use hs_coord::Asks;
 use hs_run_agent::{ClosedAgent, CoordinatorActor};
 use hs_run_story::laws::{agents_are_between_passes, closing_goes_on};
 
@@ -90,22 +85,7 @@ fn pass(
         → OnOk result (ClosingHasPassed W number sents heard works node.old coordinator.old node.new coordinator.new) }
 {
     node.pass()?;
-    tell(node, coordinator, number)
-}
-
-/// The messages of the agent of the node with this number go to the coordinator.
-fn tell(
-    node: &mut ClosedAgent,
-    coordinator: &mut CoordinatorActor,
-    number: usize,
-) -> Result<(), Memory>
-    requires { ClosingMayTell number node.old coordinator.old }
-    ensures { (W : PlainWorkload) (sents : AllSents) (work : NodeWork) (heard : Messages) (works : ℕ → NodeWork) → ClosingTells W number sents work heard works node.old coordinator.old
-        → OnOk result (ClosingHasTold W number sents work heard works node.old coordinator.old node.new coordinator.new × (node.new.said ≡ [])) }
-{
-    'messages: while let Some(told) = node.tell() {
-        coordinator.hear(NodeId(number as u16), told)?;
-    }
+    node.tell(coordinator, NodeId(number as u16))?;
     Ok(())
 }
 
@@ -115,33 +95,10 @@ fn ask_all(nodes: &mut List<ClosedAgent>, coordinator: &mut CoordinatorActor) ->
     ensures { (W : PlainWorkload) (sents : AllSents) (heard : Messages) (works : ℕ → NodeWork) → Asked W sents heard works nodes.old.items nodes.old.items coordinator.old
         → OnOk result (Asked W sents heard works nodes.old.items nodes.new.items coordinator.new × (coordinator.new.asks ≡ [])) }
 {
-    'asks: while let Some(asks) = coordinator.next_asks() {
-        ask(nodes, &asks)?;
-    }
-    Ok(())
-}
-
-/// An ask goes to each agent for which it is.
-fn ask(nodes: &mut List<ClosedAgent>, asks: &Asks) -> Result<(), Memory>
-    requires { ClosingMayBeAsked nodes.old.items }
-    ensures { (W : PlainWorkload) (sents : AllSents) (works : ℕ → NodeWork) → ClosedAgentsStand W sents works nodes.old.items → ((n : ℕ) → has_node asks.now.to n ≡ true → IsAskable W asks.now.ask)
-        → OnOk result (ClosedAgentsStand W sents (asked_all asks.now works) nodes.new.items × AskedOnly nodes.old.items nodes.new.items) }
-{
     let count = nodes.len();
     for number in 0..count {
-        ask_one(&mut nodes.as_mut_slice()[number], asks, number)?;
+        nodes.as_mut_slice()[number].ask(coordinator, NodeId(number as u16))?;
     }
+    coordinator.forget_asks();
     Ok(())
-}
-
-/// An ask goes to the agent of the node with this number, if it is for it.
-fn ask_one(node: &mut ClosedAgent, asks: &Asks, number: usize) -> Result<(), Memory>
-    requires { number < MAX_NODES }
-    ensures { (W : PlainWorkload) (sents : AllSents) (work : NodeWork) → IsClosedAgentAt W number sents work node.old → (has_node asks.now.to number ≡ true → IsAskable W asks.now.ask)
-        → OnOk result (IsClosedAgentAt W number sents (with_asks (ask_for number asks.now) work) node.new × IsAskedOnly node.old node.new) }
-{
-    if !asks.to.contains(NodeId(number as u16)) {
-        return Ok(());
-    }
-    node.ask(asks.ask)
 }

@@ -10,7 +10,7 @@ use Rattle.hs_coord.specs.declared.asks.Asks.{Asks}
 use Rattle.hs_law_journal.specs.Following.{asks_to, ask_by, is_from}
 use Rattle.hs_law_journal.proofs.Hearing.{heard_both}
 use Rattle.hs_law_journal.proofs.Logs.{behind_more}
-use Rattle.hs_run_agent.specs.Coordinators.{IsHearable, Hears, IsMoved, AreFetched, IsPutBehind, heard_of, ask_for, asks_for}
+use Rattle.hs_run_agent.specs.Coordinators.{IsHearable, Hears, AreMoved, Brings, AreFetched, ArePutBehind, heard_of, ask_for, asks_for}
 
 -- ---- lists
 
@@ -233,61 +233,55 @@ module _ (W : PlainWorkload) (heard : Messages) (moved : Tellings) (asked : Aski
 
 -- ---- between rounds
 
-module _ (W : PlainWorkload) (heard : Messages) (moved : Tellings) (asked : Askings) (c : PlainCoordinatorActor) (is : IsCoordinatorActor W heard moved asked c) where
-  -- a message was brought
-  pub brought : (node : ℕ) (told : Told) (queue : List Told) → slice_get c.told node ≡ Some queue → IsTellable W told → (moved' : Tellings) → IsMoved node told moved moved'
-      → IsCoordinatorActor W heard moved' asked (record c { told = slice_set c.told node (queue ++ told ∷ []) })
-  brought node told queue at tellable moved' more =
-      record {
-        few = is.few;
-        taken = is.taken;
-        nodes = is.nodes;
-        count = length-set c.told node (queue ++ told ∷ []) ∙ is.count;
-        waits = λ other q found. elim (found_set c.told node other (queue ++ told ∷ []) q found) [
-          | inl h ↦
-              ap₂ (λ (n : ℕ) (l : List Told). heard_of n heard ++ l) (sym h.0) (sym h.1) ∙ sym (append_assoc (heard_of node heard) queue (told ∷ [])) ∙ ap (λ (l : List Told). l ++ told ∷ []) (is.waits node queue at) ∙ sym more.here
-              ∙ ap moved' h.0
-          | inr h ↦ is.waits other q h.1 ∙ sym (more.others other (λ e. h.0 (sym e)))
-        ];
-        hearable = is.hearable;
-        tellable = λ other low. elim (same_or_not node other) [
-          | inl e ↦
-              let low_here : node < W.settings.nodes = omega (arith, e, low) in
-              subst (λ (l : List Told). AllByRecursion (IsTellable W) l) (sym more.here ∙ ap moved' e) (all_append (IsTellable W) (moved node) (told ∷ []) (is.tellable node low_here) (tellable, tt))
-          | inr apart ↦ subst (λ (l : List Told). AllByRecursion (IsTellable W) l) (sym (more.others other (λ e. apart (sym e)))) (is.tellable other low)
-        ];
-        askable = is.askable;
-        asks_are = is.asks_are;
-      }
-    where
-      same_or_not : (a b : ℕ) → (a ≡ b) ⊎ (a ≡ b → ⊥)
-      same_or_not zero zero = inl refl
-      same_or_not zero (suc b) = inr (λ e. omega (arith, e))
-      same_or_not (suc a) zero = inr (λ e. omega (arith, e))
-      same_or_not (suc a) (suc b) = elim (same_or_not a b) [ inl e ↦ inl (ap suc e) | inr apart ↦ inr (λ e. apart (omega (arith, e))) ]
+-- messages were brought
+pub brings : (W : PlainWorkload) (old : PlainCoordinatorActor) (told' : List (List Told)) (node : ℕ) (told : List Told) → ArePutBehind node told old.told told' → AllByRecursion (IsTellable W) told → Brings W node told old (record old { told = told' })
+brings W old told' node told put tellable =
+    record {
+      by = λ heard moved moved' asked is more. subst (λ (l : List (List Told)). IsCoordinatorActor W heard moved' asked (record old { told = l })) (sym put.2) (brought heard moved asked is put.0 put.1 moved' more);
+    }
+  where
+    same_or_not : (a b : ℕ) → (a ≡ b) ⊎ (a ≡ b → ⊥)
+    same_or_not zero zero = inl refl
+    same_or_not zero (suc b) = inr (λ e. omega (arith, e))
+    same_or_not (suc a) zero = inr (λ e. omega (arith, e))
+    same_or_not (suc a) (suc b) = elim (same_or_not a b) [ inl e ↦ inl (ap suc e) | inr apart ↦ inr (λ e. apart (omega (arith, e))) ]
 
--- asks were fetched
-pub fetched : (W : PlainWorkload) (heard : Messages) (moved : Tellings) (asked : Askings) (old : PlainCoordinatorActor) (asks : Asks) (rest : List Asks) → old.asks ≡ asks ∷ rest → IsCoordinatorActor W heard moved asked old
-    → IsAskable W asks.ask × ((asked' : Askings) → AreFetched W asks asked asked' → IsCoordinatorActor W heard moved asked' (record old { asks = rest }))
-fetched W heard moved asked old asks rest e is =
-    let askable = subst (λ (l : List Asks). AllByRecursion (λ (a : Asks). IsAskable W a.ask) l) e is.askable in (
-      askable.0,
-      λ asked' are.
-          record {
-            few = is.few;
-            taken = is.taken;
-            nodes = is.nodes;
-            count = is.count;
-            waits = is.waits;
-            hearable = is.hearable;
-            tellable = is.tellable;
-            askable = askable.1;
-            asks_are = λ node low.
-                is.asks_are node low ∙ ap (λ (l : List Asks). asked node ++ asks_for node l) e ∙ sym (append_assoc (asked node) (ask_for node asks) (asks_for node rest)) ∙ ap (λ (l : List Ask). l ++ asks_for node rest) (sym (are node low));
-          },
-    )
+    brought : (heard : Messages) (moved : Tellings) (asked : Askings) → IsCoordinatorActor W heard moved asked old → (queue : List Told) → slice_get old.told node ≡ Some queue → (moved' : Tellings) → AreMoved node told moved moved'
+        → IsCoordinatorActor W heard moved' asked (record old { told = slice_set old.told node (queue ++ told) })
+    brought heard moved asked is queue at moved' more =
+        record {
+          few = is.few;
+          taken = is.taken;
+          nodes = is.nodes;
+          count = length-set old.told node (queue ++ told) ∙ is.count;
+          waits = λ other q found. elim (found_set old.told node other (queue ++ told) q found) [
+            | inl h ↦ ap₂ (λ (n : ℕ) (l : List Told). heard_of n heard ++ l) (sym h.0) (sym h.1) ∙ sym (append_assoc (heard_of node heard) queue told) ∙ ap (λ (l : List Told). l ++ told) (is.waits node queue at) ∙ sym more.here ∙ ap moved' h.0
+            | inr h ↦ is.waits other q h.1 ∙ sym (more.others other (λ e. h.0 (sym e)))
+          ];
+          hearable = is.hearable;
+          tellable = λ other low. elim (same_or_not node other) [
+            | inl e ↦
+                let low_here : node < W.settings.nodes = omega (arith, e, low) in
+                subst (λ (l : List Told). AllByRecursion (IsTellable W) l) (sym more.here ∙ ap moved' e) (all_append (IsTellable W) (moved node) told (is.tellable node low_here) tellable)
+            | inr apart ↦ subst (λ (l : List Told). AllByRecursion (IsTellable W) l) (sym (more.others other (λ e. apart (sym e)))) (is.tellable other low)
+          ];
+          askable = is.askable;
+          asks_are = is.asks_are;
+        }
 
-pub brought_so : (W : PlainWorkload) (heard : Messages) (moved : Tellings) (asked : Askings) (old : PlainCoordinatorActor) (told' : List (List Told)) (node : ℕ) (told : Told) → IsPutBehind node told old.told told' → IsCoordinatorActor W heard moved asked old → IsTellable W told
-    → (moved' : Tellings) → IsMoved node told moved moved' → IsCoordinatorActor W heard moved' asked (record old { told = told' })
-brought_so W heard moved asked old told' node told put is tellable moved' more =
-    subst (λ (l : List (List Told)). IsCoordinatorActor W heard moved' asked (record old { told = l })) (sym put.2) (brought W heard moved asked old is node told put.0 put.1 tellable moved' more)
+-- all asks were fetched
+pub fetched : (W : PlainWorkload) (heard : Messages) (moved : Tellings) (asked asked' : Askings) (old new : PlainCoordinatorActor) → IsCoordinatorActor W heard moved asked old → AreFetched W old.asks asked asked' → new ≡ record old { asks = [] }
+    → IsCoordinatorActor W heard moved asked' new
+fetched W heard moved asked asked' old new is are e =
+    subst (IsCoordinatorActor W heard moved asked') (sym e)
+    (record {
+      few = is.few;
+      taken = is.taken;
+      nodes = is.nodes;
+      count = is.count;
+      waits = is.waits;
+      hearable = is.hearable;
+      tellable = is.tellable;
+      askable = tt;
+      asks_are = λ node low. is.asks_are node low ∙ sym (are node low) ∙ sym (append-nil (asked' node));
+    })

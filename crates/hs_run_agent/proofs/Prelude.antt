@@ -29,13 +29,13 @@ pub use Rattle.hs_run_agent.specs.AgentLayout.{agent_actor_in}
 pub use Rattle.hs_run_agent.specs.Agents.{AgentIs, AgentWorks, IsAskable, IsPageThere, IsPooled, IsTellable, IsWithin, Label, label_of, run_at, state_at}
 pub use Rattle.hs_run_agent.specs.ClosedAgentLayout.{closed_agent_in}
 pub use Rattle.hs_run_agent.specs.ClosedAgents.{AreMatesOf, ClosedAgentPasses, IsClosedAgent, IsClosedAgentBare, PlainClosedAgent, remaining}
-pub use Rattle.hs_run_agent.specs.Coordinators.{Askings, coordinator_actor_of, HearsNode, IsCoordinatorActor, IsTakenOut, PlainCoordinatorActor, Tellings}
+pub use Rattle.hs_run_agent.specs.Coordinators.{Askings, AllAskable, asks_for, Brings, coordinator_actor_of, HearsNode, IsCoordinatorActor, IsTakenOut, PlainCoordinatorActor, Tellings}
 pub use Rattle.hs_run_agent.specs.Intakes.{AreIntakes, AreIntakesFor, closed, HandOutFirst, HandsAt, HandsOut, HandsOutAt, Intake, Intakes, intakes_of, IsIntakeAt, key_of, linked}
 pub use Rattle.hs_run_agent.specs.Passing.{CanPass, events_made, MakesPass}
 pub use Rattle.hs_run_agent.specs.Resting.{are_given, AreEndsOf, AreRests}
 pub use Rattle.hs_run_agent.specs.Stages.{AgentCanTake, chunks_of, events_from, events_of, Helping, OffersNext, PlainWorkingAgent, stamps_of, TakesAsks, TakesChunks, TakesCrumbs, TakesFirst, TakesTriggers, WorkingAgentStands}
 pub use Rattle.hs_run_agent.specs.Turns.{GiverGoesOn, IsOffer, lent_of}
-pub use Rattle.hs_run_agent.specs.Work.{ask_event, came_of, chunk_event, crumb_event, gave_event, is_of, is_triggered, IsFew, NodeWork, trigger_event, triggered, with_events, with_moved}
+pub use Rattle.hs_run_agent.specs.Work.{ask_event, came_of, chunk_event, crumb_event, gave_event, is_of, is_triggered, IsFew, NodeWork, trigger_event, triggered, with_asks, with_events, with_moved}
 pub use Rattle.hs_run_agent.specs.WorkingAgents.{plain_working_agent}
 pub use Rattle.hs_words.specs.Buffers.{Buffer, buffer_in, buffer_of}
 pub use Rattle.hs_words.specs.Ends.{answers_in, GiverTurn}

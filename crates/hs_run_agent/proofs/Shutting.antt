@@ -1,6 +1,6 @@
 -- An agent whose links are closed: closing them, passes over what is left, and the end.
 use Rattle.std.proofs.Common.{◌≡◌, ℕ, zero, suc, ◌<◌, Bool, true, false, ◌&&◌, List, [], ◌∷◌, ◌++◌, length, map, Option, Some, None, refl, sym, ap, ap₂, subst, ◌∙◌, arith, append_assoc, length-append, eqb, eqb-true, eq-eqb}
-use Rattle.hs_run_agent.proofs.Prelude.{length-map, same_Some, slice_get_within, slice_get, IfSome, AllByRecursion, option_map_or, option_to_list, get_there, get_map, all_at, Crumb, Told, Trigger, crumbs_in, triggers_in, AreTurns, Run, point_of, Incoming, Outgoing, Remaining, AreEnds, sent, Key, IsEnd, EventsAddFew, StepsSayWhatTheyTell, CrumbsLeadBelow, AgentEvent, PlainWorkload, Leased, Giving, Buffer, buffer_of, PoolName, Held, IsPooled, IsTellable, run_at, state_at, Intake, closed, linked, AreIntakesFor, HandsOut, HandOutFirst, key_of, PlainAgentActor, IsAgentActor, working_agent_of, CanPass, MakesPass, AreEndsOf, AreRests, are_given, PlainClosedAgent, IsClosedAgent, IsClosedAgentBare, ClosedAgentPasses, AreMatesOf, PlainWorkingAgent, Helping, WorkingAgentStands, lent_of, NodeWork, IsFew, with_events, with_moved, came_of}
+use Rattle.hs_run_agent.proofs.Prelude.{length-map, same_Some, slice_get_within, slice_get, AllByRecursion, option_map_or, get_there, get_map, all_at, Ask, Crumb, Trigger, crumbs_in, triggers_in, AreTurns, Run, point_of, Incoming, Outgoing, Remaining, AreEnds, sent, Key, IsEnd, AgentEvent, PlainWorkload, Leased, Giving, Buffer, buffer_of, PoolName, Held, IsPooled, IsAskable, run_at, state_at, Intake, closed, linked, AreIntakesFor, HandsOut, HandOutFirst, key_of, PlainAgentActor, IsAgentActor, working_agent_of, CanPass, MakesPass, AreEndsOf, AreRests, are_given, PlainClosedAgent, IsClosedAgent, IsClosedAgentBare, ClosedAgentPasses, AreMatesOf, PlainWorkingAgent, Helping, WorkingAgentStands, lent_of, NodeWork, IsFew, with_asks, with_events, with_moved, came_of}
 use Rattle.std.proofs.lemmas.List.{nil_from_length}
 use Rattle.std.specs.Prelude.{filter_map}
 use Rattle.std.specs.List.{cons_option}
@@ -9,7 +9,7 @@ use Rattle.hs_run_agent.specs.ClosedAgents.{AllSent, TakesLeft, all_sent, sent_a
 use Rattle.hs_run_agent.proofs.Passed.{pass, came, came_behind, crumbs_behind, triggers_behind, ends_pass, gives_made, takes_asks, out_at, out_count}
 use Rattle.hs_run_agent.proofs.Ports.{lined, line_at}
 use Rattle.hs_run_agent.proofs.Resting.{shut_list, rest_at, left_at, all_empty, all_are_given}
-use Rattle.hs_run_agent.proofs.Telling.{tells}
+use Rattle.hs_run_agent.proofs.Telling.{told, asked}
 
 -- ---- a pass
 
@@ -100,15 +100,24 @@ module _ (W : PlainWorkload) (work : NodeWork) (all : AllSent) (old new : PlainC
 pub can_pass_shut : (W : PlainWorkload) (work : NodeWork) (all : AllSent) (shut : PlainClosedAgent) → IsClosedAgent W work all shut → IsFew W work → CanPass W work shut.clients (closed_working_agent shut) (closed_intakes shut)
 can_pass_shut W work all shut is few = record { clients_are = is.clients_are; few = few; stands = is.stands }
 
--- ---- messages
+-- ---- messages and asks
 
-pub told_shut : (W : PlainWorkload) (work : NodeWork) (all : AllSent) → CrumbsLeadBelow → EventsAddFew → StepsSayWhatTheyTell → (old : PlainClosedAgent) (told : Option Told) (rest : List Told) → old.said ≡ option_to_list told ++ rest → IsClosedAgent W work all old
-    → IfSome told (λ (t : Told). IsTellable W t × IsClosedAgent W (with_moved t work) all (record old { said = rest }))
-told_shut W work all below few says old None rest e shut = tt
-told_shut W work all below few says old (Some told) rest e shut =
-    let before : WorkingAgentStands W work (record (closed_working_agent old) { said = told ∷ rest }) (closed_intakes old) = subst (λ (l : List Told). WorkingAgentStands W work (record (closed_working_agent old) { said = l }) (closed_intakes old)) e shut.stands in
-    let (tellable, stands) = tells W work (closed_intakes old) below few says (record (closed_working_agent old) { said = rest }) told before in
-    (tellable, record { stands = stands; left = record { chunks = shut.left.chunks; crumbs = shut.left.crumbs; triggers = shut.left.triggers }; clients_are = shut.clients_are })
+module _ (W : PlainWorkload) (work : NodeWork) (all : AllSent) (old : PlainClosedAgent) (shut : IsClosedAgent W work all old) where
+  pub told_shut : IsClosedAgent W (with_moved old.said work) all (record old { said = [] })
+  told_shut =
+      record {
+        stands = told W work (closed_intakes old) (closed_working_agent old) shut.stands;
+        left = record { chunks = shut.left.chunks; crumbs = shut.left.crumbs; triggers = shut.left.triggers };
+        clients_are = shut.clients_are;
+      }
+
+  pub asked_shut : (asks : List Ask) → AllByRecursion (IsAskable W) asks → IsClosedAgent W (with_asks asks work) all (record old { asks = old.asks ++ asks })
+  asked_shut asks askable =
+      record {
+        stands = asked W work (closed_intakes old) (closed_working_agent old) shut.stands asks askable;
+        left = record { chunks = shut.left.chunks; crumbs = shut.left.crumbs; triggers = shut.left.triggers };
+        clients_are = shut.clients_are;
+      }
 
 -- ---- closing
 

@@ -1,15 +1,17 @@
 -- What agents tell may be heard, and what is told and asked between rounds.
-use Rattle.std.proofs.Common.{◌≡◌, ℕ, Bool, true, false, cond, List, [], ◌∷◌, ◌++◌, filter, Option, Some, None, refl, sym, ap, subst, ◌∙◌, append_assoc}
-use Rattle.hs_run_agent.proofs.Prelude.{IfSome, AllByRecursion, option_and_then, option_to_list, all_append, all_mid, asks_in, crumbs_in, triggers_in, Port, is_declared, Ask, Crumb, Told, EventsAddFew, StepsSayWhatTheyTell, CrumbsLeadBelow, AgentState, start, Input, Chunk, Crumbed, Triggered, Asked, Turn, AgentEvent, Took, Gave, after, after_from, after_event, admits, told_by, PlainWorkload, IsAskable, IsTellable, IsWithin, PlainAgentActor, IsAgentActor, HasReceived, working_agent_of, PlainWorkingAgent, WorkingAgentStands, Intakes, intakes_of, NodeWork, with_moved, is_of}
-use Rattle.hs_lists.proofs.Alls.{all_find}
+use Rattle.std.proofs.Common.{◌≡◌, ℕ, Bool, true, false, cond, List, [], ◌∷◌, ◌++◌, Option, Some, None, refl, sym, ap, subst, ◌∙◌, append_assoc, append-nil}
+use Rattle.hs_run_agent.proofs.Prelude.{AllByRecursion, option_and_then, option_to_list, all_append, asks_in, is_declared, Ask, Crumb, Told, EventsAddFew, StepsSayWhatTheyTell, CrumbsLeadBelow, AgentState, start, Input, Chunk, Crumbed, Triggered, Asked, Turn, AgentEvent, Took, Gave, after, after_from, after_event, admits, told_by, PlainWorkload, AgentIs, AllAskable, asks_for, IsAskable, IsTellable, IsWithin, PlainAgentActor, IsAgentActor, working_agent_of, PlainWorkingAgent, WorkingAgentStands, Intakes, intakes_of, NodeWork, with_asks, with_moved}
+use Rattle.hs_lists.proofs.Alls.{all_back, all_find}
+use Rattle.hs_base.specs.NodeSets.{has_node}
 use Rattle.hs_base.specs.declared.told.Group.{Group}
 use Rattle.hs_base.specs.Ids.{same_trace}
+use Rattle.hs_coord.specs.declared.asks.Asks.{Asks}
 use Rattle.hs_law_agent.specs.Laws.{AllPass, IsPassed, claimed_by}
 use Rattle.hs_law_agent.specs.Leading.{LeadsBelow, BringsBelow, IsToldBelow}
 use Rattle.hs_law_agent.specs.Messages.{has_crumb, late_of}
 use Rattle.hs_law_agent.specs.State.{ClaimedTrace, claim_of}
 use Rattle.hs_law_agent.specs.Stepping.{group_of}
-use Rattle.hs_run_agent.specs.Work.{with_ask}
+use Rattle.hs_run_agent.specs.Coordinators.{ask_for}
 
 -- what is found is one of the list
 found_step : {A : Type 0} (P : A → Type 0) (b : Bool) (x y : A) (rest : Option A) → P x → (rest ≡ Some y → P y) → cond b (Some x) rest ≡ Some y → P y
@@ -93,80 +95,62 @@ module _ (W : PlainWorkload) (node : ℕ) where
 
 -- ---- between rounds
 
-module _ (W : PlainWorkload) (work : NodeWork) (lines : Intakes) where
-  -- the first message was fetched
-  pub tells : CrumbsLeadBelow → EventsAddFew → StepsSayWhatTheyTell → (desk : PlainWorkingAgent) (told : Told) → WorkingAgentStands W work (record desk { said = told ∷ desk.said }) lines → IsTellable W told × WorkingAgentStands W (with_moved told work) desk lines
-  tells below few says desk told stands =
-      let all = all_tellable W work.node below few says work.events stands.works.is.within in (
-        all_mid (IsTellable W) work.moved desk.said told (subst (λ (l : List Told). AllByRecursion (IsTellable W) l) (sym stands.works.said_is) all),
-        record {
-          works =
-              record {
-                is =
-                    record {
-                      buffers = stands.works.is.buffers;
-                      follows = stands.works.is.follows;
-                      labels = stands.works.is.labels;
-                      pooled = stands.works.is.pooled;
-                      pages = stands.works.is.pages;
-                      sheets = stands.works.is.sheets;
-                      within = stands.works.is.within;
-                      hands = stands.works.is.hands;
-                    };
-                said_is = append_assoc work.moved (told ∷ []) desk.said ∙ stands.works.said_is;
-              };
-          asks_are = stands.asks_are;
-          askable = stands.askable;
-          lines_are = stands.lines_are;
-          turns = stands.turns;
-        },
-      )
+-- what may be asked of all may be asked of one node
+pub these_askable : (W : PlainWorkload) (node : ℕ) (asks : List Asks) → AllAskable W asks → AllByRecursion (IsAskable W) (asks_for node asks)
+these_askable W node [] all = tt
+these_askable W node (x ∷ asks) all = all_append (IsAskable W) (ask_for node x) (asks_for node asks) (by_test (has_node x.to node)) (these_askable W node asks all.1)
+  where
+    by_test : (b : Bool) → AllByRecursion (IsAskable W) (cond b (x.ask ∷ []) [])
+    by_test true = (all.0, tt)
+    by_test false = tt
 
-  -- an ask was sent
-  pub asked : (desk : PlainWorkingAgent) (ask : Ask) → IsAskable W ask → WorkingAgentStands W work desk lines → WorkingAgentStands W (with_ask ask work) (record desk { asks = desk.asks ++ ask ∷ [] }) lines
-  asked desk ask askable stands =
+module _ (W : PlainWorkload) (work : NodeWork) (lines : Intakes) (desk : PlainWorkingAgent) (stands : WorkingAgentStands W work desk lines) where
+  -- what waits to be fetched may be heard
+  pub tellable : CrumbsLeadBelow → EventsAddFew → StepsSayWhatTheyTell → AllByRecursion (IsTellable W) desk.said
+  tellable below few says =
+      all_back (IsTellable W) work.moved desk.said (subst (λ (l : List Told). AllByRecursion (IsTellable W) l) (sym stands.works.said_is) (all_tellable W work.node below few says work.events stands.works.is.within))
+
+  -- the agent follows the same events, whatever was asked and moved
+  still : (asked : List Ask) (moved : List Told) → AgentIs W (record work { asked = asked; moved = moved }) None desk.agent
+  still asked moved =
+      let is = stands.works.is in
+      record { buffers = is.buffers; follows = is.follows; labels = is.labels; pooled = is.pooled; pages = is.pages; sheets = is.sheets; within = is.within; hands = is.hands }
+
+  -- all messages were fetched
+  pub told : WorkingAgentStands W (with_moved desk.said work) (record desk { said = [] }) lines
+  told =
       record {
-        works =
-            record {
-              is =
-                  record {
-                    buffers = stands.works.is.buffers;
-                    follows = stands.works.is.follows;
-                    labels = stands.works.is.labels;
-                    pooled = stands.works.is.pooled;
-                    pages = stands.works.is.pages;
-                    sheets = stands.works.is.sheets;
-                    within = stands.works.is.within;
-                    hands = stands.works.is.hands;
-                  };
-              said_is = stands.works.said_is;
-            };
-        asks_are = sym (append_assoc (asks_in work.events) desk.asks (ask ∷ [])) ∙ ap (λ (l : List Ask). l ++ ask ∷ []) stands.asks_are;
-        askable = all_append (IsAskable W) work.asked (ask ∷ []) stands.askable (askable, tt);
+        works = record { is = still work.asked (work.moved ++ desk.said); said_is = append-nil (work.moved ++ desk.said) ∙ stands.works.said_is };
+        asks_are = stands.asks_are;
+        askable = stands.askable;
         lines_are = stands.lines_are;
         turns = stands.turns;
       }
 
--- an agent actor, where its working agent stands with another work of the same events
-pub still_manned : (W : PlainWorkload) (work work' : NodeWork) (old new : PlainAgentActor) → IsAgentActor W work old → work'.events ≡ work.events → work'.came ≡ work.came → new.port ≡ old.port → new.clients ≡ old.clients → WorkingAgentStands W work' (working_agent_of new) (intakes_of new.port)
-    → IsAgentActor W work' new
-still_manned W work work' old new manned events came port clients stands =
-    record {
-      stands = stands;
-      received =
-          subst (λ (p : Port). HasReceived work' p) (sym port)
-          (record {
-            chunks = λ c r end. manned.received.chunks c r end ∙ ap (filter (is_of c)) (sym came);
-            crumbs = λ c r end. manned.received.crumbs c r end ∙ ap (crumbs_in c) (sym events);
-            triggers = λ c r end. manned.received.triggers c r end ∙ ap (triggers_in c) (sym events);
-          });
-      clients_are = clients ∙ manned.clients_are;
-    }
+  -- asks were sent
+  pub asked : (asks : List Ask) → AllByRecursion (IsAskable W) asks → WorkingAgentStands W (with_asks asks work) (record desk { asks = desk.asks ++ asks }) lines
+  asked asks askable =
+      record {
+        works = record { is = still (work.asked ++ asks) work.moved; said_is = stands.works.said_is };
+        asks_are = sym (append_assoc (asks_in work.events) desk.asks asks) ∙ ap (λ (l : List Ask). l ++ asks) stands.asks_are;
+        askable = all_append (IsAskable W) work.asked asks stands.askable askable;
+        lines_are = stands.lines_are;
+        turns = stands.turns;
+      }
 
-module _ (W : PlainWorkload) (work : NodeWork) (below : CrumbsLeadBelow) (few : EventsAddFew) (says : StepsSayWhatTheyTell) where
-  pub told_so : (old : PlainAgentActor) (told : Option Told) (rest : List Told) → old.said ≡ option_to_list told ++ rest → IsAgentActor W work old → IfSome told (λ (t : Told). IsTellable W t × IsAgentActor W (with_moved t work) (record old { said = rest }))
-  told_so old None rest e manned = tt
-  told_so old (Some told) rest e manned =
-      let before : WorkingAgentStands W work (record (working_agent_of old) { said = told ∷ rest }) (intakes_of old.port) = subst (λ (l : List Told). WorkingAgentStands W work (record (working_agent_of old) { said = l }) (intakes_of old.port)) e manned.stands in
-      let (tellable, stands) = tells W work (intakes_of old.port) below few says (record (working_agent_of old) { said = rest }) told before in
-      (tellable, still_manned W work (with_moved told work) old (record old { said = rest }) manned refl refl refl refl stands)
+module _ (W : PlainWorkload) (work : NodeWork) (old : PlainAgentActor) (manned : IsAgentActor W work old) where
+  pub told_manned : IsAgentActor W (with_moved old.said work) (record old { said = [] })
+  told_manned =
+      record {
+        stands = told W work (intakes_of old.port) (working_agent_of old) manned.stands;
+        received = record { chunks = manned.received.chunks; crumbs = manned.received.crumbs; triggers = manned.received.triggers };
+        clients_are = manned.clients_are;
+      }
+
+  pub asked_manned : (asks : List Ask) → AllByRecursion (IsAskable W) asks → IsAgentActor W (with_asks asks work) (record old { asks = old.asks ++ asks })
+  asked_manned asks askable =
+      record {
+        stands = asked W work (intakes_of old.port) (working_agent_of old) manned.stands asks askable;
+        received = record { chunks = manned.received.chunks; crumbs = manned.received.crumbs; triggers = manned.received.triggers };
+        clients_are = manned.clients_are;
+      }

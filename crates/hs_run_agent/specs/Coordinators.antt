@@ -50,9 +50,9 @@ ask_for node asks = if has_node asks.to node then asks.ask ∷ [] else []
 abbrev pub asks_for : ℕ → List Asks → List Ask
 asks_for node asks = flat_map (ask_for node) asks
 
--- the works when an ask went to each node for which it is
-abbrev pub asked_all : Asks → (ℕ → NodeWork) → ℕ → NodeWork
-asked_all asks works node = with_asks (ask_for node asks) (works node)
+-- the works when asks went to the nodes for which they are
+abbrev pub asked_all : List Asks → (ℕ → NodeWork) → ℕ → NodeWork
+asked_all asks works node = with_asks (asks_for node asks) (works node)
 
 -- a message of a node that there is, which may be heard
 pub record IsHearable (W : PlainWorkload) (m : Message) : Type 0 where
@@ -86,14 +86,22 @@ pub record HearsNode (W : PlainWorkload) (heard : Messages) (moved : Tellings) (
 
 -- ---- between rounds
 
--- A message of a node was moved behind those before it.
-pub record IsMoved (node : ℕ) (told : Told) (moved moved' : Tellings) : Type 0 where
-  pub here : moved' node ≡ moved node ++ told ∷ []
+-- Messages of a node were moved behind those before them.
+pub record AreMoved (node : ℕ) (told : List Told) (moved moved' : Tellings) : Type 0 where
+  pub here : moved' node ≡ moved node ++ told
   pub others : (other : ℕ) → (other ≡ node → ⊥) → moved' other ≡ moved other
 
+-- The coordinator stands where these messages of a node were moved too.
+pub record Brings (W : PlainWorkload) (node : ℕ) (told : List Told) (old new : PlainCoordinatorActor) : Type 0 where
+  pub by : (heard : Messages) (moved moved' : Tellings) (asked : Askings) → IsCoordinatorActor W heard moved asked old → AreMoved node told moved moved' → IsCoordinatorActor W heard moved' asked new
+
+-- Every ask may be asked.
+abbrev pub AllAskable : PlainWorkload → List Asks → Type 0
+AllAskable W asks = AllByRecursion (λ (a : Asks). IsAskable W a.ask) asks
+
 -- Asks were fetched for the nodes to which they go.
-abbrev pub AreFetched : PlainWorkload → Asks → Askings → Askings → Type 0
-AreFetched W asks asked asked' = (node : ℕ) → node < W.settings.nodes → asked' node ≡ asked node ++ ask_for node asks
+abbrev pub AreFetched : PlainWorkload → List Asks → Askings → Askings → Type 0
+AreFetched W asks asked asked' = (node : ℕ) → node < W.settings.nodes → asked' node ≡ asked node ++ asks_for node asks
 
 -- ---- queues
 
@@ -107,9 +115,9 @@ abbrev pub IsTakenOut : ℕ → List (List Told) → Option Told → List (List 
 IsTakenOut node old (Some told) new = (rest : List Told) × (slice_get old node ≡ Some (told ∷ rest)) × (new ≡ slice_set old node rest)
 IsTakenOut node old None new = (slice_get old node ≡ Some []) × (new ≡ old)
 
--- A message was put behind the others of a node.
-abbrev pub IsPutBehind : ℕ → Told → List (List Told) → List (List Told) → Type 0
-IsPutBehind node told old new = (queue : List Told) × (slice_get old node ≡ Some queue) × (new ≡ slice_set old node (queue ++ told ∷ []))
+-- Messages were put behind the others of a node.
+abbrev pub ArePutBehind : ℕ → List Told → List (List Told) → List (List Told) → Type 0
+ArePutBehind node told old new = (queue : List Told) × (slice_get old node ≡ Some queue) × (new ≡ slice_set old node (queue ++ told))
 
 -- ---- examples
 

@@ -1,6 +1,6 @@
 -- What was done at a node so far: the events of its agent, the buffers in which the agent's chunks came, all asks that were sent to
 -- it, and the messages of it that were fetched. Each part only grows.
-use Rattle.std.specs.Prelude.{ℕ, ◌==◌, ◌≤◌, Bool, true, false, List, [], ◌∷◌, ◌++◌, filter, count_by}
+use Rattle.std.specs.Prelude.{ℕ, ◌==◌, ◌≤◌, Bool, true, false, List, [], ◌++◌, filter, count_by}
 use Rattle.hs_base.specs.declared.limits.TheConstants.{MAX_CLIENTS, MAX_OPERATIONS}
 use Rattle.hs_base.specs.declared.told.Ask.{Ask}
 use Rattle.hs_base.specs.declared.told.Crumb.{Crumb}
@@ -26,14 +26,11 @@ pub record NodeWork : Type 0 where
 abbrev pub with_events : List AgentEvent → List (Buffer Leased) → NodeWork → NodeWork
 with_events events came work = record work { events = work.events ++ events; came = work.came ++ came }
 
-abbrev pub with_ask : Ask → NodeWork → NodeWork
-with_ask ask work = record work { asked = work.asked ++ ask ∷ [] }
-
 abbrev pub with_asks : List Ask → NodeWork → NodeWork
 with_asks asks work = record work { asked = work.asked ++ asks }
 
-abbrev pub with_moved : Told → NodeWork → NodeWork
-with_moved told work = record work { moved = work.moved ++ told ∷ [] }
+abbrev pub with_moved : List Told → NodeWork → NodeWork
+with_moved told work = record work { moved = work.moved ++ told }
 
 -- nothing was done
 abbrev pub no_work : ℕ → PoolName → NodeWork

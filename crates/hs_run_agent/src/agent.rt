@@ -1,7 +1,8 @@
 //! An agent in the rounds: it takes what came through the links of its node's clients.
 
-ghost use Rattle.std.specs.Prelude.{◌≡◌, ◌<◌, [], ◌∷◌, ◌++◌, List, OnOk, IfOk, IfSome, IfNone};
+ghost use Rattle.std.specs.Prelude.{◌≡◌, ◌<◌, [], ◌++◌, List, length, OnOk, IfOk};
 ghost use Rattle.hs_base.specs.declared.ids.ClientId.{ClientId};
+ghost use Rattle.hs_base.specs.declared.limits.TheConstants.{MAX_NODES};
 ghost use Rattle.hs_run_client.specs.Standing.{ClientActorIsAt};
 ghost use Rattle.hs_live.specs.Calls.{AreMates, MeetsAt};
 ghost use Rattle.hs_law_agent.specs.Stepping.{AgentEvent};
@@ -9,18 +10,17 @@ ghost use Rattle.hs_records.specs.Plain.{Operation, PlainSettings, PlainWorkload
 ghost use Rattle.hs_ring.specs.Parts.{Leased};
 ghost use Rattle.hs_workload.specs.Validity.{IsValid};
 ghost use Rattle.hs_words.specs.Buffers.{Buffer};
-ghost use Rattle.hs_run_agent.specs.Agents.{IsAskable, IsTellable};
 ghost use Rattle.hs_run_agent.specs.AgentActors.{IsAgentActor, BeginsAt, Passes};
-ghost use Rattle.hs_run_agent.specs.Work.{NodeWork, IsFew, no_work, with_ask, with_moved};
+ghost use Rattle.hs_run_agent.specs.Coordinators.{AllAskable, Brings, asks_for};
+ghost use Rattle.hs_run_agent.specs.Work.{NodeWork, IsFew, no_work, with_asks, with_moved};
 
+use crate::coordinator::CoordinatorActor;
 use crate::steps::Steps;
 use crate::working::WorkingAgent;
 use hs_agent::Agent;
-use hs_base::{Ask, Gate, Memory, NodeId, Settings, Told};
+use hs_base::{Gate, Memory, NodeId, Settings};
 use hs_journal::Step;
-use hs_law_agent::laws::{
-    crumbs_lead_below, events_add_few, events_go_on, steps_say_what_they_tell,
-};
+use hs_law_agent::laws::{crumbs_lead_below, events_add_few, steps_say_what_they_tell};
 use hs_live::AgentPort;
 use hs_run_client::ClientActor;
 use std::alloc::Global;
@@ -102,25 +102,29 @@ impl AgentActor {
         self.desk.agent.log().as_slice()
     }
 
-    /// The first message that waits is fetched, if there is one.
-    pub fn tell(&mut self) -> Option<Told>
-        ensures some { IfSome result (λ told. self.old ≡ record self.new { said = told ∷ self.new.said }) }
-        ensures none { IfNone result ((self.old.said ≡ []) × (self.new ≡ self.old)) }
-        ensures manned { (W : PlainWorkload) (work : NodeWork) → IsAgentActor W work self.old → IfSome result (λ told. IsTellable W told × IsAgentActor W (with_moved told work) self.new) }
+    /// The messages that wait go to the coordinator, where this is the agent of the node.
+    pub fn tell(&mut self, coordinator: &mut CoordinatorActor, node: NodeId) -> Result<(), Memory>
+        requires { node.0 < length coordinator.old.told }
+        ensures only { OnOk result (self.new ≡ record self.old { said = [] }) }
+        ensures coordinator { coordinator.new ≡ record coordinator.old { told = coordinator.new.told } }
+        ensures manned { (W : PlainWorkload) (work : NodeWork) → IsAgentActor W work self.old
+            → OnOk result (IsAgentActor W (with_moved self.old.said work) self.new × Brings W node.0 self.old.said coordinator.old coordinator.new) }
     {
         crumbs_lead_below();
         events_add_few();
-        events_go_on();
         steps_say_what_they_tell();
-        self.desk.said.pop_front()
+        coordinator.hear(node, &mut self.desk.said)?;
+        Ok(())
     }
 
-    /// An ask is sent, and waits behind those that were.
-    pub fn ask(&mut self, ask: Ask) -> Result<(), Memory>
-        ensures only { OnOk result (self.new ≡ record self.old { asks = self.old.asks ++ ask ∷ [] }) }
-        ensures manned { (W : PlainWorkload) (work : NodeWork) → IsAgentActor W work self.old → IsAskable W ask → OnOk result (IsAgentActor W (with_ask ask work) self.new) }
+    /// The coordinator's asks for the node are sent, and wait behind those that were.
+    pub fn ask(&mut self, coordinator: &CoordinatorActor, node: NodeId) -> Result<(), Memory>
+        requires { node.0 < MAX_NODES }
+        ensures only { OnOk result (self.new ≡ record self.old { asks = self.old.asks ++ asks_for node.0 coordinator.now.asks }) }
+        ensures manned { (W : PlainWorkload) (work : NodeWork) → IsAgentActor W work self.old → AllAskable W coordinator.now.asks
+            → OnOk result (IsAgentActor W (with_asks (asks_for node.0 coordinator.now.asks) work) self.new) }
     {
-        self.desk.asks.push_back(ask)?;
+        coordinator.ask(node, &mut self.desk.asks)?;
         Ok(())
     }
 }

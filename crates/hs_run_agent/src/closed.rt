@@ -1,26 +1,27 @@
 //! An agent whose links are closed: it takes what is left of them.
 
-ghost use Rattle.std.specs.Prelude.{◌≡◌, true, false, [], ◌∷◌, ◌++◌, map, OnOk, IfOk, IfSome, IfNone};
+ghost use Rattle.std.specs.Prelude.{◌≡◌, ◌<◌, true, false, [], ◌++◌, length, map, OnOk, IfOk};
+ghost use Rattle.hs_base.specs.declared.limits.TheConstants.{MAX_NODES};
 ghost use Rattle.hs_journal.specs.Books.{agent_book_of};
 ghost use Rattle.hs_live.specs.Live.{outgoing};
 ghost use Rattle.hs_law_agent.specs.Books.{book_of};
 ghost use Rattle.hs_records.specs.Plain.{PlainWorkload};
 ghost use Rattle.hs_ring.specs.Parts.{AreAllEnds, Closes};
 ghost use Rattle.hs_words.specs.declared.token.Tally.{Tally};
-ghost use Rattle.hs_run_agent.specs.Agents.{IsAskable, IsTellable, state_at};
+ghost use Rattle.hs_run_agent.specs.Agents.{state_at};
 ghost use Rattle.hs_run_agent.specs.AgentActors.{IsAgentActor};
 ghost use Rattle.hs_run_agent.specs.ClosedAgents.{Events, Buffers, AllSent, IsClosedAgent, IsClosedAgentBare, ClosedAgentPasses, AreMatesOf, all_sent};
-ghost use Rattle.hs_run_agent.specs.Work.{NodeWork, IsFew, with_ask, with_moved};
+ghost use Rattle.hs_run_agent.specs.Coordinators.{AllAskable, Brings, asks_for};
+ghost use Rattle.hs_run_agent.specs.Work.{NodeWork, IsFew, with_asks, with_moved};
 
 use crate::agent::AgentActor;
+use crate::coordinator::CoordinatorActor;
 use crate::rests::Rests;
 use crate::working::WorkingAgent;
 use hs_agent::Finished;
-use hs_base::{Ask, Crumb, List, Memory, OpenGate, Told, Trigger};
+use hs_base::{Crumb, List, Memory, NodeId, OpenGate, Trigger};
 use hs_journal::AgentBook;
-use hs_law_agent::laws::{
-    crumbs_lead_below, events_add_few, events_go_on, steps_say_what_they_tell,
-};
+use hs_law_agent::laws::{crumbs_lead_below, events_add_few, steps_say_what_they_tell};
 use hs_link::Sender;
 use hs_live::ClientKey;
 use hs_ring::{Drawer, Lease, close};
@@ -87,25 +88,29 @@ impl ClosedAgent {
         Ok(())
     }
 
-    /// The first message that waits is fetched, if there is one.
-    pub fn tell(&mut self) -> Option<Told>
-        ensures some { IfSome result (λ told. self.old ≡ record self.new { said = told ∷ self.new.said }) }
-        ensures none { IfNone result ((self.old.said ≡ []) × (self.new ≡ self.old)) }
-        ensures shut { (W : PlainWorkload) (work : NodeWork) (all : AllSent) → IsClosedAgent W work all self.old → IfSome result (λ told. IsTellable W told × IsClosedAgent W (with_moved told work) all self.new) }
+    /// The messages that wait go to the coordinator, where this is the agent of the node.
+    pub fn tell(&mut self, coordinator: &mut CoordinatorActor, node: NodeId) -> Result<(), Memory>
+        requires { node.0 < length coordinator.old.told }
+        ensures only { OnOk result (self.new ≡ record self.old { said = [] }) }
+        ensures coordinator { coordinator.new ≡ record coordinator.old { told = coordinator.new.told } }
+        ensures shut { (W : PlainWorkload) (work : NodeWork) (all : AllSent) → IsClosedAgent W work all self.old
+            → OnOk result (IsClosedAgent W (with_moved self.old.said work) all self.new × Brings W node.0 self.old.said coordinator.old coordinator.new) }
     {
         crumbs_lead_below();
         events_add_few();
-        events_go_on();
         steps_say_what_they_tell();
-        self.desk.said.pop_front()
+        coordinator.hear(node, &mut self.desk.said)?;
+        Ok(())
     }
 
-    /// An ask is sent, and waits behind those that were.
-    pub fn ask(&mut self, ask: Ask) -> Result<(), Memory>
-        ensures only { OnOk result (self.new ≡ record self.old { asks = self.old.asks ++ ask ∷ [] }) }
-        ensures shut { (W : PlainWorkload) (work : NodeWork) (all : AllSent) → IsClosedAgent W work all self.old → IsAskable W ask → OnOk result (IsClosedAgent W (with_ask ask work) all self.new) }
+    /// The coordinator's asks for the node are sent, and wait behind those that were.
+    pub fn ask(&mut self, coordinator: &CoordinatorActor, node: NodeId) -> Result<(), Memory>
+        requires { node.0 < MAX_NODES }
+        ensures only { OnOk result (self.new ≡ record self.old { asks = self.old.asks ++ asks_for node.0 coordinator.now.asks }) }
+        ensures shut { (W : PlainWorkload) (work : NodeWork) (all : AllSent) → IsClosedAgent W work all self.old → AllAskable W coordinator.now.asks
+            → OnOk result (IsClosedAgent W (with_asks (asks_for node.0 coordinator.now.asks) work) all self.new) }
     {
-        self.desk.asks.push_back(ask)?;
+        coordinator.ask(node, &mut self.desk.asks)?;
         Ok(())
     }
 

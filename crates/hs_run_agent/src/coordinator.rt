@@ -1,16 +1,17 @@
 //! The coordinator: it hears the messages that were brought to it, and its asks wait to be fetched.
 
-ghost use Rattle.std.specs.Prelude.{◌≡◌, ◌<◌, ◌≤◌, [], ◌∷◌, length, map, replicate, OnOk, IfOk, IfSome, IfNone};
+ghost use Rattle.std.specs.Prelude.{◌≡◌, ◌<◌, ◌≤◌, [], ◌++◌, length, map, replicate, OnOk, IfOk};
+ghost use Rattle.std.specs.List.{AllByRecursion};
 ghost use Rattle.hs_base.specs.declared.limits.TheConstants.{MAX_NODES};
 ghost use Rattle.hs_coord.specs.Messages.{Messages};
 ghost use Rattle.hs_records.specs.Plain.{PlainWorkload};
-ghost use Rattle.hs_run_agent.specs.Agents.{IsAskable, IsTellable};
-ghost use Rattle.hs_run_agent.specs.Coordinators.{Tellings, Askings, IsCoordinatorActor, Hears, HearsNode, IsMoved, AreFetched, IsTakenOut, IsPutBehind, coordinator_actor_of, all_empty};
+ghost use Rattle.hs_run_agent.specs.Agents.{IsTellable};
+ghost use Rattle.hs_run_agent.specs.Coordinators.{Tellings, Askings, IsCoordinatorActor, Hears, HearsNode, Brings, AreFetched, IsTakenOut, ArePutBehind, coordinator_actor_of, ask_for, asks_for, all_empty};
 
 use crate::inbox::Inbox;
 use crate::steps::Steps;
 use hs_base::limits::MAX_TAKEN;
-use hs_base::{Gate, List, Memory, NodeId, Told};
+use hs_base::{Ask, Gate, List, Memory, NodeId, Told};
 use hs_coord::{Asks, Coordinator};
 use std::alloc::Global;
 use std::collections::VecDeque;
@@ -65,25 +66,31 @@ impl CoordinatorActor {
         Ok(())
     }
 
-    /// A message of a node is brought, and waits behind those that wait.
-    pub fn hear(&mut self, node: NodeId, told: Told) -> Result<(), Memory>
+    /// These messages of a node are brought, and wait behind those that wait.
+    pub(crate) fn hear(&mut self, node: NodeId, told: &mut VecDeque<Told>) -> Result<(), Memory>
         requires { node.0 < length self.old.told }
-        ensures only { (self.new.kept ≡ self.old.kept) × (self.new.asks ≡ self.old.asks) × (length self.new.told ≡ length self.old.told) }
-        ensures stands { (W : PlainWorkload) (heard : Messages) (moved : Tellings) (asked : Askings) → IsCoordinatorActor W heard moved asked self.old → IsTellable W told
-            → OnOk result ((moved' : Tellings) → IsMoved node.0 told moved moved' → IsCoordinatorActor W heard moved' asked self.new) }
+        ensures gone { OnOk result (told.new.items ≡ []) }
+        ensures only { self.new ≡ record self.old { told = self.new.told } }
+        ensures brings { (W : PlainWorkload) → AllByRecursion (IsTellable W) told.old.items → OnOk result (Brings W node.0 told.old.items self.old self.new) }
     {
-        bring(&mut self.told, node.0 as usize, told)?;
-        Ok(())
+        bring(&mut self.told, node.0 as usize, told)
     }
 
-    /// The next of the asks that wait is fetched, if there is one.
-    pub fn next_asks(&mut self) -> Option<Asks>
-        ensures some { IfSome result (λ asks. self.old ≡ record self.new { asks = asks ∷ self.new.asks }) }
-        ensures none { IfNone result ((self.old.asks ≡ []) × (self.new ≡ self.old)) }
-        ensures stands { (W : PlainWorkload) (heard : Messages) (moved : Tellings) (asked : Askings) → IsCoordinatorActor W heard moved asked self.old
-            → IfSome result (λ asks. IsAskable W asks.ask × ((asked' : Askings) → AreFetched W asks asked asked' → IsCoordinatorActor W heard moved asked' self.new)) }
+    /// The asks for a node go behind these.
+    pub(crate) fn ask(&self, node: NodeId, asks: &mut VecDeque<Ask>) -> Result<(), Memory>
+        requires { node.0 < MAX_NODES }
+        ensures { OnOk result (asks.new.items ≡ asks.old.items ++ asks_for node.0 self.now.asks) }
     {
-        self.asks.pop_front()
+        add_asks(&self.asks, node, asks)
+    }
+
+    /// No ask waits any more: all were fetched.
+    pub fn forget_asks(&mut self)
+        ensures only { self.new ≡ record self.old { asks = [] } }
+        ensures stands { (W : PlainWorkload) (heard : Messages) (moved : Tellings) (asked asked' : Askings) → IsCoordinatorActor W heard moved asked self.old → AreFetched W self.old.asks asked asked'
+            → IsCoordinatorActor W heard moved asked' self.new }
+    {
+        self.asks.clear();
     }
 
     /// The nodes whose messages were heard, in their order.
@@ -121,13 +128,35 @@ fn next_told(told: &mut List<Inbox>, node: usize) -> Option<Told>
     told.as_mut_slice()[node].next()
 }
 
-/// Puts a message of a node behind those that wait.
-fn bring(told: &mut List<Inbox>, node: usize, message: Told) -> Result<(), Memory>
+/// Puts messages of a node behind those that wait.
+fn bring(told: &mut List<Inbox>, node: usize, messages: &mut VecDeque<Told>) -> Result<(), Memory>
     requires { node < length told.old.items }
-    ensures put { OnOk result (IsPutBehind node message told.old.items told.new.items) }
-    ensures count { length told.new.items ≡ length told.old.items }
+    ensures put { OnOk result (ArePutBehind node messages.old.items told.old.items told.new.items) }
+    ensures gone { OnOk result (messages.new.items ≡ []) }
 {
-    told.as_mut_slice()[node].bring(message)
+    told.as_mut_slice()[node].bring(messages)
+}
+
+/// Puts an ask behind others, if it is for the node.
+fn add_ask(asks: &Asks, node: NodeId, others: &mut VecDeque<Ask>) -> Result<(), Memory>
+    requires { node.0 < MAX_NODES }
+    ensures { OnOk result (others.new.items ≡ others.old.items ++ ask_for node.0 asks.now) }
+{
+    if asks.to.contains(node) {
+        others.push_back(asks.ask)?;
+    }
+    Ok(())
+}
+
+/// Puts the asks that are for the node behind others.
+fn add_asks(asks: &VecDeque<Asks>, node: NodeId, others: &mut VecDeque<Ask>) -> Result<(), Memory>
+    requires { node.0 < MAX_NODES }
+    ensures { OnOk result (others.new.items ≡ others.old.items ++ asks_for node.0 asks.now.items) }
+{
+    for place in 0..asks.len() {
+        add_ask(&asks[place], node, others)?;
+    }
+    Ok(())
 }
 
 /// Hears the messages of a node that wait, at most 64.

@@ -1,6 +1,6 @@
 //! What was brought to the coordinator of one node.
 
-ghost use Rattle.std.specs.Prelude.{◌≡◌, Bool, List, [], ◌∷◌, ◌++◌, length, OnOk, IfOk};
+ghost use Rattle.std.specs.Prelude.{◌≡◌, List, [], ◌++◌, OnOk};
 ghost use Rattle.hs_base.specs.declared.told.Told.{Told};
 ghost use Rattle.hs_run_agent.specs.Coordinators.{IsTaken, is_empty};
 
@@ -41,11 +41,12 @@ impl Inbox {
         self.queue.pop_front()
     }
 
-    /// Puts a message behind the others.
-    pub(crate) fn bring(&mut self, told: Told) -> Result<(), Memory>
-        ensures { OnOk result (self.new ≡ self.old ++ told ∷ []) }
+    /// These messages go behind the others.
+    pub(crate) fn bring(&mut self, told: &mut VecDeque<Told>) -> Result<(), Memory>
+        ensures put { OnOk result (self.new ≡ self.old ++ told.old.items) }
+        ensures gone { OnOk result (told.new.items ≡ []) }
     {
-        self.queue.push_back(told)?;
+        self.queue.append(told)?;
         Ok(())
     }
 

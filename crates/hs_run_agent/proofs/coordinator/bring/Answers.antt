@@ -13,4 +13,4 @@ returns-clause-put c =
       lent_from items now c.args.node c.index-as_mut_slice-node.result c.as_mut_slice.ensures.value c.requires,
       lent_is items now c.args.node c.bring.new.self c.as_mut_slice.ensures.value ∙ ap (λ (l : List Told). slice_set items c.args.node l) became,
     ))
-    c.bring.ensures
+    c.bring.ensures.put

@@ -1,11 +1,14 @@
-use Rattle.std.proofs.Common.{sym, subst}
-use Rattle.hs_run_agent.proofs.Prelude.{PlainCoordinatorActor, IsCoordinatorActor, coordinator_actor_of}
-use Rattle.hs_run_agent.proofs.Hearing.{brought_so}
+use Rattle.std.proofs.Common.{subst}
+use Rattle.hs_run_agent.proofs.Prelude.{Brings, PlainCoordinatorActor, coordinator_actor_of}
+use Rattle.std.proofs.lemmas.Result.{on_ok_weaker}
+use Rattle.hs_run_agent.proofs.Hearing.{brings}
 use Rattle.hs_run_agent.proofs.coordinator.CoordinatorActor.hear.Goals as goal
 
-pub returns-clause-stands : goal.returns-clause-stands
-returns-clause-stands c = λ W heard moved asked is tellable.
+pub returns-clause-brings : goal.returns-clause-brings
+returns-clause-brings c = λ W tellable.
     let s = c.self.inside in
-    let old : PlainCoordinatorActor = coordinator_actor_of s.coordinator s.told.items s.asks.items in
-    let here : IsCoordinatorActor W heard moved asked old = subst (λ (x : PlainCoordinatorActor). IsCoordinatorActor W heard moved asked x) (sym c.self.view_is) is in
-    brought_so W heard moved asked old c.bring.new.told.items c.args.node.0 c.args.told c.in_ok-bring.ensures.put here tellable
+    let told = c.bring.new.told.items in
+    on_ok_weaker c.bring.result
+    (λ put. subst (λ (x : PlainCoordinatorActor). Brings W c.args.node.0 c.args.told.now.items x (coordinator_actor_of s.coordinator told s.asks.items)) c.self.view_is
+    (brings W (coordinator_actor_of s.coordinator s.told.items s.asks.items) told c.args.node.0 c.args.told.now.items put tellable))
+    c.bring.ensures.put
