@@ -71,7 +71,7 @@ fn gather(
     let rules = settings.autos.as_slice();
     let mut script = Script::make(alloc, settings.size, draws)?;
     let mut player = ReplayClient::make(alloc, client, settings, operations)?;
-    let mut gathering = Gathering::new(alloc, may_keep(settings, draws));
+    let mut gathering = Gathering::new(alloc, may_keep(settings.size, operations, draws));
     for number in 0..operations.len() {
         gathering.go(number, rules, operations, &mut script, &mut player)?;
     }

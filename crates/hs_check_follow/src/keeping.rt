@@ -3,13 +3,20 @@
 ghost use Rattle.std.specs.Prelude.{◌≡◌, [], ◌∷◌, ◌++◌, map, OnOk, if◌then◌else◌};
 ghost use Rattle.hs_words.specs.Buffers.{buffer_of};
 
-use hs_base::{Memory, Settings};
+use hs_base::Memory;
 use hs_journal::Draw;
 use hs_words::Held;
+use hs_workload::Op;
 use std::collections::VecDeque;
 
-/// The most bytes that the buffers of all clients' kept chunks have.
-const KEPT_ROOM: usize = 16_777_216;
+/// What a chunk takes beside its buffer, in bytes: its place in a queue, and what an allocator notes of the buffer.
+const BESIDE: usize = 88;
+
+/// For each chunk of a client whose chunks are kept there are so many operations at least.
+const FEWEST: usize = 4;
+
+/// And for each of its operations its chunks take so many bytes at most.
+const MOST: usize = 80;
 
 /// The chunks that a client sent so far, where they are kept.
 #[derive(Drop)]
@@ -31,9 +38,11 @@ impl Keeping {
     }
 }
 
-/// Whether the chunks of a client at these draws are kept: where those of all clients had room if each had as many draws.
-pub(crate) fn may_keep(settings: &Settings, draws: &[Draw]) -> bool {
-    let clients = (settings.nodes as usize).saturating_mul(settings.clients as usize);
-    let each = draws.len().saturating_mul(settings.size as usize);
-    each.saturating_mul(clients) <= KEPT_ROOM
+/// Whether the chunks of a client with these operations are kept at these draws: where they are few, and take little, for so many
+/// operations.
+pub(crate) fn may_keep(size: u32, operations: &[Op], draws: &[Draw]) -> bool {
+    let count = operations.len();
+    let chunk = (size as usize).saturating_add(BESIDE);
+    draws.len().saturating_mul(FEWEST) <= count
+        && draws.len().saturating_mul(chunk) <= count.saturating_mul(MOST)
 }
