@@ -1,8 +1,7 @@
 -- Whether gives answer their draws, event by event in the order of stamps: the last event of the buffer before a give is the draw
 -- of the chunk that lay in it.
-use Rattle.std.specs.Prelude.{◌≡◌, ℕ, Bool, true, false, ◌&&◌, ◌==◌, List, [], ◌∷◌, Option, Some, None, nat_eq, if◌then◌else◌, refl}
+use Rattle.std.specs.Prelude.{◌≡◌, ℕ, Bool, true, false, ◌&&◌, ◌==◌, List, [], ◌∷◌, Option, Some, None, slice_index_or, if◌then◌else◌, refl}
 use Rattle.std.specs.Option.{option_map_or}
-use Rattle.std.specs.HashMap.{get}
 use Rattle.hs_journal.specs.declared.journal.Draw.{Draw}
 use Rattle.hs_journal.specs.declared.journal.Draw.TheVariants as draws
 use Rattle.hs_law_journal.specs.Pooled.{has_buffer}
@@ -31,9 +30,17 @@ abbrev pub is_got : Option Draw → Bool
 is_got (Some (draws.Got buffer stamp)) = true
 is_got _ = false
 
+-- the stamp that is noted of a buffer
+abbrev pub latest_at : Latest → ℕ → Option ℕ
+latest_at latest buffer = slice_index_or latest.stamps.items buffer None
+
 -- of each buffer its last event is known
 abbrev pub IsLatest : List StampedEvent → Latest → Type 0
-IsLatest before latest = (buffer : ℕ) → get nat_eq latest.stamps buffer ≡ last_at buffer before
+IsLatest before latest = (buffer : ℕ) → latest_at latest buffer ≡ last_at buffer before
+
+-- this stamp is noted of a buffer, and of each other what was noted
+abbrev pub IsSet : (buffer stamp : ℕ) → Latest → Latest → Type 0
+IsSet buffer stamp old new = (other : ℕ) → latest_at new other ≡ (if buffer == other then Some stamp else latest_at old other)
 
 abbrev at : ℕ → NotedEvent → StampedEvent
 at stamp event = record { stamp = stamp; event = event }

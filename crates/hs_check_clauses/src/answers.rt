@@ -1,6 +1,6 @@
 //! The fourth clause: each give answers the draw of its chunk.
 
-ghost use Rattle.std.specs.Prelude.{◌≡◌, ◌*◌, ◌≤◌, ◌&&◌, ◌∷◌, List, [], true, length, IfOk};
+ghost use Rattle.std.specs.Prelude.{◌≡◌, ℕ, ◌*◌, ◌<◌, ◌≤◌, ◌&&◌, ◌∷◌, List, [], None, true, length, slice_index_or, IfOk, OnOk};
 ghost use Rattle.std.specs.Bool.{OnTrue};
 ghost use Rattle.std.specs.List.{list_all};
 ghost use Rattle.std.specs.List.Sorted.{IsNonDecreasingBy, IsPermutation};
@@ -14,7 +14,7 @@ ghost use Rattle.hs_law_journal.specs.Shape.{has_stamps};
 ghost use Rattle.hs_workload.specs.Validity.{IsValid};
 ghost use Rattle.hs_workload.specs.Views.{workload_of};
 ghost use Rattle.hs_check_clauses.specs.declared.happened.StampedEvent.{StampedEvent};
-ghost use Rattle.hs_check_clauses.specs.Answering.{answers_last, answers_through, is_got, IsLatest};
+ghost use Rattle.hs_check_clauses.specs.Answering.{answers_last, answers_through, is_got, latest_at, IsLatest, IsSet};
 ghost use Rattle.hs_check_clauses.specs.Finding.{IsFound};
 ghost use Rattle.hs_check_clauses.specs.Happening.{draw_at, drawn_from, node_timed};
 
@@ -26,7 +26,6 @@ use hs_journal::{Draw, Journal};
 use hs_law_journal::laws::{following_plays_out, gives_are_noted, runs_are_of_the_journal};
 use hs_workload::Workload;
 use std::alloc::Global;
-use std::collections::HashMap;
 
 /// Whether each give answers the draw of its chunk: that draw came before it, and nothing at the buffer in between. The one
 /// error is want of memory.
@@ -108,7 +107,7 @@ fn answer_in_order(alloc: Global, events: &[StampedEvent]) -> Result<bool, Memor
     ensures { IfOk result (λ yes. yes ≡ answers_through [] events.now) }
 {
     let mut latest = Latest {
-        stamps: HashMap::new(alloc),
+        stamps: Vec::new(alloc),
     };
     for event in events {
         if !latest.note(*event)? {
@@ -118,10 +117,10 @@ fn answer_in_order(alloc: Global, events: &[StampedEvent]) -> Result<bool, Memor
     Ok(true)
 }
 
-/// The stamp of the last event of each buffer.
+/// The stamp of the last event of each buffer, by the buffer's number. Behind the end no buffer had an event.
 #[derive(Drop)]
 pub(crate) struct Latest {
-    stamps: HashMap<u32, u64>,
+    stamps: Vec<Option<u64>>,
 }
 
 impl Latest {
@@ -132,16 +131,47 @@ impl Latest {
     {
         match timed.event {
             NotedEvent::Got { buffer } => {
-                self.stamps.insert(buffer, timed.stamp)?;
+                self.set(buffer, timed.stamp)?;
             }
             NotedEvent::Given { buffer, drawn } => {
-                if self.stamps.get(&buffer).copied() != Some(drawn) {
+                if self.at(buffer) != Some(drawn) {
                     return Ok(false);
                 }
-                self.stamps.insert(buffer, timed.stamp)?;
+                self.set(buffer, timed.stamp)?;
             }
             _ => {}
         }
         Ok(true)
     }
+
+    /// The stamp of the last event of a buffer.
+    fn at(&self, buffer: u32) -> Option<u64>
+        ensures { result ≡ latest_at self.now buffer }
+    {
+        match self.stamps.get(buffer as usize) {
+            Some(stamp) => *stamp,
+            None => None,
+        }
+    }
+
+    /// Sets the stamp of the last event of a buffer.
+    fn set(&mut self, buffer: u32, stamp: u64) -> Result<(), Memory>
+        ensures { OnOk result (IsSet buffer stamp self.old self.new) }
+    {
+        let place = buffer as usize;
+        reach(&mut self.stamps, place)?;
+        self.stamps[place] = Some(stamp);
+        Ok(())
+    }
+}
+
+/// Appends buffers without an event until there is this place.
+fn reach(stamps: &mut Vec<Option<u64>>, place: usize) -> Result<(), Memory>
+    ensures long { OnOk result (place < length stamps.new.items) }
+    ensures same { OnOk result ((buffer : ℕ) → slice_index_or stamps.new.items buffer None ≡ slice_index_or stamps.old.items buffer None) }
+{
+    'places: while stamps.len() <= place {
+        stamps.push(None)?;
+    }
+    Ok(())
 }
