@@ -71,6 +71,11 @@ abbrev pub SendsOneMore : List AutoRule → List Operation → ℕ → Script �
 SendsOneMore rules ops n script player g script' player' g' =
     (settings : PlainSettings) (client : ClientId) (draws : List Draw) → rules ≡ settings.autos → IsSentBy settings client ops draws n script player g → IsSentBy settings client ops draws (n + 1) script' player' g'
 
+-- the first n operations were done, where none had been
+abbrev pub SendsFirst : List AutoRule → List Operation → (n : ℕ) → Script → PlainReplayClient → Gathering → Script → PlainReplayClient → Gathering → Type 0
+SendsFirst rules ops n script player g script' player' g' =
+    (settings : PlainSettings) (client : ClientId) (draws : List Draw) → rules ≡ settings.autos → IsSentBy settings client ops draws 0 script player g → IsSentBy settings client ops draws n script' player' g'
+
 pub record IsNew (g : Gathering) : Type 0 where
   pub chunks : g.keeping.chunks.items ≡ []
   pub crumbs : g.crumbs.items ≡ []

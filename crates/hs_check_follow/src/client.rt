@@ -68,13 +68,12 @@ fn gather(
     requires each { length draws.now ≡ length (pages_of settings.now.size (map operation_of operations.now)) }
     ensures { IfOk result (λ sent. AllIsSentBy (settings_of settings.now) client (map operation_of operations.now) draws.now sent.0 sent.1) }
 {
-    let rules = settings.autos.as_slice();
+    let keeps = may_keep(settings.size, operations, draws);
     let mut script = Script::make(alloc, settings.size, draws)?;
     let mut player = ReplayClient::make(alloc, client, settings, operations)?;
-    let mut gathering = Gathering::new(alloc, may_keep(settings.size, operations, draws));
-    for number in 0..operations.len() {
-        gathering.go(number, rules, operations, &mut script, &mut player)?;
-    }
+    let mut gathering = Gathering::new(alloc, keeps);
+    let rules = settings.autos.as_slice();
+    gathering.go_all(rules, operations, &mut script, &mut player)?;
     Ok((player, gathering))
 }
 

@@ -2,7 +2,7 @@
 
 ghost use Rattle.std.specs.Prelude.{◌≡◌, ◌<◌, ◌++◌, length, map, replicate, OnOk};
 ghost use Rattle.hs_workload.specs.Views.{operation_of};
-ghost use Rattle.hs_check_follow.specs.Gathering.{IsNew, WasSent, SendsOneMore, WasSentChunks, IsSentChunks, WasSentCrumbs, IsSentCrumbs, WasSentTriggers, IsSentTriggers};
+ghost use Rattle.hs_check_follow.specs.Gathering.{IsNew, WasSent, SendsFirst, SendsOneMore, WasSentChunks, IsSentChunks, WasSentCrumbs, IsSentCrumbs, WasSentTriggers, IsSentTriggers};
 
 use crate::keeping::Keeping;
 use crate::script::Script;
@@ -46,6 +46,23 @@ impl Gathering {
                 triggers: List::new(alloc),
             },
         }
+    }
+
+    /// The client, which has done nothing, does all its operations, and all that it sends is taken.
+    pub(crate) fn go_all(
+        &mut self,
+        rules: &[AutoRule],
+        operations: &[Op],
+        script: &mut Script,
+        player: &mut ReplayClient,
+    ) -> Result<(), Memory>
+        requires { WasSent rules.now (map operation_of operations.now) 0 script.old player.old self.old }
+        ensures { OnOk result (SendsFirst rules.now (map operation_of operations.now) (length operations.now) script.old player.old self.old script.new player.new self.new) }
+    {
+        for number in 0..operations.len() {
+            self.go(number, rules, operations, script, player)?;
+        }
+        Ok(())
     }
 
     /// The client does the operation of this number, and all that it sends with it joins what it sent before. Most operations send nothing.

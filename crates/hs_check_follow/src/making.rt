@@ -6,7 +6,7 @@ ghost use Rattle.hs_journal.specs.Views.{journal_of};
 ghost use Rattle.hs_law_journal.specs.Following.{followed, node_start, run_start};
 ghost use Rattle.hs_workload.specs.Views.{workload_of};
 ghost use Rattle.hs_check_clauses.specs.Beginning.{MayBegin};
-ghost use Rattle.hs_check_follow.specs.Beginning.{IsNewFollowedCoordinator};
+ghost use Rattle.hs_check_follow.specs.Beginning.{IsNewFollowedCoordinator, AreNoAsks, AreNoCounts};
 ghost use Rattle.hs_check_follow.specs.Clients.{ClientStands};
 ghost use Rattle.hs_check_follow.specs.Whole.{NodeAt, AllAt};
 
@@ -17,7 +17,7 @@ use crate::coordinator::FollowedCoordinator;
 use crate::node::FollowedNode;
 use crate::run::FollowedRun;
 use hs_agent::Agent;
-use hs_base::{ClientId, List, Memory, NodeId};
+use hs_base::{Ask, ClientId, List, Memory, NodeId};
 use hs_coord::Coordinator;
 use hs_journal::Journal;
 use hs_law_sends::laws::valid_clients_may_be_played;
@@ -29,7 +29,20 @@ pub fn follow(alloc: Global, workload: &Workload, journal: &Journal) -> Result<F
     requires { MayBegin (workload_of workload.now) (journal_of journal.now) }
     ensures { IfOk result (λ f. AllAt (workload_of workload.now) (journal_of journal.now) (followed (workload_of workload.now) (journal_of journal.now)) f.nodes.items f.hearing) }
 {
-    let mut following = begin(alloc, workload, journal)?;
+    let following = begin(alloc, workload, journal)?;
+    follow_on(following, workload, journal)
+}
+
+/// Follows a journal as far as that is possible, where nothing was performed.
+fn follow_on(
+    following: FollowedRun,
+    workload: &Workload,
+    journal: &Journal,
+) -> Result<FollowedRun, Memory>
+    requires { AllAt (workload_of workload.now) (journal_of journal.now) (run_start (workload_of workload.now) (journal_of journal.now)) following.nodes.items following.hearing }
+    ensures { IfOk result (λ f. AllAt (workload_of workload.now) (journal_of journal.now) (followed (workload_of workload.now) (journal_of journal.now)) f.nodes.items f.hearing) }
+{
+    let mut following = following;
     following.follow(workload, journal)?;
     Ok(following)
 }
@@ -106,13 +119,9 @@ fn make_hearing(alloc: Global, nodes: u16) -> Result<FollowedCoordinator, Memory
     requires { nodes ≤ MAX_NODES }
     ensures { IfOk result (IsNewFollowedCoordinator nodes) }
 {
+    let counts = no_counts(alloc, nodes)?;
+    let asks = no_asks(alloc, nodes)?;
     let coordinator = Coordinator::make(alloc, nodes)?;
-    let mut asks = List::new(alloc);
-    let mut counts = List::new(alloc);
-    for node in 0..nodes {
-        asks.append(List::new(alloc))?;
-        counts.append(0)?;
-    }
     Ok(FollowedCoordinator {
         coordinator,
         asks,
@@ -120,4 +129,26 @@ fn make_hearing(alloc: Global, nodes: u16) -> Result<FollowedCoordinator, Memory
         next: 0,
         asked: List::new(alloc),
     })
+}
+
+/// No asks of any node.
+fn no_asks(alloc: Global, nodes: u16) -> Result<List<List<Ask>>, Memory>
+    ensures { IfOk result (λ asks. AreNoAsks nodes asks.items) }
+{
+    let mut asks = List::new(alloc);
+    for node in 0..nodes {
+        asks.append(List::new(alloc))?;
+    }
+    Ok(asks)
+}
+
+/// A count of 0 for each node.
+fn no_counts(alloc: Global, nodes: u16) -> Result<List<usize>, Memory>
+    ensures { IfOk result (λ counts. AreNoCounts nodes counts.items) }
+{
+    let mut counts = List::new(alloc);
+    for node in 0..nodes {
+        counts.append(0)?;
+    }
+    Ok(counts)
 }
