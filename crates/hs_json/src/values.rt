@@ -13,15 +13,15 @@ ghost use Rattle.hs_json.specs.Spelling.{ArePlain, Spells, SpellEach, Texts, id_
 ghost use Rattle.hs_report.specs.Sources.{Hold, report_by};
 ghost use Rattle.hs_text.specs.Text.{payload_text, trace_digits};
 ghost use Rattle.hs_text.specs.Writing.{trace_word};
-ghost use Rattle.serde_json.specs.Data.{object, member, no_members};
-ghost use Rattle.serde_json.specs.View.{view};
+ghost use Rattle.serde_json.specs.Data.{object, member, no_members, put as with_member};
+ghost use Rattle.serde_json.specs.View.{view, members_view};
 
 use hs_base::{Memory, RecordId, TraceId};
 use hs_collect::{Collector, TraceRecord};
 use hs_ledger::Entry;
 use hs_report::{Fates, is_reported, push_fate};
 use hs_text::{end_line, push_hex, push_payload};
-use serde_json::{Value, json};
+use serde_json::{Map, Value, put};
 use std::alloc::Global;
 
 /// A text as a JSON string.
@@ -170,13 +170,30 @@ fn trace_value(alloc: Global, version: u8, trace: TraceId) -> Result<Value, Memo
     Ok(text_value(text))
 }
 
+/// Adds the records and the trace of a report to its members.
+fn put_shown(
+    members: &mut Map<String, Value>,
+    alloc: Global,
+    records: Value,
+    trace: Value,
+) -> Result<(), Memory>
+    ensures { OnOk result (members_view members.new.entries
+        ≡ with_member (codes "trace") (view trace) (with_member (codes "records") (view records) (members_view members.old.entries))) }
+{
+    put(members, alloc, "records", records)?;
+    put(members, alloc, "trace", trace)?;
+    Ok(())
+}
+
 /// An object of these members.
 fn report_object(alloc: Global, gaps: Value, records: Value, trace: Value) -> Result<Value, Memory>
     ensures { IfOk result (λ value. view value ≡ object (member (codes "gaps") (view gaps)
         (member (codes "records") (view records) (member (codes "trace") (view trace) no_members)))) }
 {
-    let report = json!(in alloc; {"gaps": gaps, "records": records, "trace": trace})?;
-    Ok(report)
+    let mut members = Map::new(alloc);
+    put(&mut members, alloc, "gaps", gaps)?;
+    put_shown(&mut members, alloc, records, trace)?;
+    Ok(Value::Object(members))
 }
 
 /// The report of a trace as JSON.
