@@ -1,6 +1,9 @@
--- How an agent whose links are closed lies in its fields.
-use Rattle.std.specs.Prelude.{map}
+-- How an agent whose links are closed lies in its fields, and how it is joined of them.
+use Rattle.std.specs.Prelude.{◌≡◌, ℕ, map, Result, Ok}
+use Rattle.hs_base.specs.declared.ids.Memory.{Memory}
 use Rattle.hs_run_agent.specs.declared.closed.ClosedAgent.TheInside.{Inside}
+use Rattle.hs_run_agent.specs.declared.rests.Rests.{Rests}
+use Rattle.hs_run_agent.specs.declared.working.WorkingAgent.{WorkingAgent}
 use Rattle.hs_run_agent.specs.ClosedAgents.{PlainClosedAgent, remaining}
 
 abbrev pub closed_agent_in : Inside → PlainClosedAgent
@@ -15,3 +18,9 @@ closed_agent_in s =
       said = s.desk.said.items;
       clients = s.clients;
     }
+
+-- It has these parts.
+pub record IsJoined (desk : WorkingAgent) (left : Result Rests Memory) (clients : ℕ) (shut : PlainClosedAgent) : Type 0 where
+  pub rests : Rests
+  pub left_is : left ≡ Ok rests
+  pub is : shut ≡ closed_agent_in (record { desk = desk; rests = rests; clients = clients })

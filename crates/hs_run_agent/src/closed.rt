@@ -10,6 +10,7 @@ ghost use Rattle.hs_ring.specs.Parts.{AreAllEnds, Closes};
 ghost use Rattle.hs_words.specs.declared.token.Tally.{Tally};
 ghost use Rattle.hs_run_agent.specs.Agents.{state_at};
 ghost use Rattle.hs_run_agent.specs.AgentActors.{IsAgentActor};
+ghost use Rattle.hs_run_agent.specs.ClosedAgentLayout.{IsJoined};
 ghost use Rattle.hs_run_agent.specs.ClosedAgents.{Events, Buffers, AllSent, IsClosedAgent, IsClosedAgentBare, ClosedAgentPasses, AreMatesOf, all_sent};
 ghost use Rattle.hs_run_agent.specs.Coordinators.{AllAskable, Brings, asks_for};
 ghost use Rattle.hs_run_agent.specs.Work.{NodeWork, IsFew, with_asks, with_moved};
@@ -68,16 +69,27 @@ impl AgentActor {
             port,
             clients,
         } = self;
-        let rests = Rests::of(alloc, port.parts(), chunks, crumbs, triggers)?;
-        Ok(ClosedAgent {
-            desk,
-            rests,
-            clients,
-        })
+        let rests = Rests::of(alloc, port.parts(), chunks, crumbs, triggers);
+        ClosedAgent::joined(desk, rests, clients)
     }
 }
 
 impl ClosedAgent {
+    /// An agent at work with what is left of its links, where there was memory for that.
+    fn joined(
+        desk: WorkingAgent,
+        rests: Result<Rests, Memory>,
+        clients: u16,
+    ) -> Result<ClosedAgent, Memory>
+        ensures { IfOk result (IsJoined desk rests clients) }
+    {
+        Ok(ClosedAgent {
+            desk,
+            rests: rests?,
+            clients,
+        })
+    }
+
     /// A pass: as in the rounds, over what is left.
     pub fn pass(&mut self) -> Result<(), Memory>
         requires { (W : PlainWorkload) × (work : NodeWork) × (all : AllSent) × IsClosedAgent W work all self.old × IsFew W work }
