@@ -1,7 +1,10 @@
 //! From books to an outcome.
 
 ghost use Rattle.std.specs.Prelude.{◌≡◌, List, map, IfOk};
+ghost use Rattle.hs_collect.specs.Collected.{AreCollected};
 ghost use Rattle.hs_journal.specs.Views.{PlainJournal, journal_of};
+ghost use Rattle.hs_law_outcome.specs.Outcomes.{outcome_of};
+ghost use Rattle.hs_ledger.specs.Totals.{totals_of};
 ghost use Rattle.hs_records.specs.Plain.{PlainWorkload};
 ghost use Rattle.hs_report.specs.Outcomes.{AreBooksOf, IsOutcome};
 ghost use Rattle.hs_report.specs.Journals.{journal_by};
@@ -10,11 +13,12 @@ use crate::claims::claimed_traces;
 use crate::laws::{records_are_few, reported_pages_are_pages};
 use crate::outcome::{Books, Outcome};
 use crate::pages::collected;
-use hs_base::{List, Memory};
+use hs_base::{List, Memory, TraceId};
+use hs_collect::Collector;
 use hs_journal::{AgentBook, ClientBook, Draw, Journal, Step};
 use hs_law_journal::laws::{following_plays_out, runs_are_of_the_journal};
 use hs_law_outcome::laws::{books_fit, journals_have_the_shape, reported_pages_can_be_collected};
-use hs_ledger::make_ledger;
+use hs_ledger::{Ledger, make_ledger};
 use std::alloc::Global;
 
 /// The draws of all clients, by client.
@@ -52,24 +56,57 @@ fn journal(alloc: Global, books: Books) -> Result<Journal, Memory>
     })
 }
 
+/// What books come to, apart from their journal.
+#[derive(Drop)]
+struct Found {
+    ledger: Ledger,
+    claimed: List<TraceId>,
+    collector: Collector,
+}
+
+/// What the books come to, apart from their journal. The one error is want of memory.
+fn found_in(alloc: Global, books: &Books) -> Result<Found, Memory>
+    requires { (W : PlainWorkload) × (J : PlainJournal) × AreBooksOf W J books.now }
+    ensures entries { IfOk result (λ found. (W : PlainWorkload) (J : PlainJournal) → AreBooksOf W J books.now
+        → found.ledger.entries.items ≡ (outcome_of W J).entries) }
+    ensures totals { IfOk result (λ found. (W : PlainWorkload) (J : PlainJournal) → AreBooksOf W J books.now
+        → found.ledger.totals ≡ totals_of (outcome_of W J).entries) }
+    ensures claimed { IfOk result (λ found. (W : PlainWorkload) (J : PlainJournal) → AreBooksOf W J books.now
+        → found.claimed.items ≡ (outcome_of W J).claimed) }
+    ensures collected { IfOk result (λ found. (W : PlainWorkload) (J : PlainJournal) → AreBooksOf W J books.now
+        → AreCollected (outcome_of W J).reported found.collector) }
+{
+    records_are_few();
+    reported_pages_are_pages();
+    books_fit();
+    reported_pages_can_be_collected();
+    let ledger = make_ledger(alloc, &books.clients, &books.agents)?;
+    let claimed = claimed_traces(alloc, books.agents.as_slice())?;
+    let collector = collected(alloc, books.agents.as_slice())?;
+    Ok(Found {
+        ledger,
+        claimed,
+        collector,
+    })
+}
+
 /// The outcome of a run whose books are those of a valid workload and a lawful journal of it
 /// (`docs/RULES.md`, "The ledger" and "Reports"). The one error is want of memory.
 pub fn gather(alloc: Global, books: Books) -> Result<Outcome, Memory>
     requires { (W : PlainWorkload) × (J : PlainJournal) × AreBooksOf W J books }
     ensures { IfOk result (λ outcome. (W : PlainWorkload) (J : PlainJournal) → AreBooksOf W J books → IsOutcome W J outcome) }
 {
-    records_are_few();
-    reported_pages_are_pages();
-    books_fit();
-    reported_pages_can_be_collected();
     following_plays_out();
     runs_are_of_the_journal();
     journals_have_the_shape();
     let version = books.version;
-    let ledger = make_ledger(alloc, &books.clients, &books.agents)?;
-    let claimed = claimed_traces(alloc, books.agents.as_slice())?;
-    let collector = collected(alloc, books.agents.as_slice())?;
+    let found = found_in(alloc, &books)?;
     let journal = journal(alloc, books)?;
+    let Found {
+        ledger,
+        claimed,
+        collector,
+    } = found;
     Ok(Outcome {
         version,
         journal,
