@@ -7,53 +7,57 @@ ghost use Rattle.hs_base.specs.declared.limits.TheConstants.{MAX_OPERATIONS};
 ghost use Rattle.hs_link.specs.Contents.{sent};
 
 use crate::link::Anything;
-use crate::ring::{DRAWS, Pace, Seen, turn_pool};
-use crate::spent::{Spent, bare, now, rest, since};
+use crate::pool::queue_of;
+use crate::ring::{DRAWS, turn_pool};
 use anyhow::{Context, Result};
 use crossbeam_queue::ArrayQueue;
-use hs_base::limits::MIN_SIZE;
+use hs_base::{List, Memory};
 use hs_link::{Receiver, Sender, link};
-use hs_words::{Chunk, Stock};
+use hs_words::Chunk;
 use std::alloc::Global;
 use std::rt::Clock;
 use std::sync::Wait;
 use std::sync::atomic::{AtomicU64, Ordering};
 use std::thread;
-use std::thread::{Threads, join};
+use std::thread::Threads;
+use tests_with::{Seen, Spent, bare, now, rest, since};
 
 type Chunks = Receiver<Chunk, Anything>;
-
-/// What takes the chunks of a thread to the one that gives.
-#[derive(Drop)]
-struct Job {
-    chunks: Sender<Chunk, Anything>,
-    ghost room: { (sent chunks ≡ []) × (chunks.room ≡ MAX_OPERATIONS / 4) },
-}
-
-/// The jobs of the four threads that pop.
-#[derive(Drop)]
-struct Jobs {
-    one: Job,
-    two: Job,
-    three: Job,
-    four: Job,
-}
 
 /// How many turns a thread rests behind a draw that got a chunk, of a few nanoseconds each.
 const RESTS: u32 = 64;
 
-/// The links on which chunks come back.
+/// What takes the chunks of a thread to the one that pushes.
 #[derive(Drop)]
-struct Work {
-    one: Chunks,
-    two: Chunks,
-    three: Chunks,
-    four: Chunks,
+struct Pops {
+    chunks: Sender<Chunk, Anything>,
+    ghost room: { (sent chunks ≡ []) × (chunks.room ≡ MAX_OPERATIONS / 4) },
 }
 
-/// Pops as often as a drawer of the ring draws, and sends what came. Answers how long the pops took that got a chunk.
-fn pop_all<R: Wait + Clock>(rt: &R, queue: &ArrayQueue<Chunk>, job: Job, pace: &Pace) -> Spent {
-    let Job { mut chunks } = job;
+/// What one of the threads does: it pops, or pushes what comes on these links.
+#[derive(Drop)]
+enum Job {
+    Pop(Pops),
+    Push(List<Chunks>),
+}
+
+/// What calls took: the pops that got a chunk, and the pushes.
+#[derive(Clone, Copy, Default, Drop)]
+struct Calls {
+    pops: Spent,
+    pushes: Spent,
+}
+
+impl Calls {
+    fn add_all(&mut self, other: Calls) {
+        self.pops.add_all(other.pops);
+        self.pushes.add_all(other.pushes);
+    }
+}
+
+/// Pops as often as a drawer of the ring draws, and sends what came.
+fn pop_all<R: Wait + Clock>(rt: &R, queue: &ArrayQueue<Chunk>, job: Pops) -> Spent {
+    let Pops { mut chunks } = job;
     let mut spent = Spent::default();
     for _draw in 0..DRAWS {
         let start = now(rt);
@@ -62,12 +66,11 @@ fn pop_all<R: Wait + Clock>(rt: &R, queue: &ArrayQueue<Chunk>, job: Job, pace: &
                 spent.add(since(rt, start));
                 chunk.clear();
                 chunks.send(chunk);
-                rest(pace.rests);
+                rest(RESTS);
             }
             None => thread::yield_now(),
         }
     }
-    pace.over.fetch_add(1, Ordering::SeqCst);
     spent
 }
 
@@ -88,21 +91,19 @@ fn serve<R: Wait + Clock>(
     }
 }
 
-/// Pushes back what comes, until all four threads are done. Answers how long the pushes took.
-fn push_all<R: Wait + Clock>(rt: &R, queue: &ArrayQueue<Chunk>, work: Work, pace: &Pace) -> Spent {
-    let Work {
-        mut one,
-        mut two,
-        mut three,
-        mut four,
-    } = work;
+/// Pushes back what comes, until all four threads are done.
+fn push_all<R: Wait + Clock>(
+    rt: &R,
+    queue: &ArrayQueue<Chunk>,
+    mut links: List<Chunks>,
+    over: &AtomicU64,
+) -> Spent {
     let mut spent = Spent::default();
     for _ in rt.forever() {
-        let last = pace.over.load(Ordering::SeqCst) >= 4;
-        serve(rt, queue, &mut one, &mut spent);
-        serve(rt, queue, &mut two, &mut spent);
-        serve(rt, queue, &mut three, &mut spent);
-        serve(rt, queue, &mut four, &mut spent);
+        let last = over.load(Ordering::SeqCst) >= 4;
+        for chunks in links.as_mut_slice().iter_mut() {
+            serve(rt, queue, chunks, &mut spent);
+        }
         if last {
             return spent;
         }
@@ -110,130 +111,52 @@ fn push_all<R: Wait + Clock>(rt: &R, queue: &ArrayQueue<Chunk>, work: Work, pace
     unreachable!()
 }
 
-/// Two threads that pop.
-fn pop_two<R: Threads + Clock + Wait + Sync>(
-    rt: &R,
-    queue: &ArrayQueue<Chunk>,
-    one: Job,
-    two: Job,
-    pace: &Pace,
-) -> Spent {
-    let (mut first, second) = join(
-        rt,
-        move || -> Spent
-            requires { IsSync R.row }
-        { pop_all(rt, queue, one, pace) },
-        move || -> Spent
-            requires { IsSync R.row }
-        { pop_all(rt, queue, two, pace) },
-    );
-    first.add_all(second);
-    first
-}
-
-/// Four threads that pop.
-fn pop_four<R: Threads + Clock + Wait + Sync>(
-    rt: &R,
-    queue: &ArrayQueue<Chunk>,
-    jobs: Jobs,
-    pace: &Pace,
-) -> Spent {
-    let Jobs {
-        one,
-        two,
-        three,
-        four,
-    } = jobs;
-    let (mut front, back) = join(
-        rt,
-        move || -> Spent
-            requires { IsSync R.row }
-        { pop_two(rt, queue, one, two, pace) },
-        move || -> Spent
-            requires { IsSync R.row }
-        { pop_two(rt, queue, three, four, pace) },
-    );
-    front.add_all(back);
-    front
-}
-
-/// A link for the chunks of a thread.
-fn job_of(alloc: Global) -> Result<(Job, Chunks)> {
-    let (chunks, receiver) = link::<Chunk, Anything>(alloc, 8, DRAWS, &Anything)
-        .ok()
-        .context("memory")?;
-    Ok((Job { chunks }, receiver))
-}
-
-/// The links of all four threads.
-fn jobs_of(alloc: Global) -> Result<(Jobs, Work)> {
-    let (job1, chunks1) = job_of(alloc)?;
-    let (job2, chunks2) = job_of(alloc)?;
-    let (job3, chunks3) = job_of(alloc)?;
-    let (job4, chunks4) = job_of(alloc)?;
-    let jobs = Jobs {
-        one: job1,
-        two: job2,
-        three: job3,
-        four: job4,
-    };
-    let work = Work {
-        one: chunks1,
-        two: chunks2,
-        three: chunks3,
-        four: chunks4,
-    };
-    Ok((jobs, work))
-}
-
-/// A queue with eight chunks of 64 bytes.
-fn queue_of<R: Wait>(rt: &R, alloc: Global) -> Result<ArrayQueue<Chunk>> {
-    let queue = ArrayQueue::new(alloc, 8)?;
-    for chunk in Stock::make(alloc, 8, MIN_SIZE)
-        .ok()
-        .context("memory")?
-        .into_vec()
-    {
-        queue.push(rt, chunk).ok().context("room")?;
+/// Does what one of the threads does. One that pops says when it is done.
+fn work<R: Wait + Clock>(rt: &R, queue: &ArrayQueue<Chunk>, job: Job, over: &AtomicU64) -> Calls {
+    let mut calls = Calls::default();
+    match job {
+        Job::Pop(pops) => {
+            calls.pops = pop_all(rt, queue, pops);
+            over.fetch_add(1, Ordering::SeqCst);
+        }
+        Job::Push(links) => calls.pushes = push_all(rt, queue, links, over),
     }
-    Ok(queue)
+    calls
 }
 
-/// The five threads, until those that pop are done. Answers how long the pushes took, and the pops that got a chunk.
-fn pop_and_push<R: Threads + Clock + Wait + Sync>(
-    rt: &R,
-    queue: &ArrayQueue<Chunk>,
-    jobs: Jobs,
-    work: Work,
-    pace: &Pace,
-) -> (Spent, Spent) {
-    join(
-        rt,
-        move || -> Spent
-            requires { IsSync R.row }
-        { push_all(rt, queue, work, pace) },
-        move || -> Spent
-            requires { IsSync R.row }
-        { pop_four(rt, queue, jobs, pace) },
-    )
+/// The jobs of five threads.
+fn five_jobs(alloc: Global) -> Result<Vec<Job>, Memory> {
+    let mut jobs = List::new(alloc);
+    let mut links = List::new(alloc);
+    for _thread in 0..4u32 {
+        let (chunks, receiver) = link::<Chunk, Anything>(alloc, 8, DRAWS, &Anything)?;
+        jobs.append(Job::Pop(Pops { chunks }))?;
+        links.append(receiver)?;
+    }
+    jobs.append(Job::Push(links))?;
+    Ok(jobs.into_vec())
 }
 
-/// Times the calls of a queue with its five threads, and adds what they took: the pushes, and the pops that got a chunk.
+/// Times the calls of a queue with its five threads, and adds what they took.
 fn turn_queue<R: Threads + Clock + Wait + Sync>(
     rt: &R,
     alloc: Global,
-    pushes: &mut Spent,
-    pops: &mut Spent,
+    calls: &mut Calls,
 ) -> Result<()> {
-    let pace = Pace {
-        over: AtomicU64::new(0),
-        rests: RESTS,
-    };
+    let over = AtomicU64::new(0);
     let queue = queue_of(rt, alloc)?;
-    let (jobs, work) = jobs_of(alloc)?;
-    let (pushed, popped) = pop_and_push(rt, &queue, jobs, work, &pace);
-    pushes.add_all(pushed);
-    pops.add_all(popped);
+    let jobs = five_jobs(alloc).ok().context("memory")?;
+    let (told, shared) = (&over, &queue);
+    let parts = thread::map_vec(
+        rt,
+        jobs,
+        &|job: Job| -> Calls
+            requires { IsSync R.row }
+        { work(rt, shared, job, told) },
+    )?;
+    for part in parts {
+        calls.add_all(part);
+    }
     Ok(())
 }
 
@@ -249,28 +172,32 @@ fn report<R: Print>(rt: &R, name: &str, spent: Spent) -> Result<()> {
     Ok(())
 }
 
+/// Prints what was seen of so many pools and queues.
+fn report_all<R: Print + Clock>(rt: &R, pools: u32, seen: &Seen, calls: Calls) -> Result<()> {
+    report(rt, "the clock, read twice", bare(rt, DRAWS))?;
+    report(rt, "a draw that got a chunk", seen.drawn)?;
+    report(rt, "a give that put one back", seen.given)?;
+    report(rt, "a pop that got a chunk", calls.pops)?;
+    report(rt, "a push", calls.pushes)?;
+    println!(rt;
+        "of {} draws of the ring {} got a chunk, and {} gives missed",
+        u64::from(pools) * 4 * u64::from(DRAWS),
+        seen.drawn.count(),
+        seen.misses
+    )?;
+    Ok(())
+}
+
 /// Times so many pools and queues, in turn.
 pub(crate) fn run<R: Print + Clock + AllocGlobal + Threads + Wait + Sync>(
     rt: &R,
     pools: u32,
 ) -> Result<()> {
-    let mut seen = Seen::default();
-    let mut pushes = Spent::default();
-    let mut pops = Spent::default();
+    let mut seen = Seen::nothing(rt.alloc());
+    let mut calls = Calls::default();
     for _pool in 0..pools {
         turn_pool(rt, rt.alloc(), RESTS, &mut seen)?;
-        turn_queue(rt, rt.alloc(), &mut pushes, &mut pops)?;
+        turn_queue(rt, rt.alloc(), &mut calls)?;
     }
-    report(rt, "the clock, read twice", bare(rt, DRAWS))?;
-    report(rt, "a draw that got a chunk", seen.drawn)?;
-    report(rt, "a give that put one back", seen.given)?;
-    report(rt, "a pop that got a chunk", pops)?;
-    report(rt, "a push", pushes)?;
-    println!(rt;
-        "of {} draws of the ring {} got a chunk, and {} gives missed",
-        u64::from(pools) * 4 * u64::from(DRAWS),
-        seen.gots,
-        seen.misses
-    )?;
-    Ok(())
+    report_all(rt, pools, &seen, calls)
 }

@@ -1,16 +1,14 @@
 //! A draw and a give behind it in one thread, eight chunks in the pool: through the plain pool, a ring, a locked pool and the
 //! kit's `ArrayQueue`.
 
-ghost use Rattle.std.specs.Prelude.{◌≡◌, ◌≤◌, [], length, sum, IfOk};
+ghost use Rattle.std.specs.Prelude.{◌≡◌, ◌≤◌, [], IfOk};
 ghost use Rattle.hs_pool.specs.Pool.{IsAfter};
-ghost use Rattle.hs_ring.specs.Parts.{AreNewEnds};
 
-use crate::ring::pool_of;
 use anyhow::{Context, Result};
 use crossbeam_queue::ArrayQueue;
-use hs_base::limits::{MAX_BUFFERS, MAX_OPERATIONS, MIN_SIZE};
-use hs_base::{List, Memory};
-use hs_locked::{LockedDrawer, LockedGiver, LockedPool};
+use hs_base::Memory;
+use hs_base::limits::{MAX_BUFFERS, MIN_SIZE};
+use hs_locked::{LockedDrawer, LockedGiver};
 use hs_pool::PlainPool;
 use hs_ring::{Drawer, Giver};
 use hs_words::{Chunk, Drawn, Given, Stock};
@@ -18,6 +16,7 @@ use std::alloc::Global;
 use std::rt::Clock;
 use std::sync::Wait;
 use std::time::Instant;
+use tests_with::{locked_of, ring_of};
 
 /// How many chunks a pool has.
 const CHUNKS: u32 = 8;
@@ -32,20 +31,6 @@ fn plain_of(alloc: Global, chunks: u32) -> Result<PlainPool, Memory>
 {
     let chunks = Stock::make(alloc, chunks, MIN_SIZE)?;
     PlainPool::make(alloc, chunks)
-}
-
-/// A locked pool of so many chunks of 64 bytes.
-pub(crate) fn locked_of(
-    alloc: Global,
-    chunks: u32,
-    allowances: &[u32],
-) -> Result<(LockedGiver, List<LockedDrawer>), Memory>
-    requires chunks { (1 ≤ chunks) × (chunks ≤ MAX_BUFFERS) }
-    requires allowances { (1 ≤ length allowances.now) × (sum allowances.now ≤ MAX_OPERATIONS) }
-    ensures { IfOk result (λ ends. AreNewEnds chunks MIN_SIZE allowances.now ends.0 ends.1.items) }
-{
-    let chunks = Stock::make(alloc, chunks, MIN_SIZE)?;
-    LockedPool::make(alloc, chunks, allowances)
 }
 
 /// Draws and gives so often. Answers how often a chunk came and went.
@@ -143,7 +128,7 @@ fn time_ring<R: Print + Clock>(rt: &R, alloc: Global, pools: u32) -> Result<()> 
     let mut nanos = 0u128;
     let mut done = 0u64;
     for _pool in 0..pools {
-        let (mut giver, mut drawers) = pool_of(alloc, CHUNKS, &[DRAWS]).ok().context("memory")?;
+        let (mut giver, mut drawers) = ring_of(alloc, CHUNKS, &[DRAWS]).ok().context("memory")?;
         let Some(mut drawer) = drawers.pop() else {
             unreachable!()
         };
@@ -169,15 +154,18 @@ fn time_locked<R: Print + Clock + Wait>(rt: &R, alloc: Global, pools: u32) -> Re
     report(rt, "locked pool", nanos, done)
 }
 
-fn time_queue<R: Print + Clock + Wait>(rt: &R, alloc: Global, pools: u32) -> Result<()> {
+/// A queue with eight chunks of 64 bytes.
+pub(crate) fn queue_of<R: Wait>(rt: &R, alloc: Global) -> Result<ArrayQueue<Chunk>> {
     let queue = ArrayQueue::new(alloc, CHUNKS as usize)?;
-    for chunk in Stock::make(alloc, CHUNKS, MIN_SIZE)
-        .ok()
-        .context("memory")?
-        .into_vec()
-    {
+    let chunks = Stock::make(alloc, CHUNKS, MIN_SIZE).ok().context("memory")?;
+    for chunk in chunks.into_vec() {
         queue.push(rt, chunk).ok().context("room")?;
     }
+    Ok(queue)
+}
+
+fn time_queue<R: Print + Clock + Wait>(rt: &R, alloc: Global, pools: u32) -> Result<()> {
+    let queue = queue_of(rt, alloc)?;
     let mut nanos = 0u128;
     let mut done = 0u64;
     for _pool in 0..pools {

@@ -4,10 +4,9 @@ ghost use Rattle.hs_base.specs.Rules.{IsAutoRule};
 
 use hs_auto::{Auto, Sampled};
 use hs_base::limits::{MAX_LATERALS, MAX_WINDOW, WHOLE_SHARE};
-use hs_base::{AutoRule, Laterals, TraceId, TriggerId};
+use hs_base::{AutoRule, Laterals, Memory, TraceId, TriggerId};
 use std::alloc::Global;
-use std::process::Abort;
-use std::test::Fail;
+use tests_with::row;
 
 const TRIGGER: TriggerId = TriggerId(1);
 
@@ -95,32 +94,27 @@ fn are(laterals: &Laterals, wanted: &[u128]) -> bool {
     laterals.len() == place
 }
 
-/// Gives the samples in order.
-fn gives(rt: &impl Abort, alloc: Global, rule: AutoRule, rows: &[Row]) -> Result<(), Fail>
+/// Whether a sample came out as its row says.
+fn is_wanted(sampled: &Sampled, wanted: Option<&[u128]>) -> bool {
+    match sampled {
+        Sampled::Quiet => wanted.is_none(),
+        Sampled::Fired { laterals } => match wanted {
+            Some(wanted) => are(laterals, wanted),
+            None => false,
+        },
+    }
+}
+
+/// Gives the samples in order. Answers whether each comes out as its row says.
+fn gives(alloc: Global, rule: AutoRule, rows: &[Row]) -> Result<bool, Memory>
     requires { IsAutoRule rule }
 {
     let mut auto = Auto::make(alloc, rule)?;
+    let mut right = true;
     for (value, trace, wanted) in rows {
-        let is_wanted = match auto.sample(*value, TraceId(*trace)) {
-            Sampled::Quiet => wanted.is_none(),
-            Sampled::Fired { laterals } => match wanted {
-                Some(wanted) => are(&laterals, wanted),
-                None => false,
-            },
-        };
-        assert!(rt; is_wanted, "{value} of {trace}");
+        right &= is_wanted(&auto.sample(*value, TraceId(*trace)), *wanted);
     }
-    Ok(())
-}
-
-#[test]
-fn each_kind_fires_by_its_rule(rt: HostRuntime) -> Result<(), Fail> {
-    gives(&rt, rt.alloc(), EXCEPTION, &EXCEPTION_ROWS)?;
-    gives(&rt, rt.alloc(), PERCENTILE, &PERCENTILE_ROWS)?;
-    gives(&rt, rt.alloc(), CATEGORY, &CATEGORY_ROWS)?;
-    gives(&rt, rt.alloc(), QUEUE, &QUEUE_ROWS)?;
-    gives(&rt, rt.alloc(), RANKED, &RANKED_ROWS)?;
-    Ok(())
+    Ok(right)
 }
 
 const WIDE_PERCENTILE: AutoRule = AutoRule::Percentile {
@@ -142,34 +136,51 @@ const WIDE_QUEUE: AutoRule = AutoRule::Queue {
     laterals: MAX_LATERALS as u32,
 };
 
-/// Gives 1,024 samples of 5 that fire nothing, and then one of 6. Answers with how many laterals it fires.
-fn fires_behind_a_full_window(alloc: Global, rule: AutoRule) -> Option<u32>
+/// Gives 1,024 samples of 5. Answers whether none fires.
+fn fills(auto: &mut Auto) -> bool {
+    let mut quiet = true;
+    for trace in 0..MAX_WINDOW {
+        quiet &= auto.sample(5, TraceId(u128::from(trace))) == Sampled::Quiet;
+    }
+    quiet
+}
+
+/// Behind as many samples of 5 as a window may have one of 6 fires with so many laterals.
+fn fires_behind(alloc: Global, rule: AutoRule, count: u32) -> Result<bool, Memory>
     requires { IsAutoRule rule }
 {
-    let mut auto = Auto::make(alloc, rule).ok()?;
-    for trace in 0..MAX_WINDOW {
-        if auto.sample(5, TraceId(u128::from(trace))) != Sampled::Quiet {
-            return None;
-        }
-    }
+    let mut auto = Auto::make(alloc, rule)?;
+    let quiet = fills(&mut auto);
     match auto.sample(6, TraceId(u128::from(MAX_WINDOW))) {
-        Sampled::Fired { laterals } => Some(laterals.len()),
-        Sampled::Quiet => None,
+        Sampled::Fired { laterals } => Ok(quiet && laterals.len() == count),
+        Sampled::Quiet => Ok(false),
     }
 }
 
 #[test]
+fn each_kind_fires_by_its_rule(rt: HostRuntime) {
+    row(
+        &rt,
+        "exception",
+        gives(rt.alloc(), EXCEPTION, &EXCEPTION_ROWS),
+    );
+    row(
+        &rt,
+        "percentile",
+        gives(rt.alloc(), PERCENTILE, &PERCENTILE_ROWS),
+    );
+    row(&rt, "category", gives(rt.alloc(), CATEGORY, &CATEGORY_ROWS));
+    row(&rt, "queue", gives(rt.alloc(), QUEUE, &QUEUE_ROWS));
+    row(&rt, "ranked", gives(rt.alloc(), RANKED, &RANKED_ROWS));
+}
+
+#[test]
 fn the_widest_windows_fire(rt: HostRuntime) {
-    assert_eq!(rt;
-        fires_behind_a_full_window(rt.alloc(), WIDE_PERCENTILE),
-        Some(0)
+    row(
+        &rt,
+        "percentile",
+        fires_behind(rt.alloc(), WIDE_PERCENTILE, 0),
     );
-    assert_eq!(rt;
-        fires_behind_a_full_window(rt.alloc(), WIDE_CATEGORY),
-        Some(0)
-    );
-    assert_eq!(rt;
-        fires_behind_a_full_window(rt.alloc(), WIDE_QUEUE),
-        Some(32)
-    );
+    row(&rt, "category", fires_behind(rt.alloc(), WIDE_CATEGORY, 0));
+    row(&rt, "queue", fires_behind(rt.alloc(), WIDE_QUEUE, 32));
 }

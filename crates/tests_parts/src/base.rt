@@ -1,12 +1,12 @@
-//! The calls of the ground.
+//! The ground: ranks, and lists and streams in memory of great sizes and of none. How nodes, laterals and lists are read and changed is
+//! proved, and each outcome in `examples/` and `cases/` rests on it.
+
+ghost use Rattle.std.specs.Prelude.{◌≤◌, length};
 
 use hs_base::limits::MAX_INPUT;
-use hs_base::{
-    Failed, Laterals, List, Memory, MemorySink, MemorySource, NodeId, NodeSet, Sink, Source,
-    TraceId, rank_of,
-};
+use hs_base::{Failed, List, Memory, MemorySink, MemorySource, Sink, Source, TraceId, rank_of};
 use std::alloc::Global;
-use std::test::Fail;
+use tests_with::row;
 
 /// Traces and the first words of SplitMix64 from their seeds. The last id is wide: its halves' exclusive-or is
 /// the second one's.
@@ -21,87 +21,13 @@ const RANKS: [(u128, u64); 5] = [
     ),
 ];
 
-#[test]
-fn ranks(rt: HostRuntime) {
+/// Whether each trace has its word.
+fn ranks() -> bool {
+    let mut right = true;
     for (trace, word) in RANKS {
-        let rank = rank_of(TraceId(trace));
-        assert_eq!(rt; rank.word, word);
-        assert_eq!(rt; rank.trace, trace);
+        right &= rank_of(TraceId(trace)).word == word;
     }
-}
-
-/// A list of 1, 2, 3 and 4.
-fn four(alloc: Global) -> Result<List<u8>, Memory> {
-    let mut list = List::with_room(alloc, 2)?;
-    list.push(1u8);
-    list.push(2);
-    list.append(3)?;
-    list.reserve(1)?;
-    list.push(4);
-    Ok(list)
-}
-
-#[test]
-fn lists_are_read(rt: HostRuntime) -> Result<(), Fail> {
-    let list = four(rt.alloc())?;
-    assert_eq!(rt; list.len(), 4);
-    assert_eq!(rt; list.get(2).copied(), Some(3));
-    assert_eq!(rt; list.get(4).copied(), None);
-    assert!(rt; !list.is_empty());
-    Ok(())
-}
-
-#[test]
-fn lists_are_changed(rt: HostRuntime) -> Result<(), Fail> {
-    let mut list = four(rt.alloc())?;
-    for item in list.as_mut_slice().iter_mut() {
-        *item = item.wrapping_add(10);
-    }
-    assert_eq!(rt; list.pop(), Some(14));
-    let list = List::from_vec(list.into_vec());
-    assert_eq!(rt; list.as_slice(), [11, 12, 13].as_slice());
-    Ok(())
-}
-
-#[test]
-fn lists_are_emptied(rt: HostRuntime) -> Result<(), Fail> {
-    let mut list = four(rt.alloc())?;
-    for want in [Some(4), Some(3), Some(2), Some(1), None] {
-        assert_eq!(rt; list.pop(), want);
-    }
-    assert!(rt; list.is_empty());
-    assert!(rt; List::<u8>::new(rt.alloc()).is_empty());
-    Ok(())
-}
-
-#[test]
-fn laterals(rt: HostRuntime) {
-    let mut laterals = Laterals::none();
-    assert!(rt; laterals.is_empty());
-    laterals.push(TraceId(7));
-    laterals.push(TraceId(7));
-    assert_eq!(rt; laterals.len(), 2);
-    assert_eq!(rt; laterals.get(1), Some(TraceId(7)));
-    assert_eq!(rt; laterals.get(2), None);
-}
-
-#[test]
-fn sets_of_nodes(rt: HostRuntime) {
-    let two = NodeSet::only(NodeId(0)).with(NodeId(2));
-    assert_eq!(rt; two, NodeSet(5));
-    assert!(rt; two.contains(NodeId(2)) && !two.contains(NodeId(1)));
-    assert_eq!(rt; two.union(NodeSet(2)), NodeSet(7));
-    assert_eq!(rt; two.without(NodeSet(1)), NodeSet(4));
-    assert!(rt; NodeSet::none().is_empty());
-}
-
-#[test]
-fn nodes_are_taken_in_their_order(rt: HostRuntime) {
-    let mut rest = NodeSet(5);
-    for node in [Some(NodeId(0)), Some(NodeId(2)), None] {
-        assert_eq!(rt; rest.first(), node);
-        assert_eq!(rt; rest.take_first(), node);
-    }
+    right
 }
 
 /// How many items a long list has here.
@@ -115,36 +41,37 @@ fn append_all(list: &mut List<u64>) -> Result<(), Memory> {
     Ok(())
 }
 
-#[test]
-fn items_are_appended_one_by_one(rt: HostRuntime) -> Result<(), Fail> {
-    let mut list = List::new(rt.alloc());
+/// One by one, from no room on.
+fn items_are_appended(alloc: Global) -> Result<bool, Memory> {
+    let mut list = List::new(alloc);
     append_all(&mut list)?;
-    assert_eq!(rt; list.get(999_999).copied(), Some(999_999));
-    let mut list = List::with_room(rt.alloc(), LONG as usize)?;
-    append_all(&mut list)?;
-    assert_eq!(rt; list.len(), 1_000_000);
-    Ok(())
+    Ok(list.len() == LONG as usize && list.get(999_999).copied() == Some(999_999))
 }
 
-#[test]
-fn slices_are_appended(rt: HostRuntime) -> Result<(), Fail> {
-    let more = vec![in rt.alloc(); 7u64; LONG as usize]?;
-    let mut list = List::new(rt.alloc());
+/// Nothing, these items, and these once more where room was kept for them.
+fn append_slices(list: &mut List<u64>, more: &[u64]) -> Result<(), Memory>
+    requires { length more.now ≤ LONG }
+{
     list.append_slice(&[])?;
-    list.append_slice(&more)?;
+    list.append_slice(more)?;
     list.reserve(LONG as usize)?;
-    list.push_slice(&more);
-    assert_eq!(rt; list.len(), 2_000_000);
+    list.push_slice(more);
     Ok(())
 }
 
-#[test]
-fn nothing_is_appended(rt: HostRuntime) -> Result<(), Fail> {
-    let mut empty = List::<u64>::with_room(rt.alloc(), 0)?;
+fn slices_are_appended(alloc: Global) -> Result<bool, Memory> {
+    let more = vec![in alloc; 7u64; LONG as usize]?;
+    let mut list = List::new(alloc);
+    append_slices(&mut list, &more)?;
+    Ok(list.len() == 2_000_000)
+}
+
+/// A list of no room takes nothing, and has nothing.
+fn nothing_is_appended(alloc: Global) -> Result<bool, Memory> {
+    let mut empty = List::<u64>::with_room(alloc, 0)?;
     empty.reserve(0)?;
     empty.push_slice(&[]);
-    assert_eq!(rt; empty.pop(), None);
-    Ok(())
+    Ok(empty.is_empty() && empty.pop().is_none())
 }
 
 /// Reads the source to its end, and says how many bytes came.
@@ -161,32 +88,39 @@ fn count_read(source: &mut MemorySource) -> Result<usize, Failed> {
     Ok(count)
 }
 
-/// Sources of 16 MiB, and of nothing.
-#[test]
-fn sources_in_memory(rt: HostRuntime) -> Result<(), Fail> {
-    let bytes = vec![in rt.alloc(); 7; MAX_INPUT]?;
-    let mut source = MemorySource::new(rt.alloc(), &bytes, 1 << 20, &[])?;
-    assert!(rt; count_read(&mut source) == Ok(MAX_INPUT));
-    let mut source = MemorySource::new(rt.alloc(), &[], 1, &[])?;
-    assert!(rt; count_read(&mut source) == Ok(0));
-    Ok(())
+/// A source of so many bytes is read whole.
+fn is_read(alloc: Global, len: usize) -> Result<bool, Memory> {
+    let bytes = vec![in alloc; 7; len]?;
+    let mut source = MemorySource::new(alloc, &bytes, 1 << 20, &[])?;
+    Ok(count_read(&mut source) == Ok(len))
 }
 
-/// A sink of 16 MiB, which takes no byte more.
-#[test]
-fn a_sink_in_memory(rt: HostRuntime) -> Result<(), Fail> {
-    let bytes = vec![in rt.alloc(); 7; MAX_INPUT]?;
-    let mut sink = MemorySink::new(rt.alloc(), MAX_INPUT, MAX_INPUT, &[])?;
-    assert!(rt; sink.write(&bytes) == Ok(MAX_INPUT));
-    assert!(rt; sink.write(&[7]) == Err(Failed));
-    assert_eq!(rt; sink.bytes(), bytes.as_slice());
-    Ok(())
+/// A sink of 16 MiB takes as many bytes, and no byte more.
+fn the_most_is_written(alloc: Global) -> Result<bool, Memory> {
+    let bytes = vec![in alloc; 7; MAX_INPUT]?;
+    let mut sink = MemorySink::new(alloc, MAX_INPUT, MAX_INPUT, &[])?;
+    let is_full = sink.write(&bytes) == Ok(MAX_INPUT) && sink.write(&[7]) == Err(Failed);
+    Ok(is_full && sink.bytes() == bytes.as_slice())
+}
+
+/// A sink without room takes no byte.
+fn nothing_is_written(alloc: Global) -> Result<bool, Memory> {
+    let mut sink = MemorySink::new(alloc, 0, 1, &[])?;
+    Ok(sink.write(&[7]) == Err(Failed) && sink.bytes().is_empty())
 }
 
 #[test]
-fn a_sink_without_room(rt: HostRuntime) -> Result<(), Fail> {
-    let mut sink = MemorySink::new(rt.alloc(), 0, 1, &[])?;
-    assert!(rt; sink.write(&[7]) == Err(Failed));
-    assert!(rt; sink.bytes().is_empty());
-    Ok(())
+fn ranks_and_lists(rt: HostRuntime) {
+    row(&rt, "ranks", Ok(ranks()));
+    row(&rt, "items are appended", items_are_appended(rt.alloc()));
+    row(&rt, "slices are appended", slices_are_appended(rt.alloc()));
+    row(&rt, "nothing is appended", nothing_is_appended(rt.alloc()));
+}
+
+#[test]
+fn streams_in_memory(rt: HostRuntime) {
+    row(&rt, "16 MiB are read", is_read(rt.alloc(), MAX_INPUT));
+    row(&rt, "nothing is read", is_read(rt.alloc(), 0));
+    row(&rt, "16 MiB are written", the_most_is_written(rt.alloc()));
+    row(&rt, "nothing is written", nothing_is_written(rt.alloc()));
 }

@@ -2,6 +2,7 @@
 
 use hs_base::limits::{MAX_PAYLOAD, MAX_SIZE, MIN_SIZE};
 use hs_records::{piece_count, piece_limit};
+use tests_with::row;
 
 /// The size of a page, the bytes of a payload, and its pieces.
 const COUNTS: [(u32, usize, usize); 8] = [
@@ -15,16 +16,18 @@ const COUNTS: [(u32, usize, usize); 8] = [
     (MAX_SIZE, MAX_PAYLOAD, 3),
 ];
 
-#[test]
-fn pieces_are_counted(rt: HostRuntime) {
-    assert_eq!(rt; piece_limit(MIN_SIZE), 30);
-    assert_eq!(rt; piece_limit(MAX_SIZE), 32_734);
+/// Whether payloads have as many pieces as the table says.
+fn pieces_are_counted() -> bool {
+    let mut right = true;
     for (size, bytes, count) in COUNTS {
-        assert!(rt; MIN_SIZE <= size);
-        assert_eq!(rt;
-            piece_count(size, bytes),
-            count,
-            "{bytes} bytes on pages of {size}"
-        );
+        right &= MIN_SIZE <= size && piece_count(size, bytes) == count;
     }
+    right
+}
+
+#[test]
+fn pieces(rt: HostRuntime) {
+    let limits = piece_limit(MIN_SIZE) == 30 && piece_limit(MAX_SIZE) == 32_734;
+    row(&rt, "the longest pieces", Ok(limits));
+    row(&rt, "pieces are counted", Ok(pieces_are_counted()));
 }

@@ -6,11 +6,9 @@ ghost use Rattle.hs_sched.specs.Turns.{IsSchedule, share_of, shares_of};
 
 use hs_base::limits::{MAX_SIZE, MAX_TRIGGER, MIN_SIZE};
 use hs_base::{List, Memory, TriggerId, TriggerRule};
-use hs_sched::{Queues, Scheduler, visits_are_fair};
-use std::alloc::{AllocError, Global};
-use std::collections::VecDeque;
-use std::test::Fail;
-use tests_with::{Shelf, greatest_rules, turn_shelf};
+use hs_sched::{Queues, Scheduler};
+use std::alloc::Global;
+use tests_with::{greatest_rules, row};
 
 const COST: u32 = 44;
 
@@ -80,62 +78,36 @@ fn two_shares(alloc: Global) -> Result<Scheduler, Memory>
 /// What waits for the ids 1 and 2, and their deficits, after each turn.
 const TURNS: [(u32, u32, u64, u64); 3] = [(4, 2, 40, 20), (1, 1, 36, 40), (0, 0, 0, 0)];
 
-#[test]
-fn turns_share_by_weight(rt: HostRuntime) -> Result<(), Fail> {
-    let mut scheduler = two_shares(rt.alloc())?;
+/// With pages of 64 bytes, weight 2 pays for two items of 44 and then for three, and weight 1 for one.
+fn turns_share_by_weight(alloc: Global) -> Result<bool, Memory> {
+    let mut scheduler = two_shares(alloc)?;
     let mut waiting = Waiting { one: 6, two: 3 };
+    let mut right = true;
     for turn in TURNS {
         scheduler.turn(&mut waiting);
         let first = scheduler.deficit(TriggerId(1));
         let second = scheduler.deficit(TriggerId(2));
-        assert_eq!(rt; (waiting.one, waiting.two, first, second), turn);
+        right &= (waiting.one, waiting.two, first, second) == turn;
     }
-    visits_are_fair();
-    Ok(())
+    Ok(right)
 }
 
-/// The costs that wait for the ids 1 and 2.
-const ONE: [u32; 3] = [44, 45, 46];
-
-const TWO: [u32; 2] = [50, 51];
-
-/// A queue of these items.
-fn queue_of(alloc: Global, items: &[u32]) -> Result<VecDeque<u32>, AllocError> {
-    let mut queue = VecDeque::new(alloc);
-    for item in items {
-        queue.push_back(*item)?;
-    }
-    Ok(queue)
-}
-
-/// With pages of 64 bytes, weight 2 pays for two items of the first id, and weight 1 for one of the second.
-#[test]
-fn a_turn_moves_the_first_items(rt: HostRuntime) -> Result<(), Fail> {
-    let mut scheduler = two_shares(rt.alloc())?;
-    let one = queue_of(rt.alloc(), &ONE)?;
-    let two = queue_of(rt.alloc(), &TWO)?;
-    assert!(rt; one.len() < 4 && two.len() < 4);
-    let sent = List::with_room(rt.alloc(), 8)?;
-    let mut shelf = Shelf { one, two, sent };
-    turn_shelf(&mut scheduler, &mut shelf);
-    assert_eq!(rt; shelf.sent.as_slice(), [44, 45, 50].as_slice());
-    assert_eq!(rt; (shelf.one.len(), shelf.two.len()), (1, 1));
-    Ok(())
-}
-
-/// How many rules there are where a scheduler of as many of the greatest is made.
-fn makes(alloc: Global, count: u8) -> Result<usize, Memory>
+/// A scheduler of so many of the greatest rules is made.
+fn is_made(alloc: Global, count: u8) -> Result<bool, Memory>
     requires { count ≤ MAX_TRIGGER }
 {
     let rules = greatest_rules(alloc, count)?;
     Scheduler::make(alloc, &rules, MAX_SIZE)?;
-    Ok(rules.len())
+    Ok(rules.len() == usize::from(count))
 }
 
-/// As many trigger ids as there may be, and none.
 #[test]
-fn most_rules_and_none(rt: HostRuntime) -> Result<(), Fail> {
-    assert_eq!(rt; makes(rt.alloc(), 0)?, 0);
-    assert_eq!(rt; makes(rt.alloc(), MAX_TRIGGER)?, usize::from(MAX_TRIGGER));
-    Ok(())
+fn schedulers(rt: HostRuntime) {
+    row(
+        &rt,
+        "turns share by weight",
+        turns_share_by_weight(rt.alloc()),
+    );
+    row(&rt, "no rule", is_made(rt.alloc(), 0));
+    row(&rt, "most rules", is_made(rt.alloc(), MAX_TRIGGER));
 }

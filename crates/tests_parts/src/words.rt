@@ -1,10 +1,12 @@
-ghost use Rattle.std.specs.Prelude.{◌≡◌, IsSome};
+//! The example of a page, bytes that are no page, and pages of the greatest size. Other pages are shown by `cases/pages` and `examples/`.
+
+ghost use Rattle.std.specs.Prelude.{IsSome};
 
 use hs_base::limits::{MAX_BUFFERS, MAX_SIZE, MIN_SIZE};
-use hs_base::{ClientId, TraceId};
-use hs_words::{Added, Chunk, Drawn, Header, Held, PageFault, Stock, Token, read_page};
+use hs_base::{ClientId, Memory, TraceId};
+use hs_words::{Added, Chunk, Header, PageFault, Stock, read_page};
 use std::alloc::Global;
-use std::test::Fail;
+use tests_with::row;
 
 /// Trace 1, node 0, client 0, page 0, first record 0; one piece at moment 5 with the payload aa.
 const EXAMPLE: [u8; 43] = [
@@ -26,92 +28,35 @@ fn example_header() -> Header {
     }
 }
 
-fn one_chunk(alloc: Global) -> Result<Chunk, Fail> {
-    let mut chunks = Stock::make(alloc, 1, MIN_SIZE).ok().ok_or("memory")?;
-    Ok(chunks.pop().ok_or("a chunk was made")?)
+fn one_chunk(alloc: Global) -> Result<Chunk, Memory> {
+    let mut chunks = Stock::make(alloc, 1, MIN_SIZE)?;
+    chunks.pop().ok_or(Memory)
 }
 
-/// Starts a clear chunk, and says whether it was clear.
-fn start(chunk: &mut Chunk, header: Header) -> bool {
-    let is_clear = chunk.header().is_none();
-    if is_clear {
-        chunk.start(header);
-    }
-    is_clear
-}
-
-/// Adds to a started chunk.
-fn add(chunk: &mut Chunk, moment: u64, payload: &[u8]) -> Option<Added> {
-    chunk.header()?;
-    Some(chunk.add(moment, payload))
-}
-
-/// Whether a chunk is started and has these bytes.
-fn has_bytes(chunk: &Chunk, want: &[u8]) -> bool {
-    chunk.header().is_some() && chunk.bytes() == want
-}
-
-#[test]
-fn stock_numbers_its_chunks(rt: HostRuntime) -> Result<(), Fail> {
-    let chunks = Stock::make(rt.alloc(), 3, MIN_SIZE).ok().ok_or("memory")?;
-    assert_eq!(rt; chunks.len(), 3);
-    for (number, chunk) in chunks.as_slice().iter().enumerate() {
-        assert_eq!(rt; chunk.number() as usize, number);
-    }
-    Ok(())
-}
-
-/// A chunk with the example's header and its piece.
-fn example_chunk(alloc: Global) -> Result<Chunk, Fail> {
-    let mut chunk = one_chunk(alloc)?;
-    start(&mut chunk, example_header());
-    add(&mut chunk, 5, &[0xaa]);
-    Ok(chunk)
-}
-
-#[test]
-fn a_page_is_started(rt: HostRuntime) -> Result<(), Fail> {
-    let mut chunk = one_chunk(rt.alloc())?;
-    assert!(rt; start(&mut chunk, example_header()));
-    assert!(rt; has_bytes(&chunk, &EMPTY));
-    assert_eq!(rt; add(&mut chunk, 5, &[0xaa]), Some(Added::Added));
-    Ok(())
-}
-
-#[test]
-fn example_page_is_written(rt: HostRuntime) -> Result<(), Fail> {
-    let mut chunk = example_chunk(rt.alloc())?;
-    assert!(rt; has_bytes(&chunk, &EXAMPLE));
-    assert_eq!(rt; chunk.used(), 35);
-    assert_eq!(rt; chunk.header(), Some(example_header()));
+/// Starts a page with the example's header, and adds the example's piece. Answers whether the page has the bytes of the empty one
+/// first, and then the example's.
+fn writes_example(mut chunk: Chunk) -> bool {
     chunk.clear();
-    assert_eq!(rt; chunk.header(), None);
-    Ok(())
+    chunk.start(example_header());
+    chunk.bytes() == EMPTY.as_slice()
+        && chunk.add(5, &[0xaa]) == Added::Added
+        && chunk.bytes() == EXAMPLE.as_slice()
+        && chunk.used() == 35
 }
 
-/// 20 bytes of payload are one too many for the room that is left.
-#[test]
-fn a_page_is_filled_to_its_end(rt: HostRuntime) -> Result<(), Fail> {
-    let mut chunk = example_chunk(rt.alloc())?;
-    assert_eq!(rt; add(&mut chunk, 6, &EXAMPLE[..20]), Some(Added::NoRoom));
-    assert!(rt; has_bytes(&chunk, &EXAMPLE));
-    assert_eq!(rt; add(&mut chunk, 6, &EXAMPLE[..19]), Some(Added::Added));
-    assert_eq!(rt; chunk.used(), 64);
-    Ok(())
+fn the_example_is_written(alloc: Global) -> Result<bool, Memory> {
+    Ok(writes_example(one_chunk(alloc)?))
 }
 
-#[test]
-fn example_page_is_read(rt: HostRuntime) -> Result<(), Fail> {
-    let page = read_page(rt.alloc(), &EXAMPLE)
-        .ok()
-        .ok_or("the bytes are a page")?;
-    assert_eq!(rt; page.header, example_header());
-    assert_eq!(rt; page.points.len(), 1);
+fn the_example_is_read(alloc: Global) -> bool {
+    let Ok(page) = read_page(alloc, &EXAMPLE) else {
+        return false;
+    };
+    let mut right = page.header == example_header() && page.points.len() == 1;
     for point in page.points.as_slice() {
-        assert_eq!(rt; point.moment, 5);
-        assert_eq!(rt; point.payload.as_slice(), [0xaa].as_slice());
+        right &= point.moment == 5 && point.payload.as_slice() == [0xaa].as_slice();
     }
-    Ok(())
+    right
 }
 
 /// The example page with one byte changed and cut to a length, and what reading it answers.
@@ -138,29 +83,13 @@ fn fault_of(
     read_page(alloc, page.get(..len)?).err()
 }
 
-#[test]
-fn bytes_that_are_no_page(rt: HostRuntime) {
+/// Whether each is refused for its reason.
+fn are_no_pages(alloc: Global) -> bool {
+    let mut right = true;
     for (len, place, byte, want) in NO_PAGES {
-        let fault = fault_of(rt.alloc(), EXAMPLE, len, place, byte);
-        assert_eq!(rt; fault, Some(want), "{len} bytes, {byte} at {place}");
+        right &= fault_of(alloc, EXAMPLE, len, place, byte) == Some(want);
     }
-}
-
-/// A draw hands out the chunk with a lease that fits it.
-fn drawn_number<L: Token>(held: Held<L>) -> u32
-    ensures { result ≡ held.chunk.number }
-{
-    match (Drawn::Got { held, stamp: 0 }) {
-        Drawn::Got { held, .. } => held.chunk.number(),
-        Drawn::Empty { .. } => 0,
-    }
-}
-
-#[test]
-fn empty_token_fits(rt: HostRuntime) -> Result<(), Fail> {
-    let chunk = one_chunk(rt.alloc())?;
-    assert_eq!(rt; drawn_number(Held { chunk, lease: () }), 0);
-    Ok(())
+    right
 }
 
 /// Adds pieces of this payload until there is no room, and says how many.
@@ -178,32 +107,55 @@ fn fill(chunk: &mut Chunk, payload: &[u8]) -> u32
     count
 }
 
-/// Fills a page with pieces of this payload, and reads it. Answers how many there were and how many there are.
-fn read_filled(alloc: Global, mut chunk: Chunk, payload: &[u8]) -> Option<(u32, usize)> {
-    chunk.clear();
-    chunk.start(example_header());
-    let count = fill(&mut chunk, payload);
-    let page = read_page(alloc, chunk.bytes()).ok()?;
+/// Whether the bytes are a page of so many pieces, each with this payload.
+fn has_pieces(alloc: Global, bytes: &[u8], payload: &[u8], count: u32) -> bool {
+    let Ok(page) = read_page(alloc, bytes) else {
+        return false;
+    };
+    let mut right = page.points.len() == count as usize;
     for point in page.points.as_slice() {
-        if point.payload.as_slice() != payload {
-            return None;
-        }
+        right &= point.payload.as_slice() == payload;
     }
-    Some((count, page.points.len()))
+    right
 }
 
-/// Pages of the greatest size, with as many pieces as may stand there and with the longest one.
+/// Fills a page with pieces of this payload. Answers whether there are so many, and all of them are read.
+fn is_filled(alloc: Global, mut chunk: Chunk, payload: &[u8], count: u32) -> bool {
+    chunk.clear();
+    chunk.start(example_header());
+    fill(&mut chunk, payload) == count && has_pieces(alloc, chunk.bytes(), payload, count)
+}
+
+/// The last of as many chunks of the greatest size as may be.
+fn a_greatest(alloc: Global) -> Result<Chunk, Memory> {
+    let mut chunks = Stock::make(alloc, MAX_BUFFERS, MAX_SIZE)?;
+    chunks.pop().ok_or(Memory)
+}
+
+/// As many pieces as may stand on a page.
+fn most_pieces(alloc: Global) -> Result<bool, Memory> {
+    Ok(is_filled(alloc, a_greatest(alloc)?, &[], 3274))
+}
+
+/// The longest piece.
+fn the_longest_piece(alloc: Global) -> Result<bool, Memory> {
+    let longest = vec![in alloc; 9; 32_734]?;
+    Ok(is_filled(alloc, a_greatest(alloc)?, &longest, 1))
+}
+
 #[test]
-fn widest_pages_are_read(rt: HostRuntime) -> Result<(), Fail> {
-    let mut chunks = Stock::make(rt.alloc(), MAX_BUFFERS, MAX_SIZE)
-        .ok()
-        .ok_or("memory")?;
-    assert_eq!(rt; chunks.len(), MAX_BUFFERS as usize);
-    let longest = vec![in rt.alloc(); 9; 32_734]?;
-    for (payload, count) in [([].as_slice(), 3274), (longest.as_slice(), 1)] {
-        let chunk = chunks.pop().ok_or("a chunk was made")?;
-        let read = read_filled(rt.alloc(), chunk, payload);
-        assert_eq!(rt; read, Some((count, count as usize)));
-    }
-    Ok(())
+fn pages(rt: HostRuntime) {
+    row(
+        &rt,
+        "the example is written",
+        the_example_is_written(rt.alloc()),
+    );
+    row(
+        &rt,
+        "the example is read",
+        Ok(the_example_is_read(rt.alloc())),
+    );
+    row(&rt, "no pages", Ok(are_no_pages(rt.alloc())));
+    row(&rt, "most pieces", most_pieces(rt.alloc()));
+    row(&rt, "the longest piece", the_longest_piece(rt.alloc()));
 }

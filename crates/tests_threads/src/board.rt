@@ -8,7 +8,7 @@ use hs_base::{List, Memory};
 use hs_board::{BoardReader, BoardWriter, MAX_READERS, Progress, board};
 use std::alloc::Global;
 use std::sync::Wait;
-use std::test::Fail;
+use tests_with::row;
 
 /// What a row looks at.
 #[derive(Drop)]
@@ -129,25 +129,17 @@ fn all_seen<R: Wait>(rt: &R, alloc: Global, count: u32, rounds: u32) -> bool
 }
 
 #[test]
-fn a_board_without_rounds_shows_the_first_totals(rt: HostRuntime) -> Result<(), Fail> {
-    assert!(rt; all_seen(&rt, rt.alloc(), 1, 0));
-    Ok(())
-}
-
-#[test]
-fn two_readers_see_what_was_published(rt: HostRuntime) -> Result<(), Fail> {
-    assert!(rt; all_seen(&rt, rt.alloc(), 2, 3));
-    Ok(())
-}
-
-#[test]
-fn sixteen_readers_see_the_last_of_all_rounds(rt: HostRuntime) -> Result<(), Fail> {
-    assert!(rt; all_seen(&rt, rt.alloc(), MAX_READERS, 20000));
-    Ok(())
-}
-
-#[test]
-fn as_many_rounds_as_a_run_may_have(rt: HostRuntime) -> Result<(), Fail> {
-    assert!(rt; all_seen(&rt, rt.alloc(), 2, MAX_OPERATIONS));
-    Ok(())
+fn boards(rt: HostRuntime) {
+    row(&rt, "no round", Ok(all_seen(&rt, rt.alloc(), 1, 0)));
+    row(&rt, "three rounds", Ok(all_seen(&rt, rt.alloc(), 2, 3)));
+    row(
+        &rt,
+        "sixteen readers",
+        Ok(all_seen(&rt, rt.alloc(), MAX_READERS, 20000)),
+    );
+    row(
+        &rt,
+        "all rounds",
+        Ok(all_seen(&rt, rt.alloc(), 2, MAX_OPERATIONS)),
+    );
 }

@@ -19,4 +19,6 @@ mod live_threads;
 #[cfg(test)]
 mod locked;
 #[cfg(test)]
+mod marks;
+#[cfg(test)]
 mod rings;

@@ -3,12 +3,13 @@ ghost use Rattle.std.specs.Prelude.{◌≡◌, ◌<◌, ◌≤◌, [], IfOk, ⊤
 ghost use Rattle.std.specs.Thread.{IsSync};
 ghost use Rattle.hs_link.specs.Contents.{sent};
 
+use hs_base::Memory;
 use hs_link::{Fact, Receiver, Rest, Sender, Sent, close_both, link};
 use std::alloc::{AllocError, Global};
 use std::sync::Wait;
-use std::test::Fail;
 use std::thread;
 use std::thread::{Threads, join};
+use tests_with::row;
 
 /// The condition that is true of every item.
 struct Anything;
@@ -142,7 +143,7 @@ fn exchange<T: Numbered, R: Threads + Wait + Sync>(
     capacity: u32,
     count: u32,
     stop: u32,
-) -> Result<(Vec<u32>, u32), Fail>
+) -> Result<(Vec<u32>, u32), Memory>
     requires { (0 < capacity) × (stop ≤ count) }
 {
     let (sender, receiver) = link::<T, Anything>(alloc, capacity, count, &Anything)?;
@@ -186,62 +187,82 @@ fn tell_rest(mut rest: Rest<u8, Anything>) -> (u32, Option<u8>, Option<u8>, u32)
     (rest.left(), rest.next(), rest.next(), rest.left())
 }
 
-#[test]
-fn a_ring_of_one_entry_keeps_the_order(rt: HostRuntime) -> Result<(), Fail> {
-    let (mut sender, mut receiver) = link::<u8, Anything>(rt.alloc(), 1, 3, &Anything)?;
+/// Whether the first two items went by the ring one after another, and the third waited.
+fn are_in_order(told: Told) -> bool {
+    matches!(
+        told,
+        (
+            Sent::Through,
+            Sent::Kept,
+            Some(b'a'),
+            None,
+            Sent::Kept,
+            Some(b'b')
+        )
+    )
+}
+
+fn a_ring_of_one_entry_keeps_the_order(alloc: Global) -> Result<bool, Memory> {
+    let (mut sender, mut receiver) = link::<u8, Anything>(alloc, 1, 3, &Anything)?;
     let told = tell(&mut sender, &mut receiver);
     let left = tell_rest(close_both(sender, receiver));
-    assert!(rt;
-        matches!(
-            told,
-            (
-                Sent::Through,
-                Sent::Kept,
-                Some(b'a'),
-                None,
-                Sent::Kept,
-                Some(b'b')
-            )
-        )
-    );
-    assert_eq!(rt; left, (1, Some(b'c'), None, 0));
-    Ok(())
+    Ok(are_in_order(told) && left == (1, Some(b'c'), None, 0))
 }
 
-#[test]
-fn numbers_arrive_in_order_or_are_left(rt: HostRuntime) -> Result<(), Fail> {
-    let (numbers, left) = exchange::<u32, _>(&rt, rt.alloc(), 8, 10_000, 4_000)?;
-    assert_eq!(rt; left, 6_000);
-    assert!(rt; numbers.iter().copied().eq(0..10_000));
-    Ok(())
+/// Whether these are the numbers below `count`, in their order.
+fn are_all(numbers: &[u32], count: u32) -> bool {
+    let mut right = numbers.len() == count as usize;
+    for (place, number) in numbers.iter().enumerate() {
+        right &= *number as usize == place;
+    }
+    right
 }
 
-#[test]
-fn no_box_is_lost_or_doubled(rt: HostRuntime) -> Result<(), Fail> {
-    let (numbers, left) = exchange::<Box<u32>, _>(&rt, rt.alloc(), 3, 1_000, 700)?;
-    assert_eq!(rt; left, 300);
-    assert!(rt; numbers.iter().copied().eq(0..1_000));
-    Ok(())
+fn numbers_arrive_in_order_or_are_left<R: Threads + Wait + Sync>(
+    rt: &R,
+    alloc: Global,
+) -> Result<bool, Memory> {
+    let (numbers, left) = exchange::<u32, R>(rt, alloc, 8, 10_000, 4_000)?;
+    Ok(left == 6_000 && are_all(&numbers, 10_000))
 }
 
-/// How many items are left, and the first of them, where a link of one entry is closed unused.
-fn close_least(alloc: Global) -> Result<(u32, Option<u32>), Fail> {
+fn no_box_is_lost_or_doubled<R: Threads + Wait + Sync>(
+    rt: &R,
+    alloc: Global,
+) -> Result<bool, Memory> {
+    let (numbers, left) = exchange::<Box<u32>, R>(rt, alloc, 3, 1_000, 700)?;
+    Ok(left == 300 && are_all(&numbers, 1_000))
+}
+
+/// A link of one entry is closed unused.
+fn close_least(alloc: Global) -> Result<bool, Memory> {
     let (sender, receiver) = link::<u32, Anything>(alloc, 1, 0, &Anything)?;
     let mut rest = close_both(sender, receiver);
-    Ok((rest.left(), rest.next()))
+    Ok(rest.left() == 0 && rest.next().is_none())
 }
 
-/// The first of 262,144 numbers on a link of 64 entries, and how many are left behind it.
-fn close_great<R: Wait>(rt: &R, alloc: Global) -> Result<(Option<u32>, u32), Fail> {
+/// The first of 262,144 numbers is taken of a link of 64 entries, and the others are left.
+fn close_great<R: Wait>(rt: &R, alloc: Global) -> Result<bool, Memory> {
     let (sender, mut receiver) = link::<u32, Anything>(alloc, 64, 262_144, &Anything)?;
     let sender = send_numbers(rt, alloc, sender, 262_144, 262_080)?;
     let first = receiver.receive();
-    Ok((first, close_both(sender, receiver).left()))
+    let left = close_both(sender, receiver).left();
+    Ok(first == Some(0) && left == 262_143)
 }
 
 #[test]
-fn links_of_the_least_and_of_a_great_size_are_made(rt: HostRuntime) -> Result<(), Fail> {
-    assert_eq!(rt; close_least(rt.alloc())?, (0, None));
-    assert_eq!(rt; close_great(&rt, rt.alloc())?, (Some(0), 262_143));
-    Ok(())
+fn links(rt: HostRuntime) {
+    row(
+        &rt,
+        "one entry",
+        a_ring_of_one_entry_keeps_the_order(rt.alloc()),
+    );
+    row(
+        &rt,
+        "numbers",
+        numbers_arrive_in_order_or_are_left(&rt, rt.alloc()),
+    );
+    row(&rt, "boxes", no_box_is_lost_or_doubled(&rt, rt.alloc()));
+    row(&rt, "the least", close_least(rt.alloc()));
+    row(&rt, "the greatest", close_great(&rt, rt.alloc()));
 }

@@ -1,5 +1,4 @@
 pub mod ClaimLemmas
 pub mod PageLemmas
 pub mod RuleLemmas
-pub mod ShelfLemmas
 pub mod Pairs

@@ -1,7 +1,6 @@
 pub mod Claims
 pub mod Pages
 pub mod Rising
-pub mod Shelves
 pub mod Ready
 pub mod Pairs
 pub mod PairLaws

@@ -3,18 +3,18 @@
 ghost use Rattle.std.specs.Prelude.{◌≡◌, ◌+◌, ◌<◌, ◌≤◌, [], ◌∷◌, IfOk, Some, option_map};
 ghost use Rattle.hs_words.specs.Chunks.{header_in};
 ghost use Rattle.hs_pins.specs.PinsLayout.{Remembers};
-ghost use Rattle.tests_with.specs.Claims.{IsReady, HasClaimed, rule, start, two_rules};
+ghost use Rattle.tests_with.specs.Claims.{IsReady, rule, start, two_rules};
 
 use hs_base::limits::MIN_SIZE;
 use hs_base::{
-    ClientId, Crumb, Group, GroupId, Laterals, List, Memory, NodeId, NodeSet, Settings, TraceId,
+    ClientId, Group, GroupId, Laterals, List, Memory, NodeId, NodeSet, Settings, TraceId,
     TriggerId, TriggerRule,
 };
-use hs_pins::{Admitted, Dropped, Pins, Taken2};
+use hs_pins::{Dropped, Pins, Taken2};
 use hs_words::{Header, Held, Stock};
 use std::alloc::Global;
 
-/// The trace that `claimed_pins` has claimed.
+/// The trace that rows claim.
 pub const CLAIMED: TraceId = TraceId(7);
 
 /// A rule of one token at one token a second.
@@ -99,43 +99,6 @@ pub fn group_of(node: u16, number: u32, trigger: u8, lead: u128) -> Group
     }
 }
 
-/// A trigger of the id 1, after so many at most.
-pub fn admits(pins: &mut Pins<()>, moment: u64, earlier: u32) -> Admitted
-    requires ready { IsReady earlier pins.old }
-    requires few { earlier < 1000000 }
-    ensures { IsReady (earlier + 1) pins.new }
-{
-    pins.admit(TriggerId(1), moment)
-}
-
-/// Pins that have claimed the trace 7 with one chunk, and nothing else.
-pub fn claimed_pins(alloc: Global) -> Result<Pins<()>, Memory>
-    ensures { IfOk result (λ pins. HasClaimed pins) }
-{
-    let mut pins = fresh_pins(alloc, 4)?;
-    let mut held = List::with_room(alloc, 1)?;
-    held.push(page_of(alloc, CLAIMED, 0)?);
-    let taken = Taken2 {
-        held,
-        crumbs: NodeSet::only(NodeId(1)),
-    };
-    match pins.claim(group_of(0, 0, 1, 7), Laterals::none(), CLAIMED, taken) {
-        Ok(()) => Ok(pins),
-        Err(_) => Err(Memory),
-    }
-}
-
-/// Whether a crumb of the trace 7 to the node 2 is new.
-pub fn is_new_crumb(pins: &mut Pins<()>) -> bool
-    requires { HasClaimed pins.old }
-    ensures { HasClaimed pins.new }
-{
-    pins.crumb(Crumb {
-        trace: CLAIMED,
-        node: NodeId(2),
-    })
-}
-
 /// Claims a trace with these chunks and no crumb, and says whether it is claimed then.
 pub fn claims(pins: &mut Pins<()>, group: Group, trace: TraceId, held: List<Held<()>>) -> bool
     requires ready { IsReady 0 pins.old }
@@ -174,15 +137,6 @@ pub fn arrives(pins: &mut Pins<()>, held: Held<()>) -> bool
         Ok(back) => back.is_none(),
         Err(_) => false,
     }
-}
-
-/// The group of the next chunk of the trigger id 1.
-pub fn takes(pins: &mut Pins<()>) -> Option<Group>
-    requires { IsReady 0 pins.old }
-    ensures { IsReady 0 pins.new }
-{
-    let dropped = pins.take_next(TriggerId(1))?;
-    Some(dropped.group)
 }
 
 /// Lets go what is over.

@@ -7,8 +7,8 @@ ghost use Rattle.tests_with.specs.Ready.{IsPageOf, Fits};
 use hs_agent::{Agent, Finished, Input, few_are_admitted};
 use hs_base::limits::{MAX_BURST, MAX_NODES, MAX_RATE, MIN_SIZE};
 use hs_base::{
-    Ask, ClientId, Crumb, Group, GroupId, Laterals, List, Memory, NodeId, Settings, Told, TraceId,
-    Trigger, TriggerId, TriggerRule,
+    ClientId, Crumb, Laterals, List, Memory, NodeId, Settings, Told, TraceId, Trigger, TriggerId,
+    TriggerRule,
 };
 use hs_words::{Given, Header, Held, Stock};
 use std::alloc::Global;
@@ -22,14 +22,6 @@ pub struct Limits {
     pub pins: u32,
     pub burst: u32,
     pub rate: u32,
-}
-
-/// What the pool answers to an offer.
-#[derive(Clone, Copy, Debug)]
-pub enum Answer {
-    Given { stamp: u64 },
-    Missed { stamp: u64 },
-    Unread,
 }
 
 /// The agent of node 0 with pages of 64 bytes, whose clients trigger the id 1 alone. Chunks come from client 0, and each chunk
@@ -92,23 +84,6 @@ impl Site {
         self.take(Input::Chunk { client: 0, held })
     }
 
-    /// Takes a chunk as `chunk` does, by the call that takes nothing but chunks.
-    pub fn take_chunk(&mut self, trace: u128, page: u32) -> Result<(), Memory> {
-        let held = page_of(self.alloc, trace, page)?;
-        self.note_chunk(held)
-    }
-
-    fn note_chunk(&mut self, held: Held<()>) -> Result<(), Memory>
-        requires { IsPageOf 0 (buffer_of held) }
-    {
-        if self.events >= u32::MAX - 1 {
-            return Err(Memory);
-        }
-        let taken = self.agent.take_chunk(0, held);
-        self.events += 1;
-        taken
-    }
-
     /// Takes a crumb to a node below 16.
     pub fn crumb(&mut self, trace: u128, node: u16) -> Result<Option<Told>, Memory>
         requires { node < MAX_NODES }
@@ -136,38 +111,6 @@ impl Site {
         self.take(Input::Trigger { client: 0, trigger })
     }
 
-    /// Takes an ask of a group that another node admitted.
-    pub fn ask(
-        &mut self,
-        id: GroupId,
-        lead: u128,
-        laterals: Laterals,
-    ) -> Result<Option<Told>, Memory> {
-        let group = Group {
-            id,
-            trigger: TriggerId(1),
-            lead: TraceId(lead),
-        };
-        self.take(Input::Ask {
-            ask: Ask { group, laterals },
-        })
-    }
-
-    /// Makes a turn.
-    pub fn turn(&mut self) -> Result<Option<Told>, Memory> {
-        self.take(Input::Turn)
-    }
-
-    /// Makes a turn as `turn` does, by the call that makes nothing but turns.
-    pub fn make_turn(&mut self) -> Result<(), Memory> {
-        if self.events >= u32::MAX - 1 {
-            return Err(Memory);
-        }
-        let made = self.agent.turn();
-        self.events += 1;
-        made
-    }
-
     fn take(&mut self, input: Input<()>) -> Result<Option<Told>, Memory>
         requires { Fits input }
     {
@@ -180,19 +123,17 @@ impl Site {
         told
     }
 
-    /// Offers the first of the hand, and has the pool answer so. Answers the number of the chunk's page, or `None` where the
-    /// hand is empty.
-    pub fn offer(&mut self, answer: Answer) -> Result<Option<u32>, Memory> {
+    /// Offers the first of the hand, and has the pool leave it unread. Answers whether there was one.
+    pub fn offer(&mut self) -> Result<bool, Memory> {
         if self.events == u32::MAX {
             return Err(Memory);
         }
         let Some(held) = self.agent.offer()? else {
-            return Ok(None);
+            return Ok(false);
         };
-        let header = held.chunk.header();
-        self.agent.gave(given(answer, held));
+        self.agent.gave(unread(held));
         self.events += 1;
-        Ok(header.map(|header| header.page))
+        Ok(true)
     }
 
     /// How many chunks are pinned.
@@ -209,13 +150,9 @@ impl Site {
     }
 }
 
-/// The pool's answer.
-fn given(answer: Answer, held: Held<()>) -> Given<()> {
-    match answer {
-        Answer::Given { stamp } => Given::Given { stamp },
-        Answer::Missed { stamp } => Given::Missed { held, stamp },
-        Answer::Unread => Given::Unread { held },
-    }
+/// The pool's answer where a place was not read.
+fn unread(held: Held<()>) -> Given<()> {
+    Given::Unread { held }
 }
 
 /// A chunk of 64 bytes with one record on a page of the trace.

@@ -1,9 +1,9 @@
-use Rattle.std.proofs.Common.{◌≡◌, ℕ, length, rules, sym, ap, ◌∙◌}
-use Rattle.hs_base.specs.declared.limits.TheConstants.{MAX_BUFFERS, MAX_SIZE}
+use Rattle.std.proofs.Common.{◌≡◌, ℕ, length, sym, ap, ◌∙◌}
+use Rattle.hs_base.specs.declared.limits.TheConstants.{MAX_SIZE}
 use Rattle.hs_words.specs.Chunks.{clear_chunks}
 use Rattle.tests_parts.proofs.pool.all_buffers_are_got.Goals as goal
 
 pub make-requires-2-clause-clear : goal.make-requires-2-clause-clear
-make-requires-2-clause-clear g c =
-    let made : c.in_ok-chunks.chunks.items ≡ clear_chunks MAX_BUFFERS MAX_SIZE = search rules in
+make-requires-2-clause-clear c =
+    let made = c.in_ok-chunks.ensures in
     (MAX_SIZE, made ∙ ap (λ (n : ℕ). clear_chunks n MAX_SIZE) (sym (ap length made)))

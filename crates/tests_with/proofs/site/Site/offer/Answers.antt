@@ -14,7 +14,7 @@ invariant_of-self-2 c = λ working.
     let known = c.self.invariant (unspent c.self.inside.agent.spent (λ spent. c.in_ok-held.ensures.stays spent)) in
     let run = known.0 in
     let offered = c.in_ok-held.ensures.after run known.1 in
-    let more = length-append run.events (Gave (answer_of c.given.result) ∷ []) in
+    let more = length-append run.events (Gave (answer_of c.unread.result) ∷ []) in
     let few = known.2.few in
     let site = known.2.site in
-    (after_answer (after_offer run) c.given.result, c.gave.ensures.after (after_offer run) offered, record { site = record { node = site.node; size = site.size; nodes = site.nodes; declared = site.declared }; few = omega (arith, more, few); offered = refl })
+    (after_answer (after_offer run) c.unread.result, c.gave.ensures.after (after_offer run) offered, record { site = record { node = site.node; size = site.size; nodes = site.nodes; declared = site.declared }; few = omega (arith, more, few); offered = refl })

@@ -1,6 +1,0 @@
-use Rattle.std.proofs.Common.{◌≡◌}
-use Rattle.hs_base.specs.declared.limits.TheConstants.{MAX_NODES}
-use Rattle.bench.proofs.coord.run.Given as goal
-
-abbrev pub invariant-loop-number : goal.invariant-loop-number
-invariant-loop-number g l = l.coordinator.nodes ≡ MAX_NODES

@@ -1,8 +1,0 @@
-use Rattle.std.proofs.Common.{◌≡◌}
-use Rattle.tests_threads.proofs.rings.give_all.Given as goal
-
-abbrev pub invariant-loop-round : goal.invariant-loop-round
-invariant-loop-round l =
-    (l.giver.pool ≡ l.initial.giver.pool) × (l.giver.size ≡ l.initial.giver.size) × (l.giver.drawers ≡ l.initial.giver.drawers)
-    × (l.front.one.key ≡ l.initial.front.one.key) × (l.front.two.key ≡ l.initial.front.two.key)
-    × (l.back.one.key ≡ l.initial.back.one.key) × (l.back.two.key ≡ l.initial.back.two.key)
