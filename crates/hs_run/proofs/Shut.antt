@@ -1,6 +1,8 @@
 -- The clients of nodes are taken apart, and their links closed.
 use Rattle.std.proofs.Common.{◌≡◌, ℕ, zero, suc, ◌<◌, List, [], ◌∷◌, ◌++◌, length, map, get_or, Some, refl, sym, ap, ◌∙◌, subst, arith, append_assoc, slice_get}
-use Rattle.hs_run.proofs.Prelude.{Listing, client_book_of, IsClosedAgent, AllSent, append-nil, length-map, AllByRecursion, get_unmap, Crumb, Trigger, client_of, PlainClientBook, Outgoing, Incoming, Key, IsMate, Drawing, Leased, Buffer, PlainClientActor, linked, PlainClosedAgent, AreMatesOf, PlainNodeActors, operations_at, place_of, HaveClosedLinks}
+use Rattle.hs_run.proofs.Prelude.{Result, Ok, Err, IfOk, Listing, client_book_of, IsClosedAgent, AllSent, append-nil, length-map, AllByRecursion, get_unmap, Crumb, Trigger, client_of, PlainClientBook, Outgoing, Incoming, Key, IsMate, Drawing, Leased, Buffer, PlainClientActor, linked, PlainClosedAgent, AreMatesOf, PlainNodeActors, operations_at, place_of, HaveClosedLinks}
+use Rattle.std.proofs.lemmas.Result.{IfOk-at_ok}
+use Rattle.hs_base.specs.declared.ids.Memory.{Memory}
 use Rattle.hs_lists.proofs.Alls.{all_by_place}
 use Rattle.hs_run_client.specs.Standing.{IsDone}
 use Rattle.hs_journal.specs.declared.books.ClientBook.{ClientBook}
@@ -8,7 +10,7 @@ use Rattle.hs_live.specs.Live.{outgoing}
 use Rattle.hs_run_agent.specs.ClosedAgents.{all_sent}
 use Rattle.hs_run_client.specs.Nodes.{AreNotes}
 use Rattle.hs_run_client.specs.declared.apart.PartedClients.{PartedClients}
-use Rattle.hs_run.specs.Closed.{IsClosedWith}
+use Rattle.hs_run.specs.Closed.{AreEndsLeft, IsClosedOf, IsClosedWith}
 use Rattle.hs_run.specs.Ended.{IsEnded, HasClosedLinks}
 use Rattle.hs_run.specs.declared.shutting.ClosedNode.{ClosedNode}
 
@@ -80,6 +82,28 @@ closed_links site parted closed is notes drawers chunks crumbs triggers =
       said = is.said;
       agent = is.agent;
     }
+
+module _ (site : PlainNodeActors) where
+  pub ends_left : IsEnded site → (parted : Result PartedClients Memory) → IfOk parted (λ p. map outgoing p.chunks.items ≡ map (λ (c : PlainClientActor). c.client.chunks) site.callers)
+      → IfOk parted (λ p. p.crumbs.items ≡ map (λ (c : PlainClientActor). c.client.crumbs) site.callers) → IfOk parted (λ p. p.triggers.items ≡ map (λ (c : PlainClientActor). c.client.triggers) site.callers)
+      → IfOk parted (AreEndsLeft site.agent)
+  ends_left is (Err e) chunks crumbs triggers = tt
+  ends_left is (Ok p) chunks crumbs triggers =
+      record { chunks = chunk_mates site (map outgoing p.chunks.items) is chunks; crumbs = crumb_mates site p.crumbs.items is crumbs; triggers = trigger_mates site p.triggers.items is triggers }
+
+  pub closed_of : (parted : Result PartedClients Memory) (closed : ClosedNode) → IsClosedOf site.agent parted closed
+      → IfOk parted (λ p. AreNotes site.callers (map client_book_of p.books.items))
+      → IfOk parted (λ p. p.drawers.items ≡ map (λ (c : PlainClientActor). c.client.drawer) site.callers)
+      → IfOk parted (λ p. map outgoing p.chunks.items ≡ map (λ (c : PlainClientActor). c.client.chunks) site.callers)
+      → IfOk parted (λ p. p.crumbs.items ≡ map (λ (c : PlainClientActor). c.client.crumbs) site.callers)
+      → IfOk parted (λ p. p.triggers.items ≡ map (λ (c : PlainClientActor). c.client.triggers) site.callers)
+      → HasClosedLinks site (map client_book_of closed.books.items) closed.drawers.items closed.node
+  closed_of parted closed is notes drawers chunks crumbs triggers =
+      closed_links site is.left closed is.is (IfOk-at_ok (λ (p : PartedClients). AreNotes site.callers (map client_book_of p.books.items)) is.left_is notes)
+      (IfOk-at_ok (λ (p : PartedClients). p.drawers.items ≡ map (λ (c : PlainClientActor). c.client.drawer) site.callers) is.left_is drawers)
+      (IfOk-at_ok (λ (p : PartedClients). map outgoing p.chunks.items ≡ map (λ (c : PlainClientActor). c.client.chunks) site.callers) is.left_is chunks)
+      (IfOk-at_ok (λ (p : PartedClients). p.crumbs.items ≡ map (λ (c : PlainClientActor). c.client.crumbs) site.callers) is.left_is crumbs)
+      (IfOk-at_ok (λ (p : PartedClients). p.triggers.items ≡ map (λ (c : PlainClientActor). c.client.triggers) site.callers) is.left_is triggers)
 
 -- ---- all nodes
 

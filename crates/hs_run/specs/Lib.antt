@@ -14,6 +14,7 @@ pub mod Ended
 pub mod Closed
 pub mod Noted
 pub mod Finished
+pub mod GatheredOf
 pub mod Shutting
 pub mod Accounts
 pub mod Closings

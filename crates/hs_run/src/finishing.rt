@@ -6,7 +6,9 @@ ghost use Rattle.hs_records.specs.Plain.{PlainWorkload};
 ghost use Rattle.hs_workload.specs.Views.{workload_of};
 ghost use Rattle.hs_run_agent.specs.Coordinators.{Tellings, Askings, IsCoordinatorActor};
 ghost use Rattle.hs_run.specs.Moments.{RoundsOver};
+ghost use Rattle.hs_run.specs.Ended.{MayFinish, items_of};
 ghost use Rattle.hs_run.specs.Finished.{AreLawfulBooks, AreBooksBehind, AreGathered};
+ghost use Rattle.hs_run.specs.GatheredOf.{AreGatheredOf};
 
 use crate::closing::close_down;
 use crate::laws::{all_is_paid_for, what_is_sent_fits};
@@ -44,13 +46,26 @@ pub(crate) fn finish(
     let mut coordinator = coordinator;
     let mut ended = shut_all(alloc, nodes)?;
     close_down(&mut ended.nodes, &mut coordinator)?;
+    gather(alloc, workload, ended, &coordinator)
+}
+
+/// The books of the clients, those of the agents, whose pools are closed, and the nodes that the coordinator heard.
+fn gather(
+    alloc: Global,
+    workload: &Workload,
+    ended: ClosedNodes,
+    coordinator: &CoordinatorActor,
+) -> Result<Books, Memory>
+    requires { MayFinish ended.nodes.items (items_of ended.drawers.items) }
+    ensures { IfOk result (AreGatheredOf workload.now ended coordinator.now) }
+{
     let ClosedNodes {
         books,
         drawers,
         nodes,
     } = ended;
     let agents = close_pools(alloc, nodes, drawers);
-    let told = told_of(alloc, &coordinator);
+    let told = told_of(alloc, coordinator);
     books_of(workload, books, agents, told)
 }
 

@@ -4,7 +4,7 @@ ghost use Rattle.std.specs.Prelude.{◌≡◌, ◌∷◌, ◌++◌, [], map, IfO
 ghost use Rattle.hs_journal.specs.Books.{client_book_of};
 ghost use Rattle.hs_live.specs.Live.{outgoing};
 ghost use Rattle.hs_run_agent.specs.ClosedAgents.{AreMatesOf};
-ghost use Rattle.hs_run.specs.Closed.{IsClosedWith};
+ghost use Rattle.hs_run.specs.Closed.{AreEndsLeft, IsClosedWith, IsClosedOf};
 ghost use Rattle.hs_run.specs.Ended.{IsEnded, AreEnded, HasClosedLinks, HaveClosedLinks, items_of};
 ghost use Rattle.hs_run.specs.Nodes.{sites_of};
 
@@ -40,8 +40,20 @@ fn shut(alloc: Global, node: ActingNode) -> Result<ClosedNode, Memory>
 {
     let ActingNode { site, failed: _ } = node;
     let NodeActors { callers, agent } = site;
-    let parted = take_apart(alloc, callers)?;
-    close(alloc, agent, parted)
+    let parted = take_apart(alloc, callers);
+    close_parted(alloc, agent, parted)
+}
+
+/// Closes the links of an agent whose clients were taken apart, where there was memory for that.
+fn close_parted(
+    alloc: Global,
+    agent: AgentActor,
+    parted: Result<PartedClients, Memory>,
+) -> Result<ClosedNode, Memory>
+    requires { IfOk parted (AreEndsLeft agent) }
+    ensures { IfOk result (IsClosedOf agent parted) }
+{
+    close(alloc, agent, parted?)
 }
 
 /// Closes the links of an agent, of which its clients left the other ends.

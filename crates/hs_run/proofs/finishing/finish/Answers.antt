@@ -1,6 +1,6 @@
-use Rattle.std.proofs.Common.{◌≡◌, ℕ, map, List, Ok, refl, sym, ap, ◌∙◌, subst}
-use Rattle.hs_run.proofs.Prelude.{Result, IfOk, IfOk-weaker, client_book_of, agent_book_of, Books, workload_of, moved_by, asked_by, HaveFinished, items_of, AreBooksBehind, AreGathered, RoundsOver, sents_at}
-use Rattle.hs_run.proofs.Gathered.{ended, starts, may, comes, behind_gathered}
+use Rattle.std.proofs.Common.{ℕ, map}
+use Rattle.hs_run.proofs.Prelude.{IfOk-weaker, client_book_of, Books, workload_of, moved_by, asked_by, items_of, AreBooksBehind, sents_at}
+use Rattle.hs_run.proofs.Gathered.{ended, starts, may, behind_gathered}
 use Rattle.hs_run.proofs.finishing.finish.Goals as goal
 
 pub shut_all-requires : goal.shut_all-requires
@@ -23,8 +23,8 @@ close_down-requires c =
       pays = c.all_is_paid_for.ensures W (λ (node : ℕ). (at.posts node).work) at.heard;
     }
 
-pub close_pools-agents-requires : goal.close_pools-agents-requires
-close_pools-agents-requires c =
+pub gather-requires : goal.gather-requires
+gather-requires c =
     let W = workload_of c.args.workload.now in
     let r = c.requires in
     let e = c.in_ok-ended.ended in
@@ -40,13 +40,13 @@ returns-clause-rounds c over =
     let closed = c.in_ok-close_down.ensures W over.rounds over.made.moment (sents_at over.made.moment) start in
     let coordinates = closed.at.stand.coordinates in
     let works = λ (node : ℕ). (closed.at.posts node).work in
-    IfOk-weaker c.books_of.result (AreGathered c.args.workload.now e.books c.close_pools-agents.result c.told_of-told.result) (AreBooksBehind W over.rounds over.made.moment over.made.came)
-    (λ (books : Books) (g : AreGathered c.args.workload.now e.books c.close_pools-agents.result c.told_of-told.result books).
-    behind_gathered c.args.workload.now over e.books c.close_pools-agents.result c.told_of-told.result books g e.nodes.items (items_of e.drawers.items) c.closing_begins.ensures c.callers_have_sent.ensures c.in_ok-ended.ensures c.pools_are_kept.ensures
-    c.runs_are_lawful.ensures c.close_down.new.nodes.items c.close_down.new.coordinator closed c.close_pools-agents.ensures c.journals_note_rounds.ensures (c.told_of-told.ensures W closed.at.heard (moved_by works) (asked_by works) coordinates))
-    c.books_of.ensures
+    IfOk-weaker c.gather.result _ (AreBooksBehind W over.rounds over.made.moment over.made.came)
+    (λ books g.
+    behind_gathered c.args.workload.now over e.books g.agents g.told books g.gathered e.nodes.items (items_of e.drawers.items) c.closing_begins.ensures c.callers_have_sent.ensures c.in_ok-ended.ensures c.pools_are_kept.ensures
+    c.runs_are_lawful.ensures c.close_down.new.nodes.items c.close_down.new.coordinator closed g.finished c.journals_note_rounds.ensures (g.heard W closed.at.heard (moved_by works) (asked_by works) coordinates))
+    c.gather.ensures
 
 pub returns-clause-lawful : goal.returns-clause-lawful
 returns-clause-lawful c =
     let W = workload_of c.args.workload.now in
-    IfOk-weaker c.books_of.result (AreBooksBehind W c.requires.rounds c.requires.made.moment c.requires.made.came) _ (λ (books : Books) (b : AreBooksBehind W c.requires.rounds c.requires.made.moment c.requires.made.came books). (b.0, b.1)) (returns-clause-rounds c c.requires)
+    IfOk-weaker c.gather.result (AreBooksBehind W c.requires.rounds c.requires.made.moment c.requires.made.came) _ (λ (books : Books) (b : AreBooksBehind W c.requires.rounds c.requires.made.moment c.requires.made.came books). (b.0, b.1)) (returns-clause-rounds c c.requires)
