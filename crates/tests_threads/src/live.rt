@@ -6,15 +6,14 @@ ghost use Rattle.tests_with.specs.Pairs.{CanCall, KeepsClient, KeepsPort, IsOnly
 use crate::live_calls::{Call, FULL, do_calls, is_closed};
 use crate::live_sheets::{Sheet, take_sheet};
 use hs_base::limits::MIN_SIZE;
-use hs_base::{Crumb, Laterals, NodeId, TraceId, Trigger};
+use hs_base::{Crumb, Laterals, Memory, NodeId, TraceId, Trigger};
 use hs_journal::{ClientBook, Draw, PageNote};
 use hs_live::{AgentPort, Called, Client};
 use hs_words::Tally;
 use std::alloc::Global;
-use std::test::Fail;
 use tests_with::{
-    CLIENT, ID, Making, client_and_port, close_all, flush, meet, next_crumb, next_trigger,
-    nothing_comes,
+    CLIENT, ID, Making, PairEnding, client_and_port, close_all, flush, meet, next_crumb,
+    next_trigger, nothing_comes, row,
 };
 
 /// Two chunks of the least size.
@@ -233,20 +232,63 @@ fn refuses(client: &mut Client, port: &mut AgentPort) -> (u32, u32, u32, bool)
     (others, waits, client.nulls(), nothing)
 }
 
-#[test]
-fn a_refused_call_sends_nothing(rt: HostRuntime) -> Result<(), Fail> {
-    let (mut client, mut port) = client_and_port(rt.alloc(), TWO)?;
-    assert_eq!(rt; refuses(&mut client, &mut port), (0, 0, 0, true));
-    assert!(rt; is_closed(&mut client));
-    let ending = close_all(rt.alloc(), client, port)?;
-    assert!(rt; has_noted(&ending.book, &[], &[]));
-    assert_eq!(rt; (ending.chunks, ending.crumbs, ending.triggers), (0, 0, 0));
-    Ok(())
+/// What is left behind: what the client noted, how many chunks were not received, and what the pool answered. All crumbs and triggers were
+/// received.
+struct Ending {
+    draws: &'static [Draw],
+    pages: &'static [PageNote],
+    chunks: u32,
+    tally: Tally,
+}
+
+const NOTHING: Ending = Ending {
+    draws: &[],
+    pages: &[],
+    chunks: 0,
+    tally: NO_TALLY,
+};
+
+const ALL: Ending = Ending {
+    draws: &DRAWS,
+    pages: &PAGES,
+    chunks: 1,
+    tally: TALLY,
+};
+
+/// Whether this is left behind.
+fn is_left(left: &PairEnding, wanted: &Ending) -> bool {
+    left.book.client == CLIENT
+        && has_noted(&left.book, wanted.draws, wanted.pages)
+        && (left.chunks, left.crumbs, left.triggers) == (wanted.chunks, 0, 0)
+        && left.tally == wanted.tally
+}
+
+/// Closes a client and its port. Answers whether no trace was open, and this is left behind.
+fn leaves(
+    alloc: Global,
+    mut client: Client,
+    port: AgentPort,
+    wanted: &Ending,
+) -> Result<bool, Memory>
+    requires can { CanCall MIN_SIZE 1 client }
+    requires ends { IsOnly port client }
+{
+    if !is_closed(&mut client) {
+        return Ok(false);
+    }
+    let left = close_all(alloc, client, port)?;
+    Ok(is_left(&left, wanted))
+}
+
+fn a_refused_call_sends_nothing(alloc: Global) -> Result<bool, Memory> {
+    let (mut client, mut port) = client_and_port(alloc, TWO)?;
+    let refused = refuses(&mut client, &mut port) == (0, 0, 0, true);
+    Ok(leaves(alloc, client, port, &NOTHING)? && refused)
 }
 
 /// Takes the two pages, the crumb and the triggers of `CALLS`. Answers whether they are as they should be, and nothing
 /// more comes.
-fn takes_all(alloc: Global, port: &mut AgentPort) -> Result<bool, Fail>
+fn takes_all(alloc: Global, port: &mut AgentPort) -> Result<bool, Memory>
     requires { HasClient port.old }
     ensures { KeepsPort port.old port.new }
 {
@@ -271,7 +313,7 @@ fn calls_all(
     alloc: Global,
     client: &mut Client,
     port: &mut AgentPort,
-) -> (u32, u32, u32, u32, Result<bool, Fail>)
+) -> (u32, u32, u32, u32, Result<bool, Memory>)
     requires can { CanCall MIN_SIZE 39 client.old }
     requires ends { IsOnly port.old client.old }
     ensures left { CanCall MIN_SIZE 1 client.new }
@@ -286,22 +328,15 @@ fn calls_all(
     (others, later, nulls, waits, taken)
 }
 
-#[test]
-fn all_calls_on_one_thread(rt: HostRuntime) -> Result<(), Fail> {
-    let (mut client, mut port) = client_and_port(rt.alloc(), TWO)?;
-    let (others, later, nulls, waits, taken) = calls_all(rt.alloc(), &mut client, &mut port);
-    assert_eq!(rt; (others, later, nulls, waits), (0, 0, 2, 0));
-    assert!(rt; taken?);
-    assert!(rt; is_closed(&mut client));
-    let ending = close_all(rt.alloc(), client, port)?;
-    assert!(rt; has_noted(&ending.book, &DRAWS, &PAGES));
-    assert_eq!(rt; (ending.chunks, ending.crumbs, ending.triggers), (1, 0, 0));
-    assert_eq!(rt; ending.tally, TALLY);
-    Ok(())
+fn all_calls_on_one_thread(alloc: Global) -> Result<bool, Memory> {
+    let (mut client, mut port) = client_and_port(alloc, TWO)?;
+    let (others, later, nulls, waits, taken) = calls_all(alloc, &mut client, &mut port);
+    let called = (others, later, nulls, waits) == (0, 0, 2, 0);
+    Ok(leaves(alloc, client, port, &ALL)? && called && taken?)
 }
 
 /// Makes the calls of `CALLS` over links of one entry each. A chunk and a trigger wait, until what was put before is taken.
-fn flushes(alloc: Global, client: &mut Client, port: &mut AgentPort) -> Result<bool, Fail>
+fn flushes(alloc: Global, client: &mut Client, port: &mut AgentPort) -> Result<bool, Memory>
     requires can { CanCall MIN_SIZE 32 client.old }
     requires ends { HasClient port.old }
 {
@@ -326,11 +361,9 @@ fn flushes(alloc: Global, client: &mut Client, port: &mut AgentPort) -> Result<b
     )
 }
 
-#[test]
-fn what_waits_is_put_once_there_is_room(rt: HostRuntime) -> Result<(), Fail> {
-    let (mut client, mut port) = client_and_port(rt.alloc(), NARROW)?;
-    assert!(rt; flushes(rt.alloc(), &mut client, &mut port)?);
-    Ok(())
+fn what_waits_is_put_once_there_is_room(alloc: Global) -> Result<bool, Memory> {
+    let (mut client, mut port) = client_and_port(alloc, NARROW)?;
+    flushes(alloc, &mut client, &mut port)
 }
 
 /// Makes calls of a client that may have one counted. Those that are not counted are done still.
@@ -347,34 +380,40 @@ fn is_spent(client: &mut Client) -> bool
         && left_crumb == Called::Done
 }
 
-#[test]
-fn a_spent_client_still_leaves_crumbs(rt: HostRuntime) -> Result<(), Fail> {
-    let (mut client, mut port) = client_and_port(rt.alloc(), ONE_CALL)?;
-    assert!(rt; is_spent(&mut client));
-    assert!(rt; next_crumb(&mut port) == Some(CRUMB));
-    assert!(rt; nothing_comes(&mut port));
-    Ok(())
+fn a_spent_client_still_leaves_crumbs(alloc: Global) -> Result<bool, Memory> {
+    let (mut client, mut port) = client_and_port(alloc, ONE_CALL)?;
+    let spent = is_spent(&mut client);
+    Ok(spent && next_crumb(&mut port) == Some(CRUMB) && nothing_comes(&mut port))
 }
 
-/// Whether a begin is refused, since no call may be counted.
+/// Whether a begin is refused, since no call may be counted, and nothing waits or was drawn.
 fn begins_nothing(client: &mut Client) -> bool
     ensures trace { IsTrue result → client.new.core.trace ≡ client.old.core.trace }
     ensures same { KeepsClient client.old client.new }
 {
-    client.begin(TraceId(1)) == Called::Spent
+    client.begin(TraceId(1)) == Called::Spent && client.nulls() == 0
+}
+
+fn nothing_at_all(alloc: Global) -> Result<bool, Memory> {
+    let (mut client, mut port) = client_and_port(alloc, NO_CALL)?;
+    if !begins_nothing(&mut client) {
+        return Ok(false);
+    }
+    let waits = flush(&mut client);
+    meet(&mut port, &mut client);
+    let left = close_all(alloc, client, port)?;
+    Ok(is_left(&left, &NOTHING) && waits == 0)
 }
 
 #[test]
-fn nothing_at_all(rt: HostRuntime) -> Result<(), Fail> {
-    let (mut client, mut port) = client_and_port(rt.alloc(), NO_CALL)?;
-    assert!(rt; begins_nothing(&mut client));
-    assert_eq!(rt; flush(&mut client), 0);
-    assert_eq!(rt; client.nulls(), 0);
-    meet(&mut port, &mut client);
-    let ending = close_all(rt.alloc(), client, port)?;
-    assert!(rt; has_noted(&ending.book, &[], &[]));
-    assert_eq!(rt; ending.book.client, CLIENT);
-    assert_eq!(rt; (ending.chunks, ending.crumbs, ending.triggers), (0, 0, 0));
-    assert_eq!(rt; ending.tally, NO_TALLY);
-    Ok(())
+fn clients(rt: HostRuntime) {
+    row(&rt, "refused", a_refused_call_sends_nothing(rt.alloc()));
+    row(&rt, "all calls", all_calls_on_one_thread(rt.alloc()));
+    row(
+        &rt,
+        "what waits",
+        what_waits_is_put_once_there_is_room(rt.alloc()),
+    );
+    row(&rt, "spent", a_spent_client_still_leaves_crumbs(rt.alloc()));
+    row(&rt, "nothing", nothing_at_all(rt.alloc()));
 }

@@ -3,12 +3,11 @@
 ghost use Rattle.std.specs.Prelude.{IsSome};
 ghost use Rattle.tests_with.specs.Pairs.{KeepsPort, HasClient};
 
-use hs_base::TraceId;
+use hs_base::{Memory, TraceId};
 use hs_live::AgentPort;
 use hs_ring::Lease;
-use hs_words::{Header, Held, PageFault, read_page};
+use hs_words::{Header, Held, Page, PageFault, read_page};
 use std::alloc::Global;
-use std::test::Fail;
 use tests_with::{CLIENT, give_back, next_chunk};
 
 /// What stands on a page: its number, its trace, the number of its first record, and of each piece the moment and the
@@ -21,10 +20,7 @@ pub struct Sheet {
 }
 
 /// Whether this stands on the page.
-pub fn is_sheet(alloc: Global, held: &Held<Lease>, sheet: &Sheet) -> Result<bool, PageFault>
-    requires { IsSome held.now.chunk.page }
-{
-    let page = read_page(alloc, held.chunk.bytes())?;
+fn is_page(page: &Page, sheet: &Sheet) -> bool {
     let header = Header {
         trace: TraceId(sheet.trace),
         client: CLIENT,
@@ -32,29 +28,39 @@ pub fn is_sheet(alloc: Global, held: &Held<Lease>, sheet: &Sheet) -> Result<bool
         first: sheet.first,
     };
     let points = page.points.as_slice();
-    Ok(
-        page.header == header
-            && points.len() == sheet.points.len()
-            && points.iter().zip(sheet.points).all(|(point, (moment, payload))| {
-                point.moment == *moment && point.payload.as_slice() == *payload
-            }),
-    )
+    let mut right = page.header == header && points.len() == sheet.points.len();
+    for (point, (moment, payload)) in points.iter().zip(sheet.points) {
+        right &= point.moment == *moment && point.payload.as_slice() == *payload;
+    }
+    right
 }
 
-/// Takes the next chunk, on whose page this should stand, and gives it back. Answers as `give_back` does.
+/// Whether this stands on the page of a chunk.
+pub fn is_sheet(alloc: Global, held: &Held<Lease>, sheet: &Sheet) -> Result<bool, Memory>
+    requires { IsSome held.now.chunk.page }
+{
+    match read_page(alloc, held.chunk.bytes()) {
+        Ok(page) => Ok(is_page(&page, sheet)),
+        Err(PageFault::Memory) => Err(Memory),
+        Err(_) => Ok(false),
+    }
+}
+
+/// Takes the next chunk, and gives it back where this stands on its page. Answers as `give_back` does, and `None` too where no chunk
+/// came or something else stands there.
 pub fn take_sheet(
     alloc: Global,
     port: &mut AgentPort,
     sheet: &Sheet,
-) -> Result<Option<(u32, u64)>, Fail>
+) -> Result<Option<(u32, u64)>, Memory>
     requires { HasClient port.old }
     ensures { KeepsPort port.old port.new }
 {
     let Some(held) = next_chunk(port) else {
-        return Err(Fail::from("no chunk came"));
+        return Ok(None);
     };
     if !is_sheet(alloc, &held, sheet)? {
-        return Err(Fail::from("something else stands on the page"));
+        return Ok(None);
     }
     Ok(give_back(port, held, 8))
 }

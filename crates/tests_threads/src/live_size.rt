@@ -4,14 +4,13 @@ ghost use Rattle.std.specs.Prelude.{◌≡◌, ℕ, ◌+◌, ◌*◌, ◌≤◌,
 ghost use Rattle.hs_records.specs.Records.{piece_count};
 ghost use Rattle.tests_with.specs.Pairs.{CanCall, KeepsPort, HasClient};
 
-use hs_base::TraceId;
 use hs_base::limits::{MAX_BUFFERS, MAX_PAYLOAD, MAX_SIZE};
+use hs_base::{Memory, TraceId};
 use hs_live::{AgentPort, Called, Client};
 use hs_ring::Lease;
 use hs_words::Held;
 use std::alloc::{AllocError, Global};
-use std::test::Fail;
-use tests_with::{Making, client_and_port, flush, give_back, next_chunk, nothing_comes};
+use tests_with::{Making, client_and_port, flush, give_back, next_chunk, nothing_comes, row};
 
 /// How many entries each link has.
 const CAPACITY: u32 = 64;
@@ -128,14 +127,22 @@ fn takes_all(client: &mut Client, port: &mut AgentPort) -> bool
     right == MAX_BUFFERS
 }
 
+/// Records with payloads of these sizes.
+fn records_of(alloc: Global, client: &mut Client) -> Result<bool, AllocError>
+    requires { CanCall MAX_SIZE (3 * RECORDS + 5) client.old }
+{
+    let longest = payload_of(alloc, MAX_PAYLOAD)?;
+    let too_long = payload_of(alloc, MAX_PAYLOAD + 1)?;
+    Ok(records(client, longest.as_slice(), too_long.as_slice()) && client.nulls() == 2)
+}
+
+fn the_greatest_sizes(alloc: Global) -> Result<bool, Memory> {
+    let (mut client, mut port) = client_and_port(alloc, GREATEST)?;
+    let recorded = records_of(alloc, &mut client)?;
+    Ok(recorded && takes_all(&mut client, &mut port) && nothing_comes(&mut port))
+}
+
 #[test]
-fn the_greatest_sizes(rt: HostRuntime) -> Result<(), Fail> {
-    let (mut client, mut port) = client_and_port(rt.alloc(), GREATEST)?;
-    let longest = payload_of(rt.alloc(), MAX_PAYLOAD)?;
-    let too_long = payload_of(rt.alloc(), MAX_PAYLOAD + 1)?;
-    assert!(rt; records(&mut client, longest.as_slice(), too_long.as_slice()));
-    assert_eq!(rt; client.nulls(), 2);
-    assert!(rt; takes_all(&mut client, &mut port));
-    assert!(rt; nothing_comes(&mut port));
-    Ok(())
+fn great_clients(rt: HostRuntime) {
+    row(&rt, "the greatest sizes", the_greatest_sizes(rt.alloc()));
 }

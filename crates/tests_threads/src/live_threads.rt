@@ -4,16 +4,17 @@ ghost use Rattle.std.specs.Thread.{IsSync};
 ghost use Rattle.tests_with.specs.Pairs.{CanCall, KeepsClient, KeepsPort, IsOnly, HasClient};
 
 use crate::live_calls::{Call, do_calls, is_closed};
+use hs_base::Memory;
 use hs_base::limits::MIN_SIZE;
 use hs_live::{AgentPort, Called, Client};
 use hs_ring::Lease;
 use hs_words::Held;
-use std::test::Fail;
+use std::alloc::Global;
 use std::thread;
 use std::thread::{Threads, join};
 use tests_with::{
-    Making, client_and_port, close_all, flush, give_back, meet, next_chunk, next_crumb,
-    next_trigger,
+    Making, PairEnding, client_and_port, close_all, flush, give_back, meet, next_chunk, next_crumb,
+    next_trigger, row,
 };
 
 /// Eight chunks, and links of eight entries.
@@ -152,27 +153,49 @@ fn settle(client: &mut Client, port: &mut AgentPort, seen: &mut Seen)
     }
 }
 
-#[test]
-fn a_client_in_a_thread_of_its_own(rt: HostRuntime) -> Result<(), Fail> {
-    let (client, port) = client_and_port(rt.alloc(), EIGHT)?;
-    let (mut client, others, mut port, mut seen) = work_and_serve(&rt, client, port);
+/// Whether all that was sent came, in order, each buffer was given back, and so much is left behind.
+fn is_whole(seen: &Seen, nulls: u32, left: &PairEnding) -> bool {
+    (left.chunks, left.crumbs, left.triggers) == (0, 0, 0)
+        && (seen.crumbs, seen.triggers, seen.strays) == (100, 100, 0)
+        && (left.book.pages.len(), left.book.draws.len()) == (300, 300)
+        && seen.pages.saturating_add(nulls) == 300
+        && left.tally.gots == u64::from(seen.pages)
+        && left.tally.empties == u64::from(nulls)
+}
+
+/// Takes what is left, and closes the client and its port. Answers whether all is whole.
+fn ends_whole(
+    alloc: Global,
+    mut client: Client,
+    mut port: AgentPort,
+    mut seen: Seen,
+) -> Result<bool, Memory>
+    requires can { CanCall MIN_SIZE 1 client }
+    requires ends { IsOnly port client }
+{
     settle(&mut client, &mut port, &mut seen);
     let nulls = client.nulls();
-    assert!(rt; is_closed(&mut client));
-    let ending = close_all(rt.alloc(), client, port)?;
-    assert_eq!(rt; (ending.chunks, ending.crumbs, ending.triggers), (0, 0, 0));
-    assert_eq!(rt;
-        (others, seen.crumbs, seen.triggers, seen.strays),
-        (0, 100, 100, 0)
+    if !is_closed(&mut client) {
+        return Ok(false);
+    }
+    let left = close_all(alloc, client, port)?;
+    Ok(is_whole(&seen, nulls, &left))
+}
+
+fn a_client_in_a_thread_of_its_own<R: Threads + Sync>(
+    rt: &R,
+    alloc: Global,
+) -> Result<bool, Memory> {
+    let (client, port) = client_and_port(alloc, EIGHT)?;
+    let (client, others, port, seen) = work_and_serve(rt, client, port);
+    Ok(ends_whole(alloc, client, port, seen)? && others == 0)
+}
+
+#[test]
+fn clients_in_threads(rt: HostRuntime) {
+    row(
+        &rt,
+        "a thread of its own",
+        a_client_in_a_thread_of_its_own(&rt, rt.alloc()),
     );
-    assert_eq!(rt;
-        (ending.book.pages.len(), ending.book.draws.len()),
-        (300, 300)
-    );
-    assert_eq!(rt; seen.pages.saturating_add(nulls), 300);
-    assert_eq!(rt;
-        (ending.tally.gots, ending.tally.empties),
-        (u64::from(seen.pages), u64::from(nulls))
-    );
-    Ok(())
 }
