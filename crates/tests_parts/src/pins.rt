@@ -34,15 +34,29 @@ fn admits(pins: &mut Pins<()>, moment: u64, earlier: u32) -> Admitted
     pins.admit(TriggerId(1), moment)
 }
 
-/// A token flows in a second; one that is refused counts none, and a moment that is past brings nothing.
+/// Admits at the moments 0, 999,999, 1,000,000 and 500,000.
+fn admits_all(pins: &mut Pins<()>) -> [Admitted; 4]
+    requires { IsReady 0 pins.old }
+{
+    [
+        admits(pins, 0, 0),
+        admits(pins, 999_999, 1),
+        admits(pins, 1_000_000, 2),
+        admits(pins, 500_000, 3),
+    ]
+}
+
+/// A token flows in a second; what is refused counts nothing, and a moment that is past brings nothing.
+const ONE_A_SECOND: [Admitted; 4] = [
+    Admitted::Admitted { number: 0 },
+    Admitted::Limited { level: 999_999 },
+    Admitted::Admitted { number: 1 },
+    Admitted::Limited { level: 0 },
+];
+
 fn one_token_a_second(alloc: Global) -> Result<bool, Memory> {
     let mut pins = fresh_pins(alloc, 4)?;
-    Ok(
-        admits(&mut pins, 0, 0) == Admitted::Admitted { number: 0 }
-            && admits(&mut pins, 999_999, 1) == Admitted::Limited { level: 999_999 }
-            && admits(&mut pins, 1_000_000, 2) == Admitted::Admitted { number: 1 }
-            && admits(&mut pins, 500_000, 3) == Admitted::Limited { level: 0 },
-    )
+    Ok(admits_all(&mut pins) == ONE_A_SECOND)
 }
 
 /// Lets go what is over. Answers whether one chunk goes, of this group.
