@@ -1,10 +1,11 @@
 //! A node's agent at the empty lease with as many pins as there may be, and one for which memory is wanting. What an agent does else is
 //! shown by `examples/`, by `cases/agents` and by the journals of `cases/lawful`.
 
+use crate::rows::row;
 use hs_base::limits::{MAX_PINS, MAX_THRESHOLD, MAX_TRACES};
 use hs_base::{Laterals, Memory};
 use std::alloc::Global;
-use tests_with::{Limits, Site, row};
+use tests_with::{Limits, Site};
 
 const FEW: Limits = Limits {
     threshold: 2,

@@ -2,11 +2,11 @@
 
 ghost use Rattle.hs_base.specs.Rules.{IsAutoRule};
 
+use crate::rows::row;
 use hs_auto::{Auto, Sampled};
 use hs_base::limits::{MAX_LATERALS, MAX_WINDOW, WHOLE_SHARE};
 use hs_base::{AutoRule, Laterals, Memory, TraceId, TriggerId};
 use std::alloc::Global;
-use tests_with::row;
 
 const TRIGGER: TriggerId = TriggerId(1);
 

@@ -3,10 +3,10 @@
 
 ghost use Rattle.std.specs.Prelude.{◌≤◌, length};
 
+use crate::rows::row;
 use hs_base::limits::MAX_INPUT;
 use hs_base::{Failed, List, Memory, MemorySink, MemorySource, Sink, Source, TraceId, rank_of};
 use std::alloc::Global;
-use tests_with::row;
 
 /// Traces and the first words of SplitMix64 from their seeds. The last id is wide: its halves' exclusive-or is
 /// the second one's.

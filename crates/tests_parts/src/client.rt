@@ -1,10 +1,10 @@
 //! A core that counts as many calls as may be, and one that counts none. What a client writes is shown by `examples/` and `cases/pages`.
 
+use crate::rows::row;
 use hs_base::limits::{MAX_OPERATIONS, MAX_SIZE, MIN_SIZE};
 use hs_base::{ClientId, Memory, TraceId};
 use hs_client::{Begun, ClientCore, Ended};
 use std::alloc::Global;
-use tests_with::row;
 
 const OWNER: ClientId = ClientId { node: 0, number: 0 };
 

@@ -3,12 +3,13 @@
 ghost use Rattle.std.specs.Prelude.{◌≤◌};
 ghost use Rattle.tests_with.specs.Pages.{HasAdded};
 
+use crate::rows::row;
 use hs_base::limits::{MAX_SIZE, MAX_TRACES, MIN_SIZE};
 use hs_base::{Memory, TraceId};
 use hs_collect::Collector;
 use hs_words::{Chunk, Stock};
 use std::alloc::Global;
-use tests_with::{add_page, fill_page, no_pages, row};
+use tests_with::{add_page, fill_page, no_pages};
 
 /// A chunk of this size.
 fn chunk_of(alloc: Global, size: u32) -> Result<Chunk, Memory>

@@ -3,11 +3,11 @@
 
 ghost use Rattle.std.specs.Prelude.{◌≤◌};
 
+use crate::rows::row;
 use hs_base::{ClientId, Memory, RecordId, TraceId};
 use hs_compare::limits::MAX_ROOM;
 use hs_compare::{RingTail, head};
 use std::alloc::Global;
-use tests_with::row;
 
 /// The rank word of this trace is 6e789e6aa1b965f4, and that of the trace 0 is e220a8397b1dcdaf.
 const EVEN: TraceId = TraceId(0x9e37_79b9_7f4a_7c15);

@@ -2,11 +2,11 @@
 
 ghost use Rattle.std.specs.Prelude.{◌≡◌, ◌<◌, ◌≤◌, OnOk};
 
+use crate::rows::row;
 use hs_base::limits::MAX_NODES;
 use hs_base::{Group, GroupId, Laterals, Memory, NodeId, NodeSet, Told, TraceId, TriggerId, Why};
 use hs_coord::Coordinator;
 use std::alloc::Global;
-use tests_with::row;
 
 /// How many groups there are.
 const GROUPS: u32 = 50_000;

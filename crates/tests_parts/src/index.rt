@@ -2,12 +2,12 @@
 
 ghost use Rattle.std.specs.Prelude.{◌<◌, IsSome};
 
+use crate::rows::row;
 use hs_base::limits::{MAX_NODES, MAX_THRESHOLD, MAX_TRACES, MIN_SIZE};
 use hs_base::{ClientId, Crumb, List, Memory, NodeId, NodeSet, TraceId};
 use hs_index::{Gone, TraceIndex};
 use hs_words::{Chunk, Header, Held, Stock};
 use std::alloc::Global;
-use tests_with::row;
 
 /// The chunk with a page of the trace.
 fn held_of(mut chunk: Chunk, trace: u32) -> Held<()>

@@ -1,11 +1,11 @@
 //! A journal that comes back, one of great length, the example cut at each byte, and what stands behind an end. What a journal says is shown
 //! by `cases/lawful`, and each reason to refuse one by `cases/no-journal`.
 
+use crate::rows::row;
 use crate::workload::{line_behind, push_often};
 use hs_base::Memory;
 use hs_journal::{JournalError, JournalReason, read_journal, write_journal};
 use std::alloc::{AllocError, Global};
-use tests_with::row;
 
 /// A client draws twice and finds the pool empty at the second draw.
 const EXAMPLE: &[u8] =

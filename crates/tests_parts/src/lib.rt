@@ -30,6 +30,8 @@ mod pool;
 #[cfg(test)]
 mod records;
 #[cfg(test)]
+mod rows;
+#[cfg(test)]
 mod sched;
 #[cfg(test)]
 mod text;

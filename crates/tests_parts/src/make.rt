@@ -1,11 +1,11 @@
 //! As many requests as may be are made. What is made of a seed stands in `cases/made`, and that it is read back in `cases/convert`.
 
+use crate::rows::row;
 use hs_base::Memory;
 use hs_base::limits::MAX_REQUESTS;
 use hs_make::make_workload;
 use hs_workload::Workload;
 use std::alloc::Global;
-use tests_with::row;
 
 /// The operations in as many requests of seed 7 as may be, worked out by a program of its own.
 const MOST_REQUESTS: usize = 109_887;

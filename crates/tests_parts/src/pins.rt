@@ -5,6 +5,7 @@ ghost use Rattle.std.specs.Prelude.{◌+◌, ◌<◌, ◌≤◌, IfOk};
 ghost use Rattle.hs_base.specs.Rules.{AreRules};
 ghost use Rattle.tests_with.specs.Claims.{IsReady};
 
+use crate::rows::row;
 use hs_base::limits::{
     MAX_BUFFERS, MAX_PINS, MAX_SIZE, MAX_STRIDE, MAX_THRESHOLD, MAX_TRACES, MAX_TRIGGER,
 };
@@ -13,7 +14,7 @@ use hs_pins::{Admitted, Attempt, Bucket, Dropped, Pins};
 use std::alloc::Global;
 use tests_with::{
     CLAIMED, arrives, claims, claims_pages, fresh_pins, greatest_rules, group_of, lets_go, page_of,
-    pages_of, row, went,
+    pages_of, went,
 };
 
 /// The lead of least rank of all that are named here; that of 0 is greater.

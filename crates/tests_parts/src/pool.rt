@@ -1,11 +1,11 @@
 //! A pool of as many buffers as may be.
 
+use crate::rows::row;
 use hs_base::Memory;
 use hs_base::limits::{MAX_BUFFERS, MAX_SIZE};
 use hs_pool::PlainPool;
 use hs_words::{Drawn, Stock};
 use std::alloc::Global;
-use tests_with::row;
 
 /// The buffer that a draw got, and its stamp.
 fn answer_of(drawn: &Drawn<()>) -> (Option<u32>, u64) {

@@ -1,8 +1,8 @@
 //! How many pieces a payload has.
 
+use crate::rows::row;
 use hs_base::limits::{MAX_PAYLOAD, MAX_SIZE, MIN_SIZE};
 use hs_records::{piece_count, piece_limit};
-use tests_with::row;
 
 /// The size of a page, the bytes of a payload, and its pieces.
 const COUNTS: [(u32, usize, usize); 8] = [

@@ -4,11 +4,12 @@ ghost use Rattle.std.specs.Prelude.{◌≡◌, ◌+◌, ◌≤◌, ℕ, [], repl
 ghost use Rattle.hs_base.specs.Rules.{AreRules};
 ghost use Rattle.hs_sched.specs.Turns.{IsSchedule, share_of, shares_of};
 
+use crate::rows::row;
 use hs_base::limits::{MAX_SIZE, MAX_TRIGGER, MIN_SIZE};
 use hs_base::{List, Memory, TriggerId, TriggerRule};
 use hs_sched::{Queues, Scheduler};
 use std::alloc::Global;
-use tests_with::{greatest_rules, row};
+use tests_with::greatest_rules;
 
 const COST: u32 = 44;
 

@@ -1,6 +1,7 @@
 //! Lines that are long and many, and texts that are looked at whole. Each kind of word and number is read and written by the rows of
 //! `cases/convert` and `cases/refused`.
 
+use crate::rows::row;
 use hs_base::limits::MAX_PAYLOAD;
 use hs_base::{Memory, TraceId};
 use hs_text::{
@@ -8,7 +9,6 @@ use hs_text::{
     push_payload, push_spaced, push_spaced_numbers, push_spaced_traces,
 };
 use std::alloc::Global;
-use tests_with::row;
 
 /// Texts of more than thirty-two bytes, which are looked at by pieces, and short ones; and whether each is tidy.
 const TEXTS: [(&[u8], bool); 6] = [

@@ -2,11 +2,11 @@
 
 ghost use Rattle.std.specs.Prelude.{IsSome};
 
+use crate::rows::row;
 use hs_base::limits::{MAX_BUFFERS, MAX_SIZE, MIN_SIZE};
 use hs_base::{ClientId, Memory, TraceId};
 use hs_words::{Added, Chunk, Header, PageFault, Stock, read_page};
 use std::alloc::Global;
-use tests_with::row;
 
 /// Trace 1, node 0, client 0, page 0, first record 0; one piece at moment 5 with the payload aa.
 const EXAMPLE: [u8; 43] = [

@@ -1,11 +1,11 @@
 //! Texts of as many operations as may be, of one more, and of a payload that is too long; and the example cut at each byte. Each other
 //! reason to refuse a text has its files in `cases/refused`, and what is read and written stands in `cases/convert`.
 
+use crate::rows::row;
 use hs_base::Memory;
 use hs_base::limits::MAX_PAYLOAD;
 use hs_workload::{ReadError, Reason, Refusal, read_workload, write_workload};
 use std::alloc::{AllocError, Global};
-use tests_with::row;
 
 /// The head of the least workload of version 1, nine lines.
 const HEAD: &[u8] =

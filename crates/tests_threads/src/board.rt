@@ -3,12 +3,12 @@
 ghost use Rattle.std.specs.Prelude.{◌≡◌, ◌+◌, ◌≤◌, OnOk};
 ghost use Rattle.tests_threads.specs.Shown.{EndsBelow};
 
+use crate::rows::row;
 use hs_base::limits::MAX_OPERATIONS;
 use hs_base::{List, Memory};
 use hs_board::{BoardReader, BoardWriter, MAX_READERS, Progress, board};
 use std::alloc::Global;
 use std::sync::Wait;
-use tests_with::row;
 
 /// What a row looks at.
 #[derive(Drop)]

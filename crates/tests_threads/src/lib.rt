@@ -22,3 +22,5 @@ mod locked;
 mod marks;
 #[cfg(test)]
 mod rings;
+#[cfg(test)]
+mod rows;

@@ -3,13 +3,13 @@ ghost use Rattle.std.specs.Prelude.{◌≡◌, ◌<◌, ◌≤◌, [], IfOk, ⊤
 ghost use Rattle.std.specs.Thread.{IsSync};
 ghost use Rattle.hs_link.specs.Contents.{sent};
 
+use crate::rows::row;
 use hs_base::Memory;
 use hs_link::{Fact, Receiver, Rest, Sender, Sent, close_both, link};
 use std::alloc::{AllocError, Global};
 use std::sync::Wait;
 use std::thread;
 use std::thread::{Threads, join};
-use tests_with::row;
 
 /// The condition that is true of every item.
 struct Anything;

@@ -5,6 +5,7 @@ ghost use Rattle.tests_with.specs.Pairs.{CanCall, KeepsClient, KeepsPort, IsOnly
 
 use crate::live_calls::{Call, FULL, do_calls, is_closed};
 use crate::live_sheets::{Sheet, take_sheet};
+use crate::rows::row;
 use hs_base::limits::MIN_SIZE;
 use hs_base::{Crumb, Laterals, Memory, NodeId, TraceId, Trigger};
 use hs_journal::{ClientBook, Draw, PageNote};
@@ -13,7 +14,7 @@ use hs_words::Tally;
 use std::alloc::Global;
 use tests_with::{
     CLIENT, ID, Making, PairEnding, client_and_port, close_all, flush, meet, next_crumb,
-    next_trigger, nothing_comes, row,
+    next_trigger, nothing_comes,
 };
 
 /// Two chunks of the least size.

@@ -4,13 +4,14 @@ ghost use Rattle.std.specs.Prelude.{◌≡◌, ℕ, ◌+◌, ◌*◌, ◌≤◌,
 ghost use Rattle.hs_records.specs.Records.{piece_count};
 ghost use Rattle.tests_with.specs.Pairs.{CanCall, KeepsPort, HasClient};
 
+use crate::rows::row;
 use hs_base::limits::{MAX_BUFFERS, MAX_PAYLOAD, MAX_SIZE};
 use hs_base::{Memory, TraceId};
 use hs_live::{AgentPort, Called, Client};
 use hs_ring::Lease;
 use hs_words::Held;
 use std::alloc::{AllocError, Global};
-use tests_with::{Making, client_and_port, flush, give_back, next_chunk, nothing_comes, row};
+use tests_with::{Making, client_and_port, flush, give_back, next_chunk, nothing_comes};
 
 /// How many entries each link has.
 const CAPACITY: u32 = 64;

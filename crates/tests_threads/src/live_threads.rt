@@ -4,6 +4,7 @@ ghost use Rattle.std.specs.Thread.{IsSync};
 ghost use Rattle.tests_with.specs.Pairs.{CanCall, KeepsClient, KeepsPort, IsOnly, HasClient};
 
 use crate::live_calls::{Call, do_calls, is_closed};
+use crate::rows::row;
 use hs_base::Memory;
 use hs_base::limits::MIN_SIZE;
 use hs_live::{AgentPort, Called, Client};
@@ -14,7 +15,7 @@ use std::thread;
 use std::thread::{Threads, join};
 use tests_with::{
     Making, PairEnding, client_and_port, close_all, flush, give_back, meet, next_chunk, next_crumb,
-    next_trigger, row,
+    next_trigger,
 };
 
 /// Eight chunks, and links of eight entries.

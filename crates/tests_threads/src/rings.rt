@@ -5,6 +5,7 @@ ghost use Rattle.std.specs.Thread.{IsSync};
 ghost use Rattle.tests_threads.specs.Seats.{HaveSeats};
 
 use crate::marks::{are_set, mark, marks_of};
+use crate::rows::row;
 use hs_base::limits::MAX_BUFFERS;
 use hs_base::{List, Memory};
 use hs_ring::{Drawer, Giver, Lease, close};
@@ -15,7 +16,7 @@ use std::sync::Wait;
 use std::sync::atomic::AtomicU64;
 use std::thread;
 use std::thread::{Threads, join_mut};
-use tests_with::{ring_of, row, work_ring};
+use tests_with::{ring_of, work_ring};
 
 /// How often each of five drawers draws.
 const DRAWS: u32 = 500;

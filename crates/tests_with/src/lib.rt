@@ -9,7 +9,6 @@ mod moves;
 mod pages;
 mod pins;
 mod rings;
-mod rows;
 mod rules;
 mod site;
 mod spent;
@@ -22,7 +21,6 @@ pub use pins::{
     CLAIMED, arrives, claims, claims_pages, fresh_pins, group_of, lets_go, page_of, pages_of, went,
 };
 pub use rings::{ring_of, work_ring};
-pub use rows::row;
 pub use rules::greatest_rules;
 pub use site::{Limits, Site};
 pub use spent::{Seen, Spent, bare, now, rest, since};

@@ -5,7 +5,7 @@ use hs_base::Memory;
 use std::process::Abort;
 
 /// Stops at a row that is not as wanted, and names it.
-pub fn row<R: Abort>(rt: &R, name: &str, came: Result<bool, Memory>) {
+pub(crate) fn row<R: Abort>(rt: &R, name: &str, came: Result<bool, Memory>) {
     if !matches!(came, Ok(true)) {
         panic!(rt; "the row is not as wanted: {name}");
     }
