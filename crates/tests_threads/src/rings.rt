@@ -18,8 +18,8 @@ use std::thread;
 use std::thread::{Threads, join_mut};
 use tests_with::{ring_of, work_ring};
 
-/// How often each of five drawers draws.
-const DRAWS: u32 = 500;
+/// How often each of five drawers draws: so seldom that four of them leave some of the chunks to the fifth.
+const DRAWS: u32 = 250;
 
 /// A pool of one chunk with one drawer.
 fn one_drawer(alloc: Global) -> Result<(Giver, Drawer), Memory>
