@@ -5,7 +5,7 @@ ghost use Rattle.std.specs.List.{AllByRecursion};
 ghost use Rattle.hs_base.specs.declared.ids.TraceId.{TraceId};
 ghost use Rattle.hs_ledger.specs.declared.ledger.Entry.{Entry};
 ghost use Rattle.hs_compare.specs.Lines.{is_gap, is_limited};
-ghost use Rattle.hs_compare.specs.Counting.{HasCountsOf, times, is_counted};
+ghost use Rattle.hs_compare.specs.Counting.{AreCounted, HasCountsOf, times, is_counted};
 ghost use Rattle.hs_compare.specs.Ringing.{is_among};
 ghost use Rattle.hs_compare.specs.declared.coming.Coming.{Coming};
 ghost use Rattle.hs_compare.specs.Marked.{marked, bytes_in, traces_of};
@@ -206,6 +206,42 @@ fn rest_of(
     })
 }
 
+/// The comparison, where `kept` are the traces of the records that tail sampling keeps, `counts` says how often each stands there, and
+/// `rest` is what was not reported.
+fn compared_by(
+    alloc: Global,
+    all: &[Coming],
+    entries: &[Entry],
+    ring: &RingTail,
+    kept: &[TraceId],
+    counts: &Counts,
+    rest: Rest,
+    one_in: u32,
+) -> Result<Comparison, Memory>
+    requires traces { kept.now ≡ traces_of (marked (marks_of_named ring.now.named all.now) all.now) }
+    requires counted { AreCounted kept.now counts.now.entries }
+    requires each { length entries.now ≡ length all.now }
+    requires some { 1 ≤ one_in }
+    requires few { length all.now ≤ MAX_OPERATIONS }
+    requires kept { length ring.now.traces ≤ MAX_OPERATIONS }
+    requires bytes { bytes_in all.now < 2 ^ 64 }
+    requires once { (trace : TraceId) → times ring.now.named trace ≤ 1 }
+    ensures { (claimed : List TraceId) → rest.gap ≡ count_by (is_gap claimed) entries.now → rest.limited ≡ count_by (is_limited ring.now.named claimed) entries.now
+        → IfOk result (λ comparison. comparison ≡ comparison_by one_in all.now ring.now.named ring.now.traces entries.now claimed) }
+{
+    let known = counted_of(alloc, counts, ring.named())?;
+    let named = known.as_slice();
+    let shipped = all_bytes(all);
+    Ok(Comparison {
+        head: head_line(alloc, all, counts, named, one_in)?,
+        tail: counted_line(counts, named, kept, counts, shipped),
+        ring: ring_line(alloc, counts, named, ring, shipped)?,
+        hindsight: hindsight_line(alloc, all, counts, named, entries)?,
+        gap: rest.gap,
+        limited: rest.limited,
+    })
+}
+
 /// What the samplers keep of these records, where the ring went through them and `claimed` are the claimed
 /// traces, all of which were named. Only the records of named traces are counted by their traces.
 pub(crate) fn compared(
@@ -229,15 +265,5 @@ pub(crate) fn compared(
     let kept = tail.as_slice();
     let counts = counted(alloc, kept)?;
     let rest = rest_of(alloc, &counts, entries, ring, claimed)?;
-    let known = counted_of(alloc, &counts, ring.named())?;
-    let named = known.as_slice();
-    let shipped = all_bytes(all);
-    Ok(Comparison {
-        head: head_line(alloc, all, &counts, named, one_in)?,
-        tail: counted_line(&counts, named, kept, &counts, shipped),
-        ring: ring_line(alloc, &counts, named, ring, shipped)?,
-        hindsight: hindsight_line(alloc, all, &counts, named, entries)?,
-        gap: rest.gap,
-        limited: rest.limited,
-    })
+    compared_by(alloc, all, entries, ring, kept, &counts, rest, one_in)
 }
