@@ -1,11 +1,17 @@
 -- From what an input has to what a command is about, and from an output to what it answers.
-use Rattle.std.proofs.Common.{◌≡◌, ◌≤◌, ℕ, List, Option, length, sym, subst, arith}
+use Rattle.std.proofs.Common.{◌≡◌, ◌∙◌, ◌≤◌, ℕ, List, [], ◌∷◌, Option, length, sym, ap, subst, arith}
 use Rattle.hs_base.specs.declared.limits.TheConstants.{MAX_INPUT}
 use Rattle.hs_records.specs.Plain.{PlainWorkload}
 use Rattle.hs_streams.specs.Input.{ReadWhole}
 use Rattle.hs_journal.specs.Views.{PlainJournal}
 use Rattle.hs_cli.specs.Answers.{IsSubject, IsFoundIn, IsAnswer, IsJudged}
-use Rattle.hs_cli.specs.Endings.{IsReader, IsAbout, AreParts, Due}
+use Rattle.hs_ledger.specs.declared.ledger.Totals.{Totals}
+use Rattle.hs_ledger.specs.Totals.{totals_of}
+use Rattle.hs_law_lockstep.specs.Lockstep.{lockstep}
+use Rattle.hs_law_outcome.specs.Outcomes.{outcome_of}
+use Rattle.hs_law_outcome.specs.OutcomeText.{total_line}
+use Rattle.hs_text.specs.Text.{text_of}
+use Rattle.hs_cli.specs.Endings.{IsReader, IsAbout, AreParts, Due, drill_text}
 use Rattle.hs_cli.specs.declared.answer.Subject.{Subject}
 use Rattle.hs_cli.specs.declared.answer.Subject.TheVariants.{Found, Refused, TooLong, Fault, NoMemory}
 use Rattle.hs_cli.specs.declared.command.Command.{Command}
@@ -48,6 +54,10 @@ pub answered_as : (command : Command) (W : PlainWorkload) (journal : List ℕ) (
     → IsAnswer command W journal same text → IsAnswer command W journal status out
 answered_as command W journal status same out text is told answer =
     subst (λ (s : Status). IsAnswer command W journal s out) (sym is) (subst (λ (t : List ℕ). IsAnswer command W journal same t) (sym told) answer)
+
+-- what a drill prints, by the totals of its outcome
+pub drill_is : (W : PlainWorkload) (totals : Totals) (text : List ℕ) → totals ≡ totals_of (outcome_of W (lockstep W)).entries → text ≡ text_of (total_line totals ∷ []) → text ≡ drill_text W
+drill_is W totals text same is = is ∙ ap (λ (t : Totals). text_of (total_line t ∷ [])) same
 
 -- a verdict by its status and its text
 pub judged_as : (W : PlainWorkload) (J : PlainJournal) (status same : Status) (out text : List ℕ) → status ≡ same → out ≡ text → IsJudged W J same text → IsJudged W J status out

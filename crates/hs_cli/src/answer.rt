@@ -1,11 +1,12 @@
 //! The workload that a command is about, and what it answers for it.
 
-ghost use Rattle.std.specs.Prelude.{◌≡◌, ◌≤◌, ◌⊎◌, ◌++◌, false, IfOk, length};
+ghost use Rattle.std.specs.Prelude.{◌≡◌, ◌≤◌, ◌⊎◌, ◌++◌, [], false, IfOk, length};
 ghost use Rattle.hs_base.specs.declared.limits.TheConstants.{MAX_INPUT};
 ghost use Rattle.hs_workload.specs.Validity.{IsValid};
 ghost use Rattle.hs_workload.specs.Views.{workload_of};
 ghost use Rattle.hs_cli.specs.Commands.{IsSized, is_watched};
-ghost use Rattle.hs_cli.specs.Endings.{IsReader, IsUntouched, workload_in, journal_in};
+ghost use Rattle.hs_cli.specs.Endings.{Due, IsReader, IsUntouched, drill_text, workload_in, journal_in};
+ghost use Rattle.hs_cli.specs.declared.command.Command.TheVariants.{Replay, Run, Convert};
 ghost use Rattle.hs_cli.specs.Answers.{IsSubject, IsFoundIn, IsAnswer};
 ghost use Rattle.hs_streams.specs.declared.status.Status.TheVariants.{Done};
 
@@ -16,6 +17,7 @@ use hs_base::{Bytes, Gate, Memory, Source};
 use hs_check::split_input;
 use hs_json::{Parts, outcome_parts};
 use hs_law_lockstep::laws::schedule_is_lawful;
+use hs_law_outcome::Form;
 use hs_make::make_workload;
 use hs_replay::{into_outcome, replay, write_total};
 use hs_run::run;
@@ -151,9 +153,57 @@ pub(crate) fn done_with(parts: Parts) -> Answer
     }
 }
 
+/// What `replay` prints of a workload, which is let go before its outcome is made.
+fn replayed(alloc: Global, workload: Workload, form: Form) -> Result<Parts, Memory>
+    requires { IsValid (workload_of workload) }
+    ensures { IfOk result (λ parts. Due (Replay form) (workload_of workload) [] (parts.journal.items ++ parts.behind.items)) }
+{
+    schedule_is_lawful();
+    let outcome = into_outcome(alloc, workload)?;
+    outcome_parts(alloc, outcome, form)
+}
+
+/// What `run` prints of a workload, which is let go before its outcome is written.
+fn ran<R: Threads + Sync, G: Gate>(
+    rt: &R,
+    alloc: Global,
+    gate: &G,
+    workload: Workload,
+    form: Form,
+) -> Result<Parts, Memory>
+    requires { IsValid (workload_of workload) }
+    ensures { IfOk result (λ parts. Due (Run form) (workload_of workload) [] (parts.journal.items ++ parts.behind.items)) }
+{
+    let outcome = run(rt, alloc, &workload, gate)?;
+    drop(workload);
+    outcome_parts(alloc, outcome, form)
+}
+
+/// What `convert` prints of a workload.
+fn converted(alloc: Global, workload: Workload) -> Result<Bytes, Memory>
+    requires { IsValid (workload_of workload) }
+    ensures { IfOk result (λ text. Due Convert (workload_of workload) [] text.items) }
+{
+    versions_are_exchanged();
+    let widened = Workload {
+        version: 2,
+        settings: workload.settings,
+        clients: workload.clients,
+    };
+    write_workload(alloc, &widened)
+}
+
+/// What `drill` prints of the workload that it makes.
+fn drilled(alloc: Global, workload: &Workload) -> Result<Bytes, Memory>
+    requires { IsValid (workload_of workload.now) }
+    ensures { IfOk result (λ text. text.items ≡ drill_text (workload_of workload.now)) }
+{
+    let outcome = replay(alloc, workload)?;
+    write_total(alloc, &outcome)
+}
+
 /// What a command without watchers answers for a workload, and `check` for a workload and the text of a journal. Each actor of a
-/// run passes the gate before each of its steps. A workload that was played is let go before its outcome is written, and one that was
-/// replayed before its outcome is made.
+/// run passes the gate before each of its steps.
 pub(crate) fn answer_for<R: Threads + Sync, G: Gate>(
     rt: &R,
     alloc: Global,
@@ -170,31 +220,12 @@ pub(crate) fn answer_for<R: Threads + Sync, G: Gate>(
 {
     match command {
         Command::Check => judge(alloc, &workload, journal),
-        Command::Replay { form } => {
-            schedule_is_lawful();
-            let outcome = into_outcome(alloc, workload)?;
-            Ok(done_with(outcome_parts(alloc, outcome, form)?))
-        }
-        Command::Run { form } => {
-            let outcome = run(rt, alloc, &workload, gate)?;
-            drop(workload);
-            Ok(done_with(outcome_parts(alloc, outcome, form)?))
-        }
+        Command::Replay { form } => Ok(done_with(replayed(alloc, workload, form)?)),
+        Command::Run { form } => Ok(done_with(ran(rt, alloc, gate, workload, form)?)),
         Command::Watch => unreachable!(),
-        Command::Convert => {
-            versions_are_exchanged();
-            let widened = Workload {
-                version: 2,
-                settings: workload.settings,
-                clients: workload.clients,
-            };
-            Ok(done(alloc, write_workload(alloc, &widened)?))
-        }
+        Command::Convert => Ok(done(alloc, converted(alloc, workload)?)),
         Command::Make { seed: _, size: _ } => Ok(done(alloc, write_workload(alloc, &workload)?)),
-        Command::Drill { seed: _, size: _ } => {
-            let outcome = replay(alloc, &workload)?;
-            Ok(done(alloc, write_total(alloc, &outcome)?))
-        }
+        Command::Drill { seed: _, size: _ } => Ok(done(alloc, drilled(alloc, &workload)?)),
         Command::Compare { one_in, room } => {
             Ok(done(alloc, comparison(alloc, &workload, one_in, room)?))
         }
