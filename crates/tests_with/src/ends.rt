@@ -1,19 +1,20 @@
 //! A client and the port of its node, made and closed.
 
-ghost use Rattle.std.specs.Prelude.{◌≡◌, ◌+◌, ◌^◌, ◌<◌, ◌≤◌, [], ◌∷◌, None, IfOk};
+ghost use Rattle.std.specs.Prelude.{◌≡◌, ◌+◌, ◌^◌, ◌<◌, ◌≤◌, true, [], ◌∷◌, None, IfOk};
 ghost use Rattle.hs_base.specs.declared.limits.TheConstants.{MAX_BUFFERS, MIN_SIZE, MAX_SIZE, MAX_OPERATIONS};
+ghost use Rattle.hs_base.specs.Rules.{is_declared};
 ghost use Rattle.hs_client.specs.Core.{new_core};
 ghost use Rattle.hs_link.specs.Contents.{sent};
 ghost use Rattle.hs_live.specs.Calls.{IsOf};
 ghost use Rattle.hs_live.specs.Live.{outgoing, incoming};
 ghost use Rattle.hs_ring.specs.Parts.{AreNewEnds};
-ghost use Rattle.tests_with.specs.Pairs.{CanCall, IsOnly, IsKeyOf, HasParts, links};
+ghost use Rattle.tests_with.specs.Pairs.{CanCall, IsOnly, IsKeyOf, IsNewLink, HasParts, id, links};
 
 use hs_auto::Auto;
 use hs_base::{AutoRule, ClientId, Crumb, List, Memory, Trigger, TriggerId, TriggerRule};
 use hs_client::ClientCore;
 use hs_journal::ClientBook;
-use hs_link::{Fact, Receiver, Rest, Sender, close_both, link};
+use hs_link::{Fact, Receiver, Sender, close_both, link};
 use hs_live::{AgentPort, Client, ClientKey, Closed, PortParts};
 use hs_ring::{Drawer, Giver, Lease, RingPool, close};
 use hs_words::{Held, Stock, Tally};
@@ -75,44 +76,116 @@ fn pool(alloc: Global, buffers: u32, size: u32, draws: u32) -> Result<(Giver, Dr
     Ok((giver, drawer))
 }
 
+/// A client's ends of its links.
+#[derive(Drop)]
+struct Senders {
+    chunks: Sender<Held<Lease>, ClientKey>,
+    crumbs: Sender<Crumb, ClientKey>,
+    triggers: Sender<Trigger, ClientKey>,
+}
+
+/// The port's ends of the same links.
+#[derive(Drop)]
+struct Receivers {
+    chunks: Receiver<Held<Lease>, ClientKey>,
+    crumbs: Receiver<Crumb, ClientKey>,
+    triggers: Receiver<Trigger, ClientKey>,
+}
+
+/// Links of so many entries each, which take so many items each.
+fn links_of(
+    alloc: Global,
+    capacity: u32,
+    room: u32,
+    key: &ClientKey,
+) -> Result<(Senders, Receivers), Memory>
+    requires { 1 ≤ capacity }
+    ensures chunks { IfOk result (λ ends. IsNewLink key.now capacity room ends.0.chunks ends.1.chunks) }
+    ensures crumbs { IfOk result (λ ends. IsNewLink key.now capacity room ends.0.crumbs ends.1.crumbs) }
+    ensures triggers { IfOk result (λ ends. IsNewLink key.now capacity room ends.0.triggers ends.1.triggers) }
+{
+    let (chunks, chunk_end) = link::<Held<Lease>, ClientKey>(alloc, capacity, room, key)?;
+    let (crumbs, crumb_end) = link::<Crumb, ClientKey>(alloc, capacity, room, key)?;
+    let (triggers, trigger_end) = link::<Trigger, ClientKey>(alloc, capacity, room, key)?;
+    let senders = Senders {
+        chunks,
+        crumbs,
+        triggers,
+    };
+    let receivers = Receivers {
+        chunks: chunk_end,
+        crumbs: crumb_end,
+        triggers: trigger_end,
+    };
+    Ok((senders, receivers))
+}
+
 /// A client with these ends, and with the one autotrigger.
 fn client_of(
     alloc: Global,
     core: ClientCore<Lease>,
     drawer: Drawer,
-    chunks: Sender<Held<Lease>, ClientKey>,
-    crumbs: Sender<Crumb, ClientKey>,
-    triggers: Sender<Trigger, ClientKey>,
+    ends: Senders,
 ) -> Result<Client, Memory>
     requires core { core ≡ new_core core.client core.size core.calls }
     requires drawer { drawer.size ≡ core.size }
-    requires chunks { (sent (outgoing chunks) ≡ []) × IsKeyOf core drawer chunks.key }
-    requires crumbs { (sent crumbs ≡ []) × IsKeyOf core drawer crumbs.key }
-    requires triggers { (sent triggers ≡ []) × IsKeyOf core drawer triggers.key }
-    requires rooms { chunks.room + crumbs.room + triggers.room < 2 ^ 32 }
-    ensures { IfOk result (λ client. HasParts client core drawer (outgoing chunks) crumbs triggers) }
+    requires chunks { (sent (outgoing ends.chunks) ≡ []) × IsKeyOf core drawer ends.chunks.key }
+    requires crumbs { (sent ends.crumbs ≡ []) × IsKeyOf core drawer ends.crumbs.key }
+    requires triggers { (sent ends.triggers ≡ []) × IsKeyOf core drawer ends.triggers.key }
+    requires rooms { ends.chunks.room + ends.crumbs.room + ends.triggers.room < 2 ^ 32 }
+    ensures { IfOk result (λ client. HasParts client core drawer (outgoing ends.chunks) ends.crumbs ends.triggers) }
 {
     let autos = only(alloc, Auto::make(alloc, AUTO)?)?;
+    let Senders {
+        chunks,
+        crumbs,
+        triggers,
+    } = ends;
     Ok(Client::make(core, autos, drawer, chunks, crumbs, triggers))
 }
 
 /// A port with these ends.
-fn port_of(
-    alloc: Global,
-    giver: Giver,
-    chunks: Receiver<Held<Lease>, ClientKey>,
-    crumbs: Receiver<Crumb, ClientKey>,
-    triggers: Receiver<Trigger, ClientKey>,
-) -> Result<AgentPort, Memory>
-    requires chunks { IsOf giver 0 chunks.key }
-    requires crumbs { IsOf giver 0 crumbs.key }
-    requires triggers { IsOf giver 0 triggers.key }
-    ensures { IfOk result (λ port. port ≡ record { giver = giver; chunks = incoming chunks ∷ []; crumbs = crumbs ∷ []; triggers = triggers ∷ [] }) }
+fn port_of(alloc: Global, giver: Giver, ends: Receivers) -> Result<AgentPort, Memory>
+    requires chunks { IsOf giver 0 ends.chunks.key }
+    requires crumbs { IsOf giver 0 ends.crumbs.key }
+    requires triggers { IsOf giver 0 ends.triggers.key }
+    ensures { IfOk result (λ port. port ≡ record { giver = giver; chunks = incoming ends.chunks ∷ []; crumbs = ends.crumbs ∷ []; triggers = ends.triggers ∷ [] }) }
 {
+    let Receivers {
+        chunks,
+        crumbs,
+        triggers,
+    } = ends;
     let chunks = only::<Receiver<Held<Lease>, ClientKey>>(alloc, chunks)?;
     let crumbs = only::<Receiver<Crumb, ClientKey>>(alloc, crumbs)?;
     let triggers = only::<Receiver<Trigger, ClientKey>>(alloc, triggers)?;
     Ok(AgentPort::make(giver, chunks, crumbs, triggers))
+}
+
+/// A client with this drawer, and the port of its node with this giver, linked with this key.
+fn linked(
+    alloc: Global,
+    making: Making,
+    giver: Giver,
+    drawer: Drawer,
+    key: &ClientKey,
+) -> Result<(Client, AgentPort), Memory>
+    requires size { (MIN_SIZE ≤ making.size) × (making.size ≤ MAX_SIZE) }
+    requires calls { making.calls ≤ MAX_OPERATIONS }
+    requires capacity { 1 ≤ making.capacity }
+    requires ends { AreNewEnds making.buffers making.size (making.calls ∷ []) giver (drawer ∷ []) }
+    requires owner { key.now.client ≡ record { node = 0; number = 0 } }
+    requires pool { (key.now.pool ≡ giver.pool) × (key.now.size ≡ giver.size) }
+    requires rules { (key.now.nodes ≡ 2) × (is_declared key.now.rules id ≡ true) }
+    ensures client { IfOk result (λ made. CanCall making.size making.calls made.0) }
+    ensures closed { IfOk result (λ made. made.0.core.trace ≡ None) }
+    ensures port { IfOk result (λ made. IsOnly made.1 made.0) }
+{
+    let core = ClientCore::make(alloc, CLIENT, making.size, making.calls)?;
+    let (senders, receivers) = links_of(alloc, making.capacity, making.calls, key)?;
+    let port = port_of(alloc, giver, receivers)?;
+    let client = client_of(alloc, core, drawer, senders)?;
+    Ok((client, port))
 }
 
 /// A client, and the port of its node.
@@ -125,34 +198,21 @@ pub fn client_and_port(alloc: Global, making: Making) -> Result<(Client, AgentPo
     ensures closed { IfOk result (λ made. made.0.core.trace ≡ None) }
     ensures port { IfOk result (λ made. IsOnly made.1 made.0) }
 {
-    let Making {
-        buffers,
-        size,
-        calls,
-        capacity,
-    } = making;
-    let (giver, drawer) = pool(alloc, buffers, size, calls)?;
+    let (giver, drawer) = pool(alloc, making.buffers, making.size, making.calls)?;
     let rules = only(alloc, RULE)?;
     let key = ClientKey::new(CLIENT, &giver, 2, &rules);
-    let (chunks, chunk_end) = link::<Held<Lease>, ClientKey>(alloc, capacity, calls, &key)?;
-    let (crumbs, crumb_end) = link::<Crumb, ClientKey>(alloc, capacity, calls, &key)?;
-    let (triggers, trigger_end) = link::<Trigger, ClientKey>(alloc, capacity, calls, &key)?;
-    let core = ClientCore::make(alloc, CLIENT, size, calls)?;
-    let port = port_of(alloc, giver, chunk_end, crumb_end, trigger_end)?;
-    let client = client_of(alloc, core, drawer, chunks, crumbs, triggers)?;
-    Ok((client, port))
+    linked(alloc, making, giver, drawer, &key)
 }
 
-/// What is left of a link, of which these are the ends.
-fn rest_of<T: Drop, F: Fact<T>>(
-    sender: Sender<T, F>,
-    receivers: List<Receiver<T, F>>,
-) -> Option<Rest<T, F>>
+/// How many items of a link were not received, of which these are the ends.
+fn left_of<T: Drop, F: Fact<T>>(sender: Sender<T, F>, receivers: List<Receiver<T, F>>) -> u32
     requires { links receivers.items ≡ sender.link ∷ [] }
 {
     let mut receivers = receivers;
-    let receiver = receivers.pop()?;
-    Some(close_both(sender, receiver))
+    match receivers.pop() {
+        Some(receiver) => close_both(sender, receiver).left(),
+        None => 0,
+    }
 }
 
 /// What a client and its port come to: the client's book, how many items of each link were not received, and the
@@ -184,15 +244,16 @@ pub fn close_all(alloc: Global, client: Client, port: AgentPort) -> Result<PairE
         crumbs: crumb_ends,
         triggers: trigger_ends,
     } = port.parts();
-    let chunks = rest_of(chunks, chunk_ends);
-    let crumbs = rest_of(crumbs, crumb_ends);
-    let triggers = rest_of(triggers, trigger_ends);
+    let chunks = left_of(chunks, chunk_ends);
+    let crumbs = left_of(crumbs, crumb_ends);
+    let triggers = left_of(triggers, trigger_ends);
     let drawers = only::<Drawer>(alloc, drawer)?;
+    let tally = close(giver, drawers, List::new(alloc));
     Ok(PairEnding {
         book,
-        chunks: chunks.map_or(0, |rest| rest.left()),
-        crumbs: crumbs.map_or(0, |rest| rest.left()),
-        triggers: triggers.map_or(0, |rest| rest.left()),
-        tally: close(giver, drawers, List::new(alloc)),
+        chunks,
+        crumbs,
+        triggers,
+        tally,
     })
 }

@@ -8,12 +8,12 @@ use Rattle.tests_with.proofs.ends.client_of.Goals as goal
 pub make-requires-2 : goal.make-requires-2
 make-requires-2 c =
     let one = c.in_ok-autos.ensures in
-    let fires : is_declared c.args.triggers.key.rules (fired_by c.in_ok-make.field-0.rule) ≡ true =
-    ap (λ rule. is_declared c.args.triggers.key.rules (fired_by rule)) c.in_ok-make.ensures.rule ∙ c.requires.triggers.1.declared in
+    let fires : is_declared c.args.ends.triggers.key.rules (fired_by c.in_ok-make.field-0.rule) ≡ true =
+    ap (λ rule. is_declared c.args.ends.triggers.key.rules (fired_by rule)) c.in_ok-make.ensures.rule ∙ c.requires.triggers.1.declared in
     record {
       core = c.requires.core;
       autos = subst (λ (l : List Watch). AllByRecursion (λ (watch : Watch). HasSampled watch []) l) (sym one) (search rules);
-      declared = subst (λ (l : List Watch). AllByRecursion (λ (watch : Watch). is_declared c.args.triggers.key.rules (fired_by watch.rule) ≡ true) l) (sym one) (search rules);
+      declared = subst (λ (l : List Watch). AllByRecursion (λ (watch : Watch). is_declared c.args.ends.triggers.key.rules (fired_by watch.rule) ≡ true) l) (sym one) (search rules);
       drawer = c.requires.drawer;
       chunks = record { nothing = c.requires.chunks.0; owner = c.requires.chunks.1.owner; pool = c.requires.chunks.1.pool; size = c.requires.chunks.1.size };
       crumbs = record { nothing = c.requires.crumbs.0; owner = c.requires.crumbs.1.owner; pool = c.requires.crumbs.1.pool; size = c.requires.crumbs.1.size };
