@@ -1,5 +1,5 @@
-//! A tracepoint of a client: into a page that has room, and averaged over page changes while an agent in a thread of its own gives
-//! the buffers back. Beside it the bare copy of the payload.
+//! A tracepoint of a client: into a page that has room, averaged over page changes while an agent in a thread of its own gives the
+//! buffers back, and into pages that fit no cache. Beside it the bare copy of the payload.
 
 ghost use Rattle.std.specs.Prelude.{◌≡◌, ◌≤◌, length};
 ghost use Rattle.std.specs.Thread.{IsSync};
@@ -22,6 +22,11 @@ use tests_with::{Making, client_and_port, give_back, next_chunk};
 /// How many bytes all pages have together: 64 pages of 32,768.
 const BYTES: usize = 64 * MAX_SIZE as usize;
 
+/// How many pages each of two pools has that fit no cache together, and how many bytes all of them have.
+const FAR_BUFFERS: u32 = 1024;
+
+const FAR_BYTES: usize = 2 * FAR_BUFFERS as usize * MAX_SIZE as usize;
+
 /// How many bytes a page has for its pieces: all but the 24 of its header.
 const ROOM: u32 = MAX_SIZE - HEADER_COST as u32;
 
@@ -30,6 +35,14 @@ const CALLS: u32 = MAX_OPERATIONS;
 
 const MAKING: Making = Making {
     buffers: 64,
+    size: MAX_SIZE,
+    calls: CALLS,
+    capacity: 64,
+};
+
+/// One of two pools whose pages fit no cache together.
+const FAR: Making = Making {
+    buffers: FAR_BUFFERS,
     size: MAX_SIZE,
     calls: CALLS,
     capacity: 64,
@@ -189,6 +202,76 @@ fn time_room<R: Clock>(rt: &R, alloc: Global, payload: &[u8], clients: u32) -> R
     Ok(timed)
 }
 
+/// Fills pages of two clients in turn, with all their calls, so that each page comes again behind all others of both pools.
+fn fill_in_turn<R: Clock>(
+    rt: &R,
+    one: &mut (Client, AgentPort),
+    other: &mut (Client, AgentPort),
+    payload: &[u8],
+    timed: &mut Timed,
+) -> Result<()>
+    requires few { length payload.now ≤ 1000 }
+    requires one { piece_count MAX_SIZE (length payload.now) ≡ 1 }
+    requires first { CanCall MAX_SIZE MAX_OPERATIONS one.old.0 × HasClient one.old.1 }
+    requires second { CanCall MAX_SIZE MAX_OPERATIONS other.old.0 × HasClient other.old.1 }
+{
+    let mut left = CALLS;
+    let mut right = CALLS;
+    for _page in 0..CALLS {
+        if left == 0 {
+            break;
+        }
+        fill_page(rt, &mut one.0, &mut one.1, &mut left, payload, timed)?;
+        fill_page(rt, &mut other.0, &mut other.1, &mut right, payload, timed)?;
+    }
+    Ok(())
+}
+
+/// The same of two clients that are not handed back. Answers whether all draws got a buffer, too.
+fn fill_both<R: Clock>(
+    rt: &R,
+    mut one: (Client, AgentPort),
+    mut other: (Client, AgentPort),
+    payload: &[u8],
+    timed: &mut Timed,
+) -> (Result<()>, bool)
+    requires few { length payload.now ≤ 1000 }
+    requires one { piece_count MAX_SIZE (length payload.now) ≡ 1 }
+    requires first { CanCall MAX_SIZE MAX_OPERATIONS one.0 × HasClient one.1 }
+    requires second { CanCall MAX_SIZE MAX_OPERATIONS other.0 × HasClient other.1 }
+{
+    let filled = fill_in_turn(rt, &mut one, &mut other, payload, timed);
+    (filled, one.0.nulls() == 0 && other.0.nulls() == 0)
+}
+
+/// Times points into the pages of this client and of another one, which fit no cache together.
+fn time_beside<R: Clock>(
+    rt: &R,
+    alloc: Global,
+    one: (Client, AgentPort),
+    payload: &[u8],
+) -> Result<Timed>
+    requires few { length payload.now ≤ 1000 }
+    requires one { piece_count MAX_SIZE (length payload.now) ≡ 1 }
+    requires first { CanCall MAX_SIZE MAX_OPERATIONS one.0 × HasClient one.1 }
+{
+    let other = client_and_port(alloc, FAR).ok().context("memory")?;
+    let mut timed = Timed::default();
+    let (filled, full) = fill_both(rt, one, other, payload, &mut timed);
+    filled?;
+    ensure!(full, "a page had no buffer");
+    Ok(timed)
+}
+
+/// The same of two clients of its own.
+fn time_far<R: Clock>(rt: &R, alloc: Global, payload: &[u8]) -> Result<Timed>
+    requires few { length payload.now ≤ 1000 }
+    requires one { piece_count MAX_SIZE (length payload.now) ≡ 1 }
+{
+    let one = client_and_port(alloc, FAR).ok().context("memory")?;
+    time_beside(rt, alloc, one, payload)
+}
+
 /// Times the points of so many calls, in one trace.
 fn time_trace<R: Clock>(rt: &R, client: &mut Client, calls: u32, payload: &[u8]) -> Result<Timed>
     requires one { piece_count MAX_SIZE (length payload.now) ≡ 1 }
@@ -295,7 +378,7 @@ fn time_changes<R: Clock + Threads + Wait + Sync>(
 
 /// Copies the payload again and again, as far apart as on a page. Answers how often.
 fn copy_all(target: &mut [u8], payload: &[u8]) -> u64
-    requires target { length target.old ≤ 2097152 }
+    requires target { length target.old ≤ 67108864 }
     requires payload { length payload.now ≤ 1000 }
     ensures { length target.new ≡ length target.old }
 {
@@ -310,11 +393,18 @@ fn copy_all(target: &mut [u8], payload: &[u8]) -> u64
     copies
 }
 
-/// Times as many bare copies.
-fn time_copies<R: Clock>(rt: &R, alloc: Global, payload: &[u8], rounds: u32) -> Result<Timed>
-    requires { length payload.now ≤ 1000 }
+/// Times as many bare copies, over so many bytes.
+fn time_copies<R: Clock>(
+    rt: &R,
+    alloc: Global,
+    payload: &[u8],
+    bytes: usize,
+    rounds: u32,
+) -> Result<Timed>
+    requires few { length payload.now ≤ 1000 }
+    requires bytes { (2097152 ≤ bytes) × (bytes ≤ 67108864) }
 {
-    let mut target = Vec::from_elem(alloc, 0u8, BYTES)?;
+    let mut target = Vec::from_elem(alloc, 0u8, bytes)?;
     copy_all(target.as_mut_slice(), payload);
     let mut timed = Timed::default();
     for _round in 0..rounds {
@@ -349,7 +439,13 @@ fn time_all<R: Clock + Threads + Wait + Sync>(
     Ok(Times {
         room: time_room(rt, alloc, payload.as_slice(), clients)?,
         changes: time_changes(rt, alloc, payload.as_slice(), clients)?,
-        copies: time_copies(rt, alloc, payload.as_slice(), clients.saturating_mul(16))?,
+        copies: time_copies(
+            rt,
+            alloc,
+            payload.as_slice(),
+            BYTES,
+            clients.saturating_mul(16),
+        )?,
     })
 }
 
@@ -382,7 +478,34 @@ fn time_each<R: Print + Clock + Threads + Wait + Sync>(
     report(rt, bytes, &times)
 }
 
-/// Times points without bytes and of 16, 100 and 1,000 bytes, of so many clients each.
+/// Times points of so many bytes into pages that fit no cache, and so many times as many copies: tenths of a nanosecond of each.
+fn time_far_all<R: Clock>(rt: &R, alloc: Global, bytes: usize, rounds: u32) -> Result<(u128, u128)>
+    requires few { bytes ≤ 1000 }
+    requires one { piece_count MAX_SIZE bytes ≡ 1 }
+{
+    let payload = Vec::from_elem(alloc, 7u8, bytes)?;
+    let points = time_far(rt, alloc, payload.as_slice())?;
+    let copies = time_copies(rt, alloc, payload.as_slice(), FAR_BYTES, rounds)?;
+    Ok((points.tenths(), copies.tenths()))
+}
+
+/// Times points of so many bytes into pages that fit no cache, and prints what was seen.
+fn time_far_each<R: Print + Clock>(rt: &R, alloc: Global, bytes: usize, rounds: u32) -> Result<()>
+    requires few { bytes ≤ 1000 }
+    requires one { piece_count MAX_SIZE bytes ≡ 1 }
+{
+    let (points, copies) = time_far_all(rt, alloc, bytes, rounds)?;
+    println!(rt;
+        "{bytes} bytes, 64 MiB of pages: {}.{} ns a point, {}.{} ns a copy",
+        points / 10,
+        points % 10,
+        copies / 10,
+        copies % 10
+    )?;
+    Ok(())
+}
+
+/// Times points without bytes and of 16, 100 and 1,000 bytes, of so many clients each, and then points into pages that fit no cache.
 pub(crate) fn run<R: Print + Clock + AllocGlobal + Threads + Wait + Sync>(
     rt: &R,
     clients: u32,
@@ -390,5 +513,6 @@ pub(crate) fn run<R: Print + Clock + AllocGlobal + Threads + Wait + Sync>(
     time_each(rt, rt.alloc(), 0, clients)?;
     time_each(rt, rt.alloc(), 16, clients)?;
     time_each(rt, rt.alloc(), 100, clients)?;
-    time_each(rt, rt.alloc(), 1000, clients)
+    time_each(rt, rt.alloc(), 1000, clients)?;
+    time_far_each(rt, rt.alloc(), 1000, clients)
 }
