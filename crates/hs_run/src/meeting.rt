@@ -43,7 +43,7 @@ pub(crate) fn move_all(
 }
 
 impl NodeActors {
-    /// The coordinator's asks for the agent go to it, and its messages to the coordinator, where the node has this number.
+    /// Hands the coordinator's asks for this node to the agent, and the agent's messages to the coordinator. The node has this number.
     fn exchange(&mut self, coordinator: &mut CoordinatorActor, number: usize) -> Result<(), Memory>
         requires nodes { number < MAX_NODES }
         requires told { number < length coordinator.old.told }
