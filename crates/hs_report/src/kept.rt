@@ -56,7 +56,7 @@ fn push_kept(kept: &mut Vec<Entry>, is_claimed: bool, entry: &Entry) -> Result<(
     Ok(())
 }
 
-/// The entries that stay, where these traces were claimed.
+/// The entries that stay, where these traces were claimed. Without entries there is no need for a set of these traces.
 pub(crate) fn kept_entries(
     alloc: Global,
     entries: &[Entry],
@@ -64,8 +64,11 @@ pub(crate) fn kept_entries(
 ) -> Result<Vec<Entry>, Memory>
     ensures { IfOk result (λ kept. kept.items ≡ filter (is_kept claimed.now) entries.now) }
 {
-    let set = set_of(alloc, claimed)?;
     let mut kept = Vec::new(alloc);
+    if entries.is_empty() {
+        return Ok(kept);
+    }
+    let set = set_of(alloc, claimed)?;
     let none = TraceId(0);
     let mut known = Known {
         trace: none,
