@@ -1,6 +1,6 @@
 -- What was counted is the comparison of the workload.
 use Rattle.std.proofs.Common.{◌≡◌, ℕ, ◌==◌, ◌&&◌, cond, List, [], ◌∷◌, length, map, refl, sym, ap, ap₂, ◌∙◌, arith}
-use Rattle.hs_compare.proofs.Prelude.{nat_lt, count_by, sum_by, sum_by-cons, count_alike, length_map, TraceId, PlainWorkload, all_comings, named_in, events_in_order, is_of, PlainLine, each_once, is_same, times, is_whole_by, line_by, plain_line}
+use Rattle.hs_compare.proofs.Prelude.{nat_lt, count_by, sum_by, sum_by-cons, count_alike, length_map, TraceId, PlainWorkload, all_comings, named_in, is_of, PlainLine, each_once, is_same, times, is_whole_by, line_by, plain_line}
 use Rattle.hs_compare.specs.Coming as samplers
 use Rattle.hs_compare.specs.Lines.{is_whole}
 use Rattle.hs_compare.proofs.Ringed.{HasNames}

@@ -1,5 +1,5 @@
 -- The records of named traces. A named trace has all its records among them, so it has its count where these alone are counted.
-use Rattle.std.proofs.Common.{◌≡◌, ◌==◌, ◌||◌, cond, Bool, true, false, List, [], ◌∷◌, map, filter, refl, sym, ap, ◌∙◌, eqb-true}
+use Rattle.std.proofs.Common.{◌≡◌, ◌==◌, ◌||◌, cond, Bool, true, false, List, [], ◌∷◌, filter, refl, sym, ap, ◌∙◌, eqb-true}
 use Rattle.hs_compare.proofs.Prelude.{AllByRecursion, all_each, IsIn, TraceId, Entry, Coming, AreCounted, is_counted, is_same, times, times_in, marked, marks_of_named, traces_of}
 use Rattle.hs_lists.proofs.Alls.{all_always, all_filter}
 use Rattle.hs_compare.specs.Counting.{HasCountsOf}

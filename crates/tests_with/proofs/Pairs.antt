@@ -1,17 +1,15 @@
 -- A client and its port keep their ends from call to call.
-use Rattle.std.proofs.Common.{◌≡◌, ℕ, zero, suc, ◌+◌, ◌<◌, ◌≤◌, List, [], ◌∷◌, ◌++◌, length, map, set, Option, Some, None, refl, sym, ap, ◌∙◌, subst, arith}
+use Rattle.std.proofs.Common.{◌≡◌, zero, suc, List, [], ◌∷◌, map, set, Option, Some, None, refl, sym, ap, ◌∙◌, subst}
 use Rattle.std.proofs.lemmas.Option.{same_Some}
 use Rattle.std.specs.Prelude.{slice_get}
 use Rattle.atomic_table.specs.Seated.{TableId}
-use Rattle.hs_base.specs.Rules.{fired_by}
 use Rattle.hs_words.specs.declared.token.Held.{Held}
-use Rattle.hs_auto.specs.Watching.{Watch}
 use Rattle.hs_link.specs.Contents.{Outgoing, Incoming}
 use Rattle.hs_ring.specs.Parts.{Leased, Giving, Drawing}
 use Rattle.hs_live.specs.Keys.{Key}
 use Rattle.hs_live.specs.Live.{PlainClient, Port, outgoing, incoming, is_told, ReceivesAt, MeetAt}
 use Rattle.hs_live.specs.Calls.{IsOf, AreOf, AreMates, MeetsAt}
-use Rattle.tests_with.specs.Pairs.{id, watched, links, CanCall, KeepsClient, KeepsPort, IsOnly, HasClient}
+use Rattle.tests_with.specs.Pairs.{links, KeepsClient, KeepsPort, IsOnly}
 
 -- ---- the receivers of a port
 

@@ -1,5 +1,5 @@
 -- An agent of node 0 whose pages are of 64 bytes and which knows the trigger id 1, after so many events at most, with no chunk out.
-use Rattle.std.specs.Prelude.{◌≡◌, ℕ, ◌<◌, ◌≤◌, List, [], ◌∷◌, length, Option, None, true, IsSome}
+use Rattle.std.specs.Prelude.{◌≡◌, ℕ, ◌<◌, ◌≤◌, length, None, true, IsSome}
 use Rattle.hs_base.specs.declared.limits.TheConstants.{MIN_SIZE, MAX_NODES}
 use Rattle.hs_base.specs.Rules.{is_declared}
 use Rattle.hs_base.specs.declared.ids.TriggerId.{TriggerId}

@@ -1,4 +1,4 @@
-use Rattle.std.proofs.Common.{◌≡◌, List, length, sym, ap, ◌∙◌, subst, arith}
+use Rattle.std.proofs.Common.{List, length, ap, ◌∙◌, subst, arith}
 use Rattle.hs_compare.proofs.Prelude.{length_map, TraceId, Entry, AreCounted, Coming}
 use Rattle.hs_compare.proofs.Known.{claimed_counted}
 use Rattle.hs_compare.proofs.comparison.compared.Goals as goal

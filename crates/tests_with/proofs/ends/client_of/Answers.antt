@@ -1,8 +1,7 @@
-use Rattle.std.proofs.Common.{◌≡◌, true, List, [], ◌∷◌, sym, ap, ◌∙◌, subst, rules}
+use Rattle.std.proofs.Common.{◌≡◌, true, List, [], sym, ap, ◌∙◌, subst, rules}
 use Rattle.std.specs.List.{AllByRecursion}
 use Rattle.hs_base.specs.Rules.{fired_by, is_declared}
 use Rattle.hs_auto.specs.Watching.{Watch, HasSampled}
-use Rattle.tests_with.specs.Pairs.{id}
 use Rattle.tests_with.proofs.ends.client_of.Goals as goal
 
 pub make-requires-2 : goal.make-requires-2

@@ -1,8 +1,7 @@
-use Rattle.std.proofs.Common.{◌≡◌, ℕ, ◌+◌, ◌≤◌, List, [], ◌∷◌, ◌++◌, length, length-append, true, false, Bool, refl, sym, arith}
+use Rattle.std.proofs.Common.{◌≡◌, [], ◌∷◌, length-append, true, false, Bool, refl, arith}
 use Rattle.std.proofs.lemmas.Bool.{false≢true}
 use Rattle.hs_law_agent.specs.Stepping.{Gave}
-use Rattle.hs_agent.specs.Runs.{Run, Follows, after_offer, after_answer, answer_of}
-use Rattle.tests_with.specs.Ready.{IsRested}
+use Rattle.hs_agent.specs.Runs.{after_offer, after_answer, answer_of}
 use Rattle.tests_with.proofs.site.Site.offer.Goals as goal
 
 unspent : (b : Bool) → (b ≡ true → false ≡ true) → b ≡ false
