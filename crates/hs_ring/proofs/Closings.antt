@@ -2,7 +2,7 @@
 use Rattle.std.proofs.Common.{◌≡◌, ℕ, suc, ◌+◌, ◌-◌, ◌*◌, List, [], ◌∷◌, ◌++◌, length, refl, sym, ap, ◌∙◌, subst, arith, length-append}
 use Rattle.hs_ring.proofs.Prelude.{count_by, TableId, Joins, PoolName, is_missed, is_empty, Deed, events_of, is_any_got, is_any_given, drawn_kinds, given_kinds, Plan, Drawing, answers_of_all, nothing, GiverSeat, bare, View, nobody, giving, drawing, drawer_seat_of, giver_seat_of, having_closed, drawn_of, published_of, Over, RingRule, PoolSeat, IsFree, name_of, drawing_of, closed_giver_seat}
 use Rattle.hs_words.specs.Ends.{IsTogether}
-use Rattle.hs_ring.specs.Parts.{AreInOrder}
+use Rattle.hs_ring.specs.Parts.{AreInOrder, GivesInTurn}
 use Rattle.hs_ring.specs.Steps.{IsOver}
 use Rattle.hs_ring.proofs.Owed.{Mine, closes_at}
 
@@ -76,6 +76,7 @@ pub record Ending (buffers misses word : ℕ) (post : GiverSeat) (log : List Dee
   pub published : published_of word ≡ buffers + (count_by is_any_given (events_of log) + count_by is_missed (events_of log))
   pub misses_are : misses ≡ count_by is_missed (events_of log)
   pub empties : misses + (drawn_of word - published_of word) ≡ count_by is_empty (events_of log)
+  pub gives : GivesInTurn (events_of log)
 
 pub ends : (entries buffers misses word : ℕ) (v : View) (post : GiverSeat) → v ≡ giving post bare → Over entries word v → 2 * buffers ≡ entries → misses ≡ post.misses → post.made ≡ length post.closed
     → (log : List Deed) × Ending buffers misses word post log
@@ -94,5 +95,6 @@ ends entries buffers misses word v post is over half misses_are all =
         published = (let p = o.published in omega arith);
         misses_are = misses_are ∙ o.misses;
         empties = (let v = o.voids in let d = o.drawn in let p = o.published in let m = o.misses in omega arith);
+        gives = o.gives;
       },
     )

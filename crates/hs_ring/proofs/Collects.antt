@@ -97,6 +97,7 @@ module _ (plan : Plan) (s : St) (f : Facts) (k : Kept plan s f) (id : ℕ) (desk
         lawful = k.lawful;
         spent = k.spent;
         voids = k.voids;
+        gives = k.gives;
         each_cell = collect_cells;
         each_queued = λ a buffer seen. queued_stays n f.log [] f.cells cells' f.spots f.spots f.hands hands' (suc d) (in_queue 0) (drawn h b d) collect_moves (λ number buffer e. cc) _ _ buffer (k.each_queued a buffer seen);
         each_hand = collect_hands;
@@ -206,6 +207,7 @@ module _ (plan : Plan) (s : St) (f : Facts) (k : Kept plan s f) (id : ℕ) (desk
         lawful = k.lawful;
         spent = k.spent;
         voids = k.voids;
+        gives = k.gives;
         each_cell = lease_cells;
         each_queued = k.each_queued;
         each_hand = lease_hands;

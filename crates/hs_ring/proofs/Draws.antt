@@ -94,6 +94,7 @@ module _ (plan : Plan) (s : St) (f : Facts) (k : Kept plan s f) (id : ℕ) (desk
           lawful = (k.lawful, nothing_waits);
           spent = (tt, k.spent);
           voids = (let a = count_cons is_missed Empty (events_of f.log) in let b = count_cons is_empty Empty (events_of f.log) in let v = k.voids in omega arith);
+          gives = k.gives;
           each_cell =
               λ e low.
               cell_stays n plan.size f.log (deed ∷ f.log) f.spots f.spots f.hands f.hands f.palm f.palm e (get_or s.words (suc e) 0) (get_or (set s.words 0 x) (suc e) 0) (get_elem? s.homes e) (get_elem? s.homes e)
@@ -260,6 +261,7 @@ module _ (plan : Plan) (s : St) (f : Facts) (k : Kept plan s f) (id : ℕ) (desk
           lawful = (k.lawful, front_got (queue_of n f.log) b front);
           spent = (tt, k.spent);
           voids = (let a = count_cons is_missed (Got b) (events_of f.log) in let c = count_cons is_empty (Got b) (events_of f.log) in let v = k.voids in omega arith);
+          gives = k.gives;
           each_cell = got_cells;
           each_queued = got_queued;
           each_hand = got_hands;

@@ -14,5 +14,6 @@ pub mod Places
 pub mod Life
 pub mod Owed
 pub mod Givers
+pub mod Drawers
 pub mod Making
 pub mod Closings

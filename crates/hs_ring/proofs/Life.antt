@@ -89,6 +89,7 @@ module _ (plan : Plan) (s : St) (f : Facts) (k : Kept plan s f) (id : ℕ) (post
         lawful = k.lawful;
         spent = k.spent;
         voids = k.voids;
+        gives = k.gives;
         each_cell = k.each_cell;
         each_queued = k.each_queued;
         each_hand = k.each_hand;
@@ -172,6 +173,7 @@ module _ (plan : Plan) (s : St) (f : Facts) (k : Kept plan s f) (id : ℕ) (post
         lawful = k.lawful;
         spent = k.spent;
         voids = k.voids;
+        gives = k.gives;
         each_cell = k.each_cell;
         each_queued = k.each_queued;
         each_hand = k.each_hand;
@@ -218,6 +220,7 @@ over plan s f k id post palm own slots wide all =
         published = found_published plan s f k;
         misses = own.misses;
         voids = k.voids;
+        gives = k.gives;
       },
     )
 
@@ -239,6 +242,7 @@ looks plan slots id post palm held s (f, k) wide at small =
               lawful = k.lawful;
               spent = k.spent;
               voids = k.voids;
+              gives = k.gives;
               each_cell = k.each_cell;
               each_queued = k.each_queued;
               each_hand = k.each_hand;
@@ -339,6 +343,7 @@ module _ (plan : Plan) (ws : List ℕ) (xs : List (Option Contents)) (within : W
         lawful = tt;
         spent = tt;
         voids = (let one = within.some_there in let z : 0 + (0 - (n + 0)) ≡ 0 = omega arith in z);
+        gives = tt;
         each_cell = λ e low. cell₀ e low (dec_le n e);
         each_queued = λ i buffer seen.
             let r = range_at 0 n i buffer seen in

@@ -114,10 +114,6 @@ new_drawers_and pool buffers size number (x ∷ xs) left =
     ap (λ (l : List Drawing). new_drawer_of pool buffers size number x ∷ l)
     (new_drawers_and pool buffers size (suc number) xs left ∙ ap (λ (k : ℕ). new_drawers pool buffers size (suc number) xs ++ new_drawer_of pool buffers size k left ∷ []) (let e : suc number + length xs ≡ number + suc (length xs) = omega arith in e))
 
-pub new_drawers_length : (pool : PoolName) (buffers size number : ℕ) (lefts : List ℕ) → length (new_drawers pool buffers size number lefts) ≡ length lefts
-new_drawers_length pool buffers size number [] = refl
-new_drawers_length pool buffers size number (x ∷ xs) = ap suc (new_drawers_length pool buffers size (suc number) xs)
-
 abbrev making_post : ℕ → ℕ → List ℕ → GiverSeat
 making_post size made spare = record { size = size; spare = spare; made = made; closed = []; floor = 0; misses = 0; turns = [] }
 

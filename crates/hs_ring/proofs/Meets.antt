@@ -49,6 +49,7 @@ module _ (plan : Plan) (s : St) (f : Facts) (k : Kept plan s f) (id : ℕ) (desk
         lawful = k.lawful;
         spent = k.spent;
         voids = k.voids;
+        gives = k.gives;
         each_cell = k.each_cell;
         each_queued = k.each_queued;
         each_hand = k.each_hand;
@@ -84,6 +85,7 @@ known_kept plan s f views k left withs each =
       lawful = k.lawful;
       spent = k.spent;
       voids = k.voids;
+      gives = k.gives;
       each_cell = k.each_cell;
       each_queued = k.each_queued;
       each_hand = k.each_hand;

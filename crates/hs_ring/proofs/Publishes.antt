@@ -171,6 +171,7 @@ module _ (plan : Plan) (s : St) (f : Facts) (k : Kept plan s f) (id : ℕ) (post
           lawful = (k.lawful, may_give n b (events_of f.log) k.lawful in_hand.0.3 waits_not);
           spent = ((in_hand.0.1, in_hand.0.2), k.spent);
           voids = (let a = count_cons is_missed (Given b) (events_of f.log) in let c = count_cons is_empty (Given b) (events_of f.log) in let v = k.voids in omega arith);
+          gives = ((let v = k.voids in omega arith), k.gives);
           each_cell = give_cells;
           each_queued = give_queued;
           each_hand = λ d. hand_stays n f.log (deed ∷ []) f.cells cells' f.spots spots' f.hands f.hands 0 with_giver (laid P) give_moves d (λ e. omega arith) (λ e. cc) (λ number buffer e. cc) (f.hands d) (k.each_hand d);
@@ -264,6 +265,7 @@ module _ (plan : Plan) (s : St) (f : Facts) (k : Kept plan s f) (id : ℕ) (post
           lawful = (k.lawful, (nothing_waits, (let v = k.voids in omega arith)));
           spent = (tt, k.spent);
           voids = (let a = count_cons is_missed Missed (events_of f.log) in let c = count_cons is_empty Missed (events_of f.log) in let v = k.voids in omega arith);
+          gives = k.gives;
           each_cell = miss_cells;
           each_queued = λ a buffer seen. absurd (let less = at_length (queue_of n f.log) a buffer seen in let l = line plan s f k in omega arith);
           each_hand = λ d. hand_stays n f.log (missed ∷ []) f.cells f.cells f.spots f.spots f.hands f.hands 0 (in_queue 0) free miss_moves d (λ e. omega arith) (λ e. cc) (λ number buffer e. cc) (f.hands d) (k.each_hand d);

@@ -87,6 +87,7 @@ module _ (plan : Plan) (s : St) (f : Facts) (k : Kept plan s f) (id : ℕ) (post
         lawful = k.lawful;
         spent = k.spent;
         voids = k.voids;
+        gives = k.gives;
         each_cell = retake_cells;
         each_queued = λ a buffer seen. queued_stays n f.log [] f.cells cells' f.spots f.spots f.hands f.hands 0 (in_queue 0) (laid number) retake_moves (λ number buffer e. cc) _ _ buffer (k.each_queued a buffer seen);
         each_hand = λ d. hand_stays n f.log [] f.cells cells' f.spots f.spots f.hands f.hands 0 (in_queue 0) (laid number) retake_moves d (λ e. omega arith) (λ e. cc) (λ number buffer e. cc) (f.hands d) (k.each_hand d);

@@ -105,6 +105,7 @@ module _ (plan : Plan) (s : St) (f : Facts) (k : Kept plan s f) (id : ℕ) (post
         lawful = k.lawful;
         spent = k.spent;
         voids = k.voids;
+        gives = k.gives;
         each_cell = take_cells;
         each_queued = k.each_queued;
         each_hand = λ d. hand_stays n f.log [] f.cells f.cells f.spots spots' f.hands f.hands 0 (leased other) free take_moves d (λ e. omega arith) (λ e. cc) (λ number buffer e. cc) (f.hands d) (k.each_hand d);
@@ -190,6 +191,7 @@ module _ (plan : Plan) (s : St) (f : Facts) (k : Kept plan s f) (id : ℕ) (post
         lawful = k.lawful;
         spent = k.spent;
         voids = k.voids;
+        gives = k.gives;
         each_cell = lease_cells;
         each_queued = k.each_queued;
         each_hand = λ d. hand_stays plan.buffers f.log [] f.cells f.cells f.spots spots₁ f.hands f.hands 0 with_giver free lease_moves d (λ e. omega arith) (λ e. cc) (λ number buffer e. cc) (f.hands d) (k.each_hand d);

@@ -1,11 +1,11 @@
 -- What contracts see of the ends of a ring and of its leases. All name their pool. A drawer has a number of its own, and an
 -- end has a floor, which is above every stamp that it was told or heard of. The last answer or turn stands first.
-use Rattle.std.specs.Prelude.{◌≡◌, ℕ, suc, ◌-◌, ◌<◌, ◌≤◌, List, [], ◌∷◌, length, max, None}
+use Rattle.std.specs.Prelude.{◌≡◌, ℕ, suc, ◌-◌, ◌<◌, ◌≤◌, List, [], ◌∷◌, length, max, count_by, None, refl}
 use Rattle.std.specs.List.{AllByRecursion}
 use Rattle.hs_words.specs.Pools.{PoolName}
 use Rattle.hs_words.specs.Chunks.{clear_chunk, with_page}
-use Rattle.hs_words.specs.PoolHistory.{PoolEvent, Got, Empty, Given, Missed}
-use Rattle.hs_words.specs.Ends.{Deed, Answer, GiverTurn, answered, unread, met, answers_in, stamps_in, IsTogether, Counts}
+use Rattle.hs_words.specs.PoolHistory.{PoolEvent, Got, Empty, Given, Missed, is_missed, is_empty}
+use Rattle.hs_words.specs.Ends.{Deed, Answer, GiverTurn, answered, unread, met, answers_in, stamps_in, events_of, IsTogether, Counts}
 use Rattle.hs_words.specs.declared.token.Held.{Held}
 use Rattle.hs_words.specs.declared.token.Drawn.{Drawn}
 use Rattle.hs_words.specs.declared.token.Drawn.TheVariants as drawn
@@ -137,6 +137,27 @@ abbrev pub answers_of_all : List Drawing → List (List Answer)
 answers_of_all [] = []
 answers_of_all (drawer ∷ drawers) = drawer.answers ∷ answers_of_all drawers
 
+-- A give puts its buffer into the pool only where each empty draw before it has had its miss. The latest event stands first.
+abbrev pub GivesInTurn : List PoolEvent → Type 0
+GivesInTurn [] = Unit {0}
+GivesInTurn (Given buffer ∷ before) = (count_by is_missed before ≡ count_by is_empty before) × GivesInTurn before
+GivesInTurn (Got buffer ∷ before) = GivesInTurn before
+GivesInTurn (Empty ∷ before) = GivesInTurn before
+GivesInTurn (Missed ∷ before) = GivesInTurn before
+
 -- All that the ends did is one history of the pool, and the tally counts it.
 abbrev pub Closes : Giving → List Drawing → Tally → Type 0
 Closes giver drawers tally = (log : List Deed) × IsTogether giver.buffers giver.turns (answers_of_all drawers) log × Counts log tally
+
+-- The same, and in that history the giver misses once for each empty draw before it gives again.
+abbrev pub ClosesInTurn : Giving → List Drawing → Tally → Type 0
+ClosesInTurn giver drawers tally =
+    (log : List Deed) × IsTogether giver.buffers giver.turns (answers_of_all drawers) log × Counts log tally × GivesInTurn (events_of log)
+
+-- ---- examples, the latest event first
+
+missed_before : GivesInTurn (Given 0 ∷ Missed ∷ Empty ∷ Got 0 ∷ [])
+missed_before = (refl, tt)
+
+not_missed : GivesInTurn (Given 0 ∷ Empty ∷ Got 0 ∷ []) → ◌≡◌ {A = ℕ} 0 1
+not_missed (even, rest) = even

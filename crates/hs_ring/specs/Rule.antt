@@ -15,6 +15,7 @@ use Rattle.hs_words.specs.Ends.{Deed, got_by, events_of, drawn_in, given_in, ans
 use Rattle.hs_words.specs.Plans.{total, Plan, Within}
 use Rattle.hs_words.specs.Seats.{AtSeat}
 use Rattle.hs_words.specs.Spots.{Spot, in_queue, with_drawer, leased, with_giver, HasLease}
+use Rattle.hs_ring.specs.Parts.{GivesInTurn}
 use Rattle.hs_ring.specs.Views.{DrawerSeat, Hand, nothing, drew, kept, GiverSeat, Palm, bare, holds, lays, retakes, View, nobody, drawing, leasing, giving, drawer_note, giver_note, all_left, Has}
 
 -- an entry is free; or it holds a number whose buffer waits, or was drawn by a drawer that has not collected it; or the
@@ -141,6 +142,7 @@ pub record Kept (plan : Plan) (s : State (Option Contents) View) (f : Facts) : T
   pub spent : EachSpends f.log
   -- the misses, and the void numbers that were not published, are the empty draws
   pub voids : count_by is_missed (events_of f.log) + (drawn_in f.log - published plan.buffers f.log) ≡ count_by is_empty (events_of f.log)
+  pub gives : GivesInTurn (events_of f.log)
   pub each_cell : (e : ℕ) → e < 2 * plan.buffers → CellOk plan.buffers plan.size f.log f.spots f.hands f.palm e (slice_index s.words (suc e)) (get_elem? s.homes e) (f.cells e)
   pub each_queued : (i buffer : ℕ) → get_elem? (queue_of plan.buffers f.log) i ≡ some buffer
       → f.cells ((drawn_in f.log + i) % (2 * plan.buffers)) ≡ waits (drawn_in f.log + i) buffer

@@ -5,6 +5,7 @@ use Rattle.hs_ring.specs.declared.board.TheConstants.{PUBLISHED}
 use Rattle.hs_words.specs.Chunks.{Contents, clear_chunk}
 use Rattle.hs_words.specs.PoolHistory.{is_missed, is_empty}
 use Rattle.hs_words.specs.Ends.{Deed, events_of, drawn_in, given_in, answers_in, IsTogether}
+use Rattle.hs_ring.specs.Parts.{GivesInTurn}
 use Rattle.hs_ring.specs.Views.{GiverSeat, View, giving, drawer_seat_of, giver_seat_of, having_got, having_missed_out, having_collected, having_laid, having_unread, having_given, having_missed, having_retaken, draw_held, floor_of}
 
 abbrev pub Seated : Type 0
@@ -52,6 +53,7 @@ pub record IsOver (entries word : ℕ) (post : GiverSeat) (n : ℕ) (log : List 
   pub published : published_of word ≡ n + given_in log
   pub misses : post.misses ≡ count_by is_missed (events_of log)
   pub voids : count_by is_missed (events_of log) + (drawn_in log - (n + given_in log)) ≡ count_by is_empty (events_of log)
+  pub gives : GivesInTurn (events_of log)
 
 abbrev pub Over : ℕ → ℕ → View → Type 0
 Over entries word (giving post palm) = post.made ≡ length post.closed → (n : ℕ) × (log : List Deed) × IsOver entries word post n log

@@ -2,9 +2,9 @@
 ghost use Rattle.std.specs.Prelude.{◌≡◌, ℕ, suc, ◌+◌, ◌*◌, ◌-◌, ◌^◌, ◌≤◌, ◌<◌, [], length};
 ghost use Rattle.std.specs.List.{AllByRecursion};
 ghost use Rattle.hs_ring.specs.Views.{giver_seat_of};
-ghost use Rattle.hs_ring.specs.Parts.{AreInOrder, AreAllEnds, Closes, answers_of_all};
+ghost use Rattle.hs_ring.specs.Parts.{AreInOrder, AreAllEnds, Closes, ClosesInTurn, GivesInTurn, answers_of_all};
 ghost use Rattle.hs_ring.specs.Seats.{IsSeatAt, IsFree, IsSameSeat, name_of};
-ghost use Rattle.hs_words.specs.Ends.{IsTogether, Counts as Counted};
+ghost use Rattle.hs_words.specs.Ends.{IsTogether, Counts as Counted, events_of};
 ghost use Rattle.hs_ring.specs.Making.{closed_giver_seat};
 
 use crate::board::{Entries, Place};
@@ -64,20 +64,17 @@ fn count(entries: &Entries, place: &mut Place, buffers: u32, misses: u64) -> Tal
     requires halves { 2 * buffers ≡ entries.now.table_id.slots }
     requires misses { misses ≡ (giver_seat_of place.old.me.0).misses }
     requires all { (giver_seat_of place.old.me.0).made ≡ length (giver_seat_of place.old.me.0).closed }
-    ensures { (log : _) × IsTogether buffers (giver_seat_of place.old.me.0).turns (giver_seat_of place.old.me.0).closed log × Counted log result }
+    ensures { (log : _) × IsTogether buffers (giver_seat_of place.old.me.0).turns (giver_seat_of place.old.me.0).closed log × Counted log result × GivesInTurn (events_of log) }
 {
     let counts = Counts::of(entries.load::<Look>(place, 0));
     tally_of(counts, buffers, misses)
 }
 
-/// Closes a pool. It wants the giver, all drawers as `make` numbered them, and whatever leased chunks the caller still has. Answers how many answers of each kind all ends gave. It neither
-/// waits nor takes memory.
-pub fn close(giver: Giver, drawers: List<Drawer>, rest: List<Held<Lease>>) -> Tally
-    requires ends { AreAllEnds giver drawers.items }
-    requires rest { AllByRecursion (λ held. held.lease.pool ≡ giver.pool) rest.items }
-    ensures { Closes giver drawers.items result }
+/// Takes all ends in, and counts what they answered.
+fn close_ends(giver: Giver, drawers: List<Drawer>) -> Tally
+    requires { AreAllEnds giver drawers.items }
+    ensures { ClosesInTurn giver drawers.items result }
 {
-    let _ = rest;
     let Giver {
         board,
         mut place,
@@ -88,4 +85,16 @@ pub fn close(giver: Giver, drawers: List<Drawer>, rest: List<Held<Lease>>) -> Ta
     let entries = &board.shared;
     close_drawers(entries, &mut place, drawers);
     count(entries, &mut place, buffers, misses)
+}
+
+/// Closes a pool. It wants the giver, all drawers as `make` numbered them, and whatever leased chunks the caller still has. Answers how many answers of each kind all ends gave. It neither
+/// waits nor takes memory.
+pub fn close(giver: Giver, drawers: List<Drawer>, rest: List<Held<Lease>>) -> Tally
+    requires ends { AreAllEnds giver drawers.items }
+    requires rest { AllByRecursion (λ held. held.lease.pool ≡ giver.pool) rest.items }
+    ensures history { Closes giver drawers.items result }
+    ensures turns { ClosesInTurn giver drawers.items result }
+{
+    let _ = rest;
+    close_ends(giver, drawers)
 }

@@ -27,7 +27,7 @@ pub use Rattle.hs_live.specs.declared.called.Called.TheVariants.{Done}
 pub use Rattle.hs_records.specs.Pages.{pages_of}
 pub use Rattle.hs_records.specs.Plain.{Begin, End, Fire, Operation, PlainSettings, PlainWorkload, Point, Sample, settings_of}
 pub use Rattle.hs_records.specs.Records.{AreBracketed}
-pub use Rattle.hs_ring.proofs.Making.{new_drawers_length}
+pub use Rattle.hs_ring.proofs.Drawers.{new_drawers_length}
 pub use Rattle.hs_ring.specs.Parts.{Drawing, Giving, Leased, new_drawers}
 pub use Rattle.hs_run_client.specs.ClientActors.{PlainClientActor}
 pub use Rattle.hs_run_client.specs.Counting.{crumbs_in, crumbs_of, triggers_in, triggers_of, Uses}

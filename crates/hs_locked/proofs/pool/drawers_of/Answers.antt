@@ -1,7 +1,7 @@
 use Rattle.std.proofs.Common.{◌≡◌, ℕ, ◌+◌, ◌∷◌, [], ◌++◌, List, length, get_or, take, drop, sym, ap, ap₂, ◌∙◌, subst, arith, length-take}
 use Rattle.hs_locked.proofs.Prelude.{TableId, arc_value, Drawing, new_drawers, name_of, giver_seat_of, IsMaking}
 use Rattle.std.proofs.lemmas.List.{drop_more, take_more}
-use Rattle.hs_ring.proofs.Making.{new_drawers_length}
+use Rattle.hs_ring.proofs.Drawers.{new_drawers_length}
 use Rattle.hs_locked.proofs.Making.{new_drawer_of, new_drawers_and, makes_one, made_one}
 use Rattle.hs_locked.proofs.pool.drawers_of.Goals as goal
 

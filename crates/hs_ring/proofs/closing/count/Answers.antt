@@ -35,4 +35,5 @@ returns c =
         gives = (let a = t.gives in let p = e.published in let m = e.misses_are in omega (arith, counts.published));
         misses = (let b = t.misses in let m = e.misses_are in omega arith);
       },
+      e.gives,
     )

@@ -1,7 +1,8 @@
 use Rattle.std.proofs.Common.{◌≡◌, ℕ, ◌+◌, ◌∷◌, [], ◌++◌, List, length, get_or, take, drop, sym, ap, ap₂, ◌∙◌, subst, arith, length-take}
 use Rattle.hs_ring.proofs.Prelude.{TableId, arc_value, Drawing, new_drawers, name_of, giver_seat_of, IsMaking}
 use Rattle.std.proofs.lemmas.List.{drop_more, take_more}
-use Rattle.hs_ring.proofs.Making.{new_drawer_of, new_drawers_and, new_drawers_length, makes_one, made_one}
+use Rattle.hs_ring.proofs.Drawers.{new_drawers_length}
+use Rattle.hs_ring.proofs.Making.{new_drawer_of, new_drawers_and, makes_one, made_one}
 use Rattle.hs_ring.proofs.pool.drawers_of.Goals as goal
 
 pub split_seat-seat-requires : goal.split_seat-seat-requires
