@@ -2,3 +2,4 @@ pub mod Lists
 pub mod Stays
 pub mod Moves
 pub mod Tells
+pub mod Moments

@@ -17,7 +17,7 @@ pub trait Fact<T> {
     ghost holds: { Self → T → Type 0 };
 }
 
-/// What a seat knows, with the key of the link. No value of it is made.
+/// What a seat knows, with the key of the link. Only contracts have values of it.
 pub enum View<T, F> {
     Nobody,
     /// Both ends at once, before they are made.

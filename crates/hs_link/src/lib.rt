@@ -7,6 +7,7 @@
 mod board;
 mod cursor;
 mod ends;
+mod laws;
 mod plays;
 mod receiver;
 mod rest;
@@ -15,6 +16,7 @@ mod steps;
 
 pub use board::Fact;
 pub use ends::link;
+pub use laws::put_items_are_taken_or_lie_in_the_ring;
 pub use receiver::Receiver;
 pub use rest::{Rest, close_both};
 pub use sender::{Sender, Sent};

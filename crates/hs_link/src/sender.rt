@@ -146,7 +146,7 @@ impl<T, F: Fact<T>> Sender<T, F> {
     /// receiver has not emptied yet ends the attempt.
     ///
     /// `Kept` means that the item is last in the outbox. A sender sees it only while, by what it was told, the receiver
-    /// is a whole ring behind. Every other send answers `Through`. It takes no memory.
+    /// is a whole ring behind. Else the answer is `Through`. It takes no memory.
     pub fn send(&mut self, item: T) -> Sent
         requires room { length (sent self.old) < self.old.room }
         requires fact { F.holds self.old.key item }
