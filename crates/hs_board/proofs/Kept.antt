@@ -7,7 +7,7 @@ use Rattle.hs_board.proofs.Fronts.{among_front}
 use Rattle.hs_board.specs.Looking.{Looking}
 use Rattle.std.specs.Prelude.{Result, Ok, Err, OnOk, OnErr}
 use Rattle.hs_lists.proofs.Alls.{all_push, all_weaker}
-use Rattle.hs_board.specs.Watching.{Totals, IsFrom, IsRising, Watching, Watches, HasLooked, EndsAtLatest, IsSeenOf, Showing, WatchStands, KnowLast}
+use Rattle.hs_board.specs.Watching.{Totals, IsFrom, IsRising, Watching, Watches, KeepsWatching, EndsAtLatest, IsSeenOf, Showing, WatchStands, KnowLast}
 
 module _ (shown known known' : Totals) (front : IsFront known known') where
   pub kept : (x : Progress) → IsFrom shown known x → IsFrom shown known' x
@@ -150,18 +150,18 @@ same_watches shown w w' seen looking h =
           (subst (AllByRecursion (λ (x : Progress). x.rounds ≤ w.looking.latest.rounds)) (sym seen) h.most);
     }
 
-pub both : (s s' : Showing) → s'.shown ≡ s.shown → HasLooked s.one s'.one → HasLooked s.other s'.other → WatchStands s → WatchStands s'
+pub both : (s s' : Showing) → s'.shown ≡ s.shown → KeepsWatching s.one s'.one → KeepsWatching s.other s'.other → WatchStands s → WatchStands s'
 both s s' same one other h =
     record { one = subst (λ (shown : Totals). Watches shown s'.one) (sym same) (one s.shown h.one); other = subst (λ (shown : Totals). Watches shown s'.other) (sym same) (other s.shown h.other) }
 
-pub both_more : (s s' : Showing) (more : Totals) → s'.shown ≡ s.shown ++ more → HasLooked s.one s'.one → HasLooked s.other s'.other → WatchStands s → WatchStands s'
+pub both_more : (s s' : Showing) (more : Totals) → s'.shown ≡ s.shown ++ more → KeepsWatching s.one s'.one → KeepsWatching s.other s'.other → WatchStands s → WatchStands s'
 both_more s s' more same one other h =
     record {
       one = subst (λ (shown : Totals). Watches shown s'.one) (sym same) (one (s.shown ++ more) (shown_more s.shown more s.one h.one));
       other = subst (λ (shown : Totals). Watches shown s'.other) (sym same) (other (s.shown ++ more) (shown_more s.shown more s.other h.other));
     }
 
-pub published : {E : Type 0} (r : Result (Unit {0}) E) (s s' : Showing) (x : Progress) → OnOk r (s'.shown ≡ s.shown ++ x ∷ []) → OnErr r (s'.shown ≡ s.shown) → HasLooked s.one s'.one → HasLooked s.other s'.other → WatchStands s → WatchStands s'
+pub published : {E : Type 0} (r : Result (Unit {0}) E) (s s' : Showing) (x : Progress) → OnOk r (s'.shown ≡ s.shown ++ x ∷ []) → OnErr r (s'.shown ≡ s.shown) → KeepsWatching s.one s'.one → KeepsWatching s.other s'.other → WatchStands s → WatchStands s'
 published (Ok u) s s' x ok err one other h = both_more s s' (x ∷ []) ok one other h
 published (Err e) s s' x ok err one other h = both s s' err one other h
 

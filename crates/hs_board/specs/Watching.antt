@@ -4,7 +4,7 @@ use Rattle.std.specs.Prelude.{◌≡◌, ◌⊎◌, ℕ, ◌+◌, ◌<◌, ◌�
 use Rattle.std.specs.List.{AllByRecursion}
 use Rattle.hs_board.specs.declared.progress.Progress.{Progress}
 use Rattle.hs_board.specs.Looking.{Looking}
-use Rattle.hs_board.specs.Shown.{IsAmong, IsLast}
+use Rattle.hs_board.specs.Shown.{IsFront, IsAmong, IsLast}
 
 -- all that was shown on a board
 abbrev pub Totals : Type 0
@@ -38,9 +38,17 @@ pub record Watches (shown : Totals) (w : Watching) : Type 0 where
 abbrev pub MayLook : Watching → Type 0
 MayLook w = length w.seen + 4 ≤ w.room
 
+-- It still watches what it watched.
+abbrev pub KeepsWatching : Watching → Watching → Type 0
+KeepsWatching old new = (shown : Totals) → Watches shown old → Watches shown new
+
+-- All that it noted before stands, in front of what it noted since.
+abbrev pub KeepsNotes : Watching → Watching → Type 0
+KeepsNotes old new = IsFront old.seen new.seen
+
 -- It looked, at a board on which no less was shown than before.
 abbrev pub HasLooked : Watching → Watching → Type 0
-HasLooked old new = (shown : Totals) → Watches shown old → Watches shown new
+HasLooked old new = KeepsWatching old new × KeepsNotes old new
 
 -- What it noted last has as many rounds as the latest that it knows.
 abbrev pub EndsAtLatest : Watching → Type 0
@@ -60,6 +68,10 @@ pub record WatchStands (s : Showing) : Type 0 where
 -- Both have room for the looks of a round.
 abbrev pub BothMayLook : Showing → Type 0
 BothMayLook s = MayLook s.one × MayLook s.other
+
+-- Both keep their notes.
+abbrev pub BothKeepNotes : Showing → Showing → Type 0
+BothKeepNotes old new = KeepsNotes old.one new.one × KeepsNotes old.other new.other
 
 -- These totals have more rounds than those that are shown.
 abbrev pub IsLater : Progress → Totals → Type 0

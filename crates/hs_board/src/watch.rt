@@ -7,7 +7,7 @@ ghost use Rattle.hs_base.specs.Listing.{Listing};
 ghost use Rattle.hs_board.specs.declared.progress.Progress.{Progress as Totalled};
 ghost use Rattle.hs_board.specs.Looking.{Looking};
 ghost use Rattle.hs_board.specs.Shown.{first, IsFront, IsLast};
-ghost use Rattle.hs_board.specs.Watching.{MayLook, HasLooked, WatchStands, BothMayLook, IsLater, KnowLast, EndsAtLatest, IsSeenOf};
+ghost use Rattle.hs_board.specs.Watching.{MayLook, HasLooked, WatchStands, BothMayLook, BothKeepNotes, IsLater, KnowLast, EndsAtLatest, IsSeenOf};
 
 use crate::making::board;
 use crate::progress::Progress;
@@ -40,6 +40,7 @@ impl Watch {
     /// A new board, which shows the first totals, with two watchers that have not looked.
     pub fn make(alloc: Global) -> Result<Watch, Memory>
         ensures shown { IfOk result (λ watch. watch.shown ≡ first ∷ []) }
+        ensures none { IfOk result (λ watch. (watch.one.seen ≡ []) × (watch.other.seen ≡ [])) }
         ensures stands { IfOk result (λ watch. WatchStands watch) }
     {
         let (writer, mut readers) = board(alloc, 2)?;
@@ -58,6 +59,7 @@ impl Watch {
         ensures ok { OnOk result (BothMayLook self.new) }
         ensures shown { self.new.shown ≡ self.old.shown }
         ensures stands { WatchStands self.old → WatchStands self.new }
+        ensures keeps { BothKeepNotes self.old self.new }
         ensures last { KnowLast self.old → KnowLast self.new }
     {
         self.one.make_room()?;
@@ -69,11 +71,12 @@ impl Watch {
         requires { BothMayLook self.old }
         ensures shown { self.new.shown ≡ self.old.shown }
         ensures stands { WatchStands self.old → WatchStands self.new }
+        ensures keeps { BothKeepNotes self.old self.new }
     {
         look_both(rt, &mut self.one, &mut self.other);
     }
 
-    /// These totals are published while each watcher looks four times, all at once where threads can be made. After `Memory` nothing was
+    /// These totals are published while each watcher looks four times, all at once where threads can be made. At `Memory` nothing is
     /// published.
     pub fn publish_beside<R: Threads + Wait + Sync>(
         &mut self,
@@ -85,6 +88,7 @@ impl Watch {
         ensures ok { OnOk result (self.new.shown ≡ self.old.shown ++ progress ∷ []) }
         ensures err { OnErr result (self.new.shown ≡ self.old.shown) }
         ensures stands { WatchStands self.old → WatchStands self.new }
+        ensures keeps { BothKeepNotes self.old self.new }
     {
         publish_and_look(
             rt,
@@ -95,12 +99,13 @@ impl Watch {
         )
     }
 
-    /// These totals are published. After `Memory` nothing was.
+    /// These totals are published. At `Memory` nothing is.
     pub fn publish<R: Wait>(&mut self, rt: &R, progress: Progress) -> Result<(), Memory>
         requires { IsLater progress self.old.shown }
         ensures ok { OnOk result (self.new.shown ≡ self.old.shown ++ progress ∷ []) }
         ensures err { OnErr result (self.new.shown ≡ self.old.shown) }
         ensures stands { WatchStands self.old → WatchStands self.new }
+        ensures keeps { BothKeepNotes self.old self.new }
     {
         publish(rt, &mut self.writer, progress)
     }
@@ -109,6 +114,7 @@ impl Watch {
     pub fn tell(&mut self)
         ensures shown { self.new.shown ≡ self.old.shown }
         ensures stands { WatchStands self.old → WatchStands self.new }
+        ensures keeps { BothKeepNotes self.old self.new }
         ensures last { KnowLast self.new }
         ensures room { BothMayLook self.old → BothMayLook self.new }
     {
@@ -121,6 +127,7 @@ impl Watch {
         requires { BothMayLook self.old }
         ensures shown { self.new.shown ≡ self.old.shown }
         ensures stands { WatchStands self.old → WatchStands self.new }
+        ensures keeps { BothKeepNotes self.old self.new }
         ensures last { KnowLast self.old → KnowLast self.new }
         ensures ends { EndsAtLatest self.new.one × EndsAtLatest self.new.other }
     {
@@ -131,6 +138,7 @@ impl Watch {
     /// Ends the board, at `Memory` too. Answers what each watcher noted.
     pub fn close<R: Wait>(self, rt: &R, alloc: Global) -> Result<List<List<Progress>>, Memory>
         ensures count { IfOk result (λ seen. length seen.items ≡ 2) }
+        ensures lists { IfOk result (λ seen. map (λ (list : Listing Totalled). list.items) seen.items ≡ self.one.seen ∷ self.other.seen ∷ []) }
         ensures seen { WatchStands self → KnowLast self → EndsAtLatest self.one × EndsAtLatest self.other
             → IfOk result (λ seen. AllByRecursion (λ (list : Listing Totalled). IsSeenOf self.shown list.items) seen.items) }
     {

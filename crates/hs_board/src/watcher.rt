@@ -3,7 +3,7 @@
 ghost use Rattle.std.specs.Prelude.{◌≡◌, ◌+◌, ◌<◌, ◌≤◌, [], true, false, length, OnOk};
 ghost use Rattle.hs_board.specs.declared.progress.Progress.{Progress as Totalled};
 ghost use Rattle.hs_board.specs.Shown.{IsLast};
-ghost use Rattle.hs_board.specs.Watching.{Totals, Watches, MayLook, HasLooked, EndsAtLatest};
+ghost use Rattle.hs_board.specs.Watching.{Totals, Watches, MayLook, HasLooked, KeepsNotes, EndsAtLatest};
 
 use crate::progress::Progress;
 use crate::reader::BoardReader;
@@ -51,6 +51,7 @@ impl Watcher {
     pub(crate) fn look(&mut self)
         requires { length self.old.seen < self.old.room }
         ensures watches { (shown : Totals) → Watches shown self.old → Watches shown self.new }
+        ensures keeps { KeepsNotes self.old self.new }
         ensures ends { EndsAtLatest self.new }
         ensures rises { self.old.looking.latest.rounds ≤ self.new.looking.latest.rounds }
         ensures room { (self.old.room ≤ self.new.room) × (length self.new.seen ≤ length self.old.seen + 1) }

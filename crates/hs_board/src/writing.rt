@@ -9,7 +9,7 @@ use crate::progress::Progress;
 use hs_base::{List, Memory};
 use hs_text::{end_line, push_spaced, push_spaced_number};
 
-/// Appends what watchers saw, in the order of their numbers, and the last line. After an `Err` the text may have grown.
+/// Appends what watchers saw, in the order of their numbers, and the last line. After an `Err` no clause says what the text is.
 pub fn write_watched(out: &mut Vec<u8>, all: &[List<Progress>]) -> Result<(), Memory>
     ensures { OnOk result (out.new.items ≡ out.old.items ++ watch_text (map (λ seen. seen.items) all.now)) }
 {

@@ -1,4 +1,4 @@
-use Rattle.std.proofs.Common.{sym, subst}
+use Rattle.std.proofs.Common.{◌≡◌, [], ◌∷◌, map, sym, ap, ap₂, ◌∙◌, subst}
 use Rattle.std.proofs.lemmas.Result.{IfOk-weaker}
 use Rattle.std.specs.Prelude.{IfOk}
 use Rattle.std.specs.List.{AllByRecursion}
@@ -24,3 +24,8 @@ returns-clause-seen g c =
     subst (AllByRecursion (λ (list : Listing Progress). IsSeenOf shown list.items)) (sym is)
     (subst (IsSeenOf shown) (sym c.parts-first.ensures.1) one, (subst (IsSeenOf shown) (sym c.parts-second.ensures.1) other, tt)))
     c.two_lists.ensures)
+
+pub returns-clause-lists : goal.returns-clause-lists
+returns-clause-lists g c =
+    subst (λ (v : Showing). IfOk c.two_lists.result (λ seen. map (λ (list : Listing Progress). list.items) seen.items ≡ v.one.seen ∷ v.other.seen ∷ [])) c.self.view_is
+    (IfOk-weaker c.two_lists.result _ _ (λ seen is. ap (map (λ (list : Listing Progress). list.items)) is ∙ ap₂ (λ a b. a ∷ b ∷ []) c.parts-first.ensures.1 c.parts-second.ensures.1) c.two_lists.ensures)
