@@ -203,6 +203,7 @@ impl<L: Token> Agent<L> {
         requires { Knows self.old (λ run. IsSome run.offered) }
         ensures after { (run : Run L) → Follows self.old run → Follows self.new (after_answer run given) }
         ensures spent { self.new.spent ≡ self.old.spent }
+        ensures idle { IsSpent self.old → self.new ≡ self.old }
     {
         if self.spent {
             return;
