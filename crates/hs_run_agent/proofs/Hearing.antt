@@ -1,6 +1,6 @@
 -- The coordinator hears messages.
 use Rattle.std.proofs.Common.{◌≡◌, ℕ, zero, suc, ◌+◌, ◌<◌, ◌≤◌, min, Bool, true, false, cond, List, [], ◌∷◌, ◌++◌, length, map, filter, Option, Some, None, ◌⊎◌, inl, inr, refl, sym, ap, ap₂, subst, ◌∙◌, arith, append_assoc, append-nil, length-append, length-set, eq-eqb}
-use Rattle.hs_run_agent.proofs.Prelude.{ne_eqb, flat_map-append, map-append, same_Some, slice_get_within, slice_get, slice_set, AllByRecursion, all_append, is_declared, MAX_TAKEN, Ask, Told, Messages, PlainWorkload, IsAskable, IsTellable, PlainCoordinatorActor, Tellings, Askings, IsCoordinatorActor, HearsNode}
+use Rattle.hs_run_agent.proofs.Prelude.{ne_eqb, flat_map-append, map-append, same_Some, slice_get_within, slice_get, slice_set, AllByRecursion, all_append, all_each, is_declared, MAX_TAKEN, Ask, Told, Messages, PlainWorkload, IsAskable, IsTellable, PlainCoordinatorActor, Tellings, Askings, IsCoordinatorActor, HearsNode}
 use Rattle.std.specs.Prelude.{find, unwrap_or}
 use Rattle.hs_base.specs.declared.ids.NodeId.{NodeId}
 use Rattle.hs_coord.specs.Following.{AreAsks, first_of}
@@ -10,7 +10,7 @@ use Rattle.hs_coord.specs.declared.asks.Asks.{Asks}
 use Rattle.hs_law_journal.specs.Following.{asks_to, ask_by, is_from}
 use Rattle.hs_law_journal.proofs.Hearing.{heard_both}
 use Rattle.hs_law_journal.proofs.Logs.{behind_more}
-use Rattle.hs_run_agent.specs.Coordinators.{IsHearable, Hears, AreMoved, Brings, AreFetched, ArePutBehind, heard_of, ask_for, asks_for}
+use Rattle.hs_run_agent.specs.Coordinators.{IsHearable, Hears, AreInTurn, AreMoved, Brings, AreFetched, ArePutBehind, heard_of, ask_for, asks_for}
 
 -- ---- lists
 
@@ -163,6 +163,23 @@ module _ (W : PlainWorkload) (heard : Messages) (moved : Tellings) (asked : Aski
 
 -- ---- all nodes
 
+-- messages of one node, behind those of lower ones
+module _ (n : ℕ) where
+  from_one : (told : List Told) → AllByRecursion (λ (m : Message). m.node.0 ≡ n) (map (message (name n)) told)
+  from_one [] = tt
+  from_one (t ∷ told) = (refl, from_one told)
+
+  one_in_turn : (told : List Told) → AreInTurn (map (message (name n)) told)
+  one_in_turn [] = tt
+  one_in_turn (t ∷ told) = (all_each (λ (m : Message). m.node.0 ≡ n) (λ (m : Message). n ≤ m.node.0) (map (message (name n)) told) (λ m e. omega (arith, e)) (from_one told), one_in_turn told)
+
+  behind_lower : (lower own : Messages) → AreInTurn lower → AllByRecursion (λ (m : Message). m.node.0 < n) lower → AreInTurn own → AllByRecursion (λ (m : Message). m.node.0 ≡ n) own → AreInTurn (lower ++ own)
+  behind_lower [] own turns low at turn = at
+  behind_lower (m ∷ lower) own turns low at turn = (
+    all_append (λ (later : Message). m.node.0 ≤ later.node.0) lower own turns.0 (all_each (λ (later : Message). later.node.0 ≡ n) (λ (later : Message). m.node.0 ≤ later.node.0) own (λ later e. (let l = low.0 in omega (arith, e, l))) turn),
+    behind_lower lower own turns.1 low.1 at turn,
+  )
+
 module _ (W : PlainWorkload) (heard : Messages) (moved : Tellings) (asked : Askings) where
   -- The messages of the first so many nodes were heard.
   pub record HeardFirst (first : ℕ) (c : PlainCoordinatorActor) : Type 0 where
@@ -171,6 +188,8 @@ module _ (W : PlainWorkload) (heard : Messages) (moved : Tellings) (asked : Aski
     pub few : (node : ℕ) → node < first → length (heard_of node more) ≤ MAX_TAKEN
     pub all : (node : ℕ) → node < first → min (length (heard_of node heard) + MAX_TAKEN) (length (moved node)) ≤ length (heard_of node heard) + length (heard_of node more)
     pub none : (node : ℕ) → first ≤ node → heard_of node more ≡ []
+    pub turns : AreInTurn more
+    pub low : AllByRecursion (λ (m : Message). m.node.0 < first) more
 
   pub none_first : (c : PlainCoordinatorActor) → IsCoordinatorActor W heard moved asked c → HeardFirst 0 c
   none_first c is =
@@ -180,6 +199,8 @@ module _ (W : PlainWorkload) (heard : Messages) (moved : Tellings) (asked : Aski
         few = λ node low. absurd (omega (arith, low));
         all = λ node low. absurd (omega (arith, low));
         none = λ node low. refl;
+        turns = tt;
+        low = tt;
       }
 
   module _ (first : ℕ) (c : PlainCoordinatorActor) (h : HeardFirst first c) where
@@ -210,6 +231,9 @@ module _ (W : PlainWorkload) (heard : Messages) (moved : Tellings) (asked : Aski
                 omega (arith, same, all, a, b, before))
           ];
           none = λ node high. other node (λ e. omega (arith, e, high)) ∙ h.none node (omega (arith, high));
+          turns = behind_lower first h.more told h.turns h.low (one_in_turn first n.more) (from_one first n.more);
+          low = all_append (λ (m : Message). m.node.0 < first + 1) h.more told (all_each (λ (m : Message). m.node.0 < first) (λ (m : Message). m.node.0 < first + 1) h.more (λ m l. omega (arith, l)) h.low)
+              (all_each (λ (m : Message). m.node.0 ≡ first) (λ (m : Message). m.node.0 < first + 1) told (λ m e. omega (arith, e)) (from_one first n.more));
         }
       where
         below : (first node : ℕ) → node < first + 1 → (node < first) ⊎ (node ≡ first)
@@ -228,6 +252,7 @@ module _ (W : PlainWorkload) (heard : Messages) (moved : Tellings) (asked : Aski
             (let all = h.all node (omega (arith, low, high)) in
             let both = ap length (heard_both (name node) heard h.more) ∙ length-append (heard_of node heard) (heard_of node h.more) in
             omega (arith, all, both));
+        turns = h.turns;
       },
     )
 

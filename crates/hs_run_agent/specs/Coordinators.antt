@@ -71,11 +71,17 @@ pub record IsCoordinatorActor (W : PlainWorkload) (heard : Messages) (moved : Te
   pub askable : AllByRecursion (λ (asks : Asks). IsAskable W asks.ask) c.asks
   pub asks_are : (node : ℕ) → node < W.settings.nodes → asks_to node heard ≡ asked node ++ asks_for node c.asks
 
--- Of each node the coordinator heard the messages that had been brought, all or as many as it hears in a pass.
+-- They come of one node after another, in the order of the nodes.
+abbrev pub AreInTurn : Messages → Type 0
+AreInTurn [] = Unit {0}
+AreInTurn (m ∷ more) = AllByRecursion (λ (later : Message). m.node.0 ≤ later.node.0) more × AreInTurn more
+
+-- Of each node in turn the coordinator heard the messages that had been brought, all or as many as it hears in a pass.
 pub record Hears (W : PlainWorkload) (heard more : Messages) (moved : Tellings) (asked : Askings) (new : PlainCoordinatorActor) : Type 0 where
   pub stands : IsCoordinatorActor W (heard ++ more) moved asked new
   pub few : (node : ℕ) → node < W.settings.nodes → length (heard_of node more) ≤ MAX_TAKEN
   pub all : (node : ℕ) → node < W.settings.nodes → min (length (heard_of node heard) + MAX_TAKEN) (length (moved node)) ≤ length (heard_of node (heard ++ more))
+  pub turns : AreInTurn more
 
 -- Of one node the coordinator heard messages that had been brought, all or as many as it hears in a pass.
 pub record HearsNode (W : PlainWorkload) (heard : Messages) (moved : Tellings) (asked : Askings) (node : ℕ) (new : PlainCoordinatorActor) : Type 0 where
