@@ -3,7 +3,8 @@
 ghost use Rattle.std.specs.Prelude.{◌≡◌, [], ◌∷◌, ◌++◌, List, map, length, IfOk};
 ghost use Rattle.hs_base.specs.declared.ids.TraceId.{TraceId};
 ghost use Rattle.hs_collect.specs.Collected.{Placed};
-ghost use Rattle.hs_journal.specs.Views.{PlainJournal};
+ghost use Rattle.hs_journal.specs.Grammar.{journal_text};
+ghost use Rattle.hs_journal.specs.Views.{PlainJournal, journal_of};
 ghost use Rattle.hs_law_journal.specs.Lawful.{IsLawful};
 ghost use Rattle.hs_law_outcome.specs.OutcomeText.{json_list, ledger_text, outcome_text, report_json};
 ghost use Rattle.hs_law_outcome.specs.declared.form.Form.TheVariants.{Json};
@@ -44,7 +45,8 @@ fn json_behind(alloc: Global, behind: &Behind) -> Result<Bytes, Memory>
 /// The text of an outcome with its reports as JSON, in two parts.
 pub(crate) fn json_parts(alloc: Global, outcome: Outcome) -> Result<Parts, Memory>
     requires { (W : PlainWorkload) × (J : PlainJournal) × IsValid W × IsLawful W J × IsOutcome W J outcome }
-    ensures { IfOk result (λ parts. (W : PlainWorkload) (J : PlainJournal) → IsValid W → IsLawful W J → IsOutcome W J outcome
+    ensures journal { IfOk result (λ parts. parts.journal.items ≡ journal_text (journal_of outcome.journal)) }
+    ensures text { IfOk result (λ parts. (W : PlainWorkload) (J : PlainJournal) → IsValid W → IsLawful W J → IsOutcome W J outcome
         → parts.journal.items ++ parts.behind.items ≡ outcome_text W J Json) }
 {
     let opened = open_parts(alloc, outcome)?;

@@ -1,7 +1,8 @@
 //! The text of an outcome in either form.
 
 ghost use Rattle.std.specs.Prelude.{◌≡◌, ◌++◌, IfOk};
-ghost use Rattle.hs_journal.specs.Views.{PlainJournal};
+ghost use Rattle.hs_journal.specs.Grammar.{journal_text};
+ghost use Rattle.hs_journal.specs.Views.{PlainJournal, journal_of};
 ghost use Rattle.hs_law_journal.specs.Lawful.{IsLawful};
 ghost use Rattle.hs_law_outcome.specs.OutcomeText.{outcome_text};
 ghost use Rattle.hs_law_outcome.specs.declared.form.Form.TheVariants.{Json};
@@ -55,7 +56,8 @@ pub fn write_outcome(alloc: Global, outcome: &Outcome, form: Form) -> Result<Byt
 pub fn outcome_parts(alloc: Global, outcome: Outcome, form: Form) -> Result<Parts, Memory>
     // Some valid workload and some lawful journal of it come to this outcome.
     requires { (W : PlainWorkload) × (J : PlainJournal) × IsValid W × IsLawful W J × IsOutcome W J outcome }
-    ensures { IfOk result (λ parts. (W : PlainWorkload) (J : PlainJournal) → IsValid W → IsLawful W J → IsOutcome W J outcome
+    ensures journal { IfOk result (λ parts. parts.journal.items ≡ journal_text (journal_of outcome.journal)) }
+    ensures text { IfOk result (λ parts. (W : PlainWorkload) (J : PlainJournal) → IsValid W → IsLawful W J → IsOutcome W J outcome
         → parts.journal.items ++ parts.behind.items ≡ outcome_text W J form) }
 {
     match form {

@@ -1,8 +1,9 @@
 //! The entries of a ledger by trace, and the records that were reported.
 
-ghost use Rattle.std.specs.Prelude.{◌≡◌, List, filter, IfOk};
+ghost use Rattle.std.specs.Prelude.{◌≡◌, true, false, List, filter, IfOk};
 ghost use Rattle.std.specs.HashSet.{contains};
 ghost use Rattle.hs_base.specs.declared.ids.RecordId.{RecordId};
+ghost use Rattle.hs_base.specs.declared.ids.TraceId.{TraceId};
 ghost use Rattle.hs_collect.specs.Collected.{is_same};
 ghost use Rattle.hs_ledger.specs.declared.ledger.Entry.{Entry};
 ghost use Rattle.hs_ledger.specs.Totals.{is_reported as reported_by};
@@ -86,6 +87,13 @@ impl Fates {
         ensures { (entries : List Entry) → AreFatesOf entries self.now → result ≡ has_entry entries trace }
     {
         !self.of(trace).is_empty()
+    }
+
+    /// Whether there are no entries. Then no trace has a record.
+    pub(crate) fn is_empty(&self) -> bool
+        ensures { result ≡ true → (entries : List Entry) → AreFatesOf entries self.now → (trace : TraceId) → has_entry entries trace ≡ false }
+    {
+        self.by_trace.as_slice().is_empty()
     }
 
     /// Whether this record was reported.

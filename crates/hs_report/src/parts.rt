@@ -136,7 +136,8 @@ fn lines_behind(alloc: Global, behind: &Behind) -> Result<Bytes, Memory>
 pub fn line_parts(alloc: Global, outcome: Outcome) -> Result<Parts, Memory>
     // Some valid workload and some lawful journal of it come to this outcome.
     requires { (W : PlainWorkload) × (J : PlainJournal) × IsValid W × IsLawful W J × IsOutcome W J outcome }
-    ensures { IfOk result (λ parts. (W : PlainWorkload) (J : PlainJournal) → IsValid W → IsLawful W J → IsOutcome W J outcome
+    ensures journal { IfOk result (λ parts. parts.journal.items ≡ journal_text (journal_of outcome.journal)) }
+    ensures text { IfOk result (λ parts. (W : PlainWorkload) (J : PlainJournal) → IsValid W → IsLawful W J → IsOutcome W J outcome
         → parts.journal.items ++ parts.behind.items ≡ outcome_text W J Text) }
 {
     let opened = open_parts(alloc, outcome)?;

@@ -49,6 +49,9 @@ fn reported_traces(
         → traces.items ≡ filter (has_entry entries) claimed.now) }
 {
     let mut traces = Vec::new(alloc);
+    if fates.is_empty() {
+        return Ok(traces);
+    }
     for trace in claimed {
         push_trace(&mut traces, fates, *trace)?;
     }

@@ -11,4 +11,4 @@ pub returns : goal.returns
 returns g c =
     let W = workload_of c.args.workload in
     let (J, lawful, come) = c.in_ok-outcome.ensures in
-    IfOk-weaker c.outcome_parts.result _ _ (λ parts is. (J, lawful, is W J c.requires lawful come)) c.outcome_parts.ensures
+    IfOk-weaker c.outcome_parts.result _ _ (λ parts is. (J, lawful, is W J c.requires lawful come)) c.outcome_parts.ensures.text

@@ -13,4 +13,4 @@ pub returns : goal.returns
 returns c =
     let W = workload_of c.args.workload in
     let lawful = c.schedule_is_lawful.ensures W c.requires in
-    IfOk-weaker c.outcome_parts.result _ _ (λ parts is. (lockstep W, lawful, refl, is W (lockstep W) c.requires lawful c.in_ok-outcome.ensures)) c.outcome_parts.ensures
+    IfOk-weaker c.outcome_parts.result _ _ (λ parts is. (lockstep W, lawful, refl, is W (lockstep W) c.requires lawful c.in_ok-outcome.ensures)) c.outcome_parts.ensures.text

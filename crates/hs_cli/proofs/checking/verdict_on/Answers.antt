@@ -22,7 +22,7 @@ returns-in_ok-outcome_parts-in-Lawful c =
     let W = workload_of c.args.workload.now in
     let J = journal_of c.args.journal.now in
     let lawful : IsLawful W J × IsOutcome W J c.in-Lawful.outcome = subst (λ (verdict : Verdict). IsVerdict W J verdict) c.in-Lawful.is c.in_ok-outcome.ensures in
-    judged_as W J c.done_with.result.status Done _ _ c.done_with.ensures.status c.done_with.ensures.text (lawful.0, c.in_ok-outcome_parts-in-Lawful.ensures W J c.requires lawful.0 lawful.1)
+    judged_as W J c.done_with.result.status Done _ _ c.done_with.ensures.status c.done_with.ensures.text (lawful.0, c.in_ok-outcome_parts-in-Lawful.ensures.text W J c.requires lawful.0 lawful.1)
 
 pub returns-in_ok-line-in-Unlawful : goal.returns-in_ok-line-in-Unlawful
 returns-in_ok-line-in-Unlawful c =

@@ -8,8 +8,8 @@ use Rattle.hs_report.proofs.Written.{opened_written}
 use Rattle.hs_json.proofs.Written.{counted_json}
 use Rattle.hs_json.proofs.parts.json_parts.Goals as goal
 
-pub returns : goal.returns
-returns c = λ W J valid lawful is.
+pub returns-clause-text : goal.returns-clause-text
+returns-clause-text c = λ W J valid lawful is.
     let outcome = c.args.outcome in
     let opened = c.in_ok-opened.opened in
     let e = c.in_ok-opened.ensures in
