@@ -14,7 +14,7 @@ pub enum Clause {
     L3,
     /// A give answers the draw of its chunk.
     L4,
-    /// Each log is a list of whole passes.
+    /// Every log is one whole pass after another.
     L5,
     /// In each pass all offers are made.
     L6,

@@ -1,5 +1,5 @@
 //! Whether a journal is lawful for a workload: the outcome of the two, or the first clause that fails. Two clauses are decided here: the
-//! seventh, that what is unread could be, and the eleventh, that agents and coordinator keep pace with the clients (`docs/RULES.md`,
+//! seventh, that what is unread could be, and the eleventh, that agents and coordinator do not fall behind the clients (`docs/RULES.md`,
 //! "The lawful journal").
 #![tactic(auto)]
 

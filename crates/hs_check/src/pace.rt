@@ -1,4 +1,4 @@
-//! The eleventh clause: agents and coordinator keep pace with the clients (`docs/RULES.md`, "The lawful journal").
+//! The eleventh clause: agents and coordinator do not fall behind the clients (`docs/RULES.md`, "The lawful journal").
 
 ghost use Rattle.std.specs.Prelude.{◌≡◌, ◌*◌, ◌<◌, ◌≤◌, ◌&&◌, true, length, IfOk};
 ghost use Rattle.hs_base.specs.declared.limits.TheConstants.{MAX_CLIENTS};
@@ -24,7 +24,7 @@ use hs_law_journal::laws::{following_plays_out, runs_are_of_the_journal};
 use hs_workload::Workload;
 use std::alloc::Global;
 
-/// Whether agents and coordinator keep pace with the clients: gives stand beside the draws of their round, and items and asks are
+/// Whether agents and coordinator do not fall behind the clients: gives stand beside the draws of their round, and items and asks are
 /// taken soon enough. The one error is want of memory.
 pub fn has_pace(
     alloc: Global,

@@ -1,4 +1,4 @@
-//! The fifth clause: each log is a list of whole passes.
+//! The fifth clause: every log is one whole pass after another.
 
 ghost use Rattle.std.specs.Prelude.{◌≡◌};
 ghost use Rattle.std.specs.List.{list_all};
@@ -14,7 +14,7 @@ use hs_base::limits::MAX_TAKEN;
 use hs_journal::{Journal, Step};
 use hs_workload::Workload;
 
-/// Whether each log is a list of whole passes.
+/// Whether every log is one whole pass after another.
 pub fn has_passes(workload: &Workload, journal: &Journal) -> bool
     ensures { result ≡ has_passes (played (workload_of workload.now) (journal_of journal.now)) }
 {

@@ -151,7 +151,7 @@ it_goes_at_once = refl
 too_many_traces : going (arrived (after 9 2 (chunk 2 1 ∷ chunk 1 0 ∷ [])) (b 3 2)) ≡ leaving 3 3 (b 1 0) ∷ []
 too_many_traces = refl
 
--- a trace with a crumb and no chunk is touched, and counts
+-- A crumb touches its trace too, and a trace without chunks counts.
 a_crumb_counts : traces_after 9 2 (crumb 3 0 ∷ chunk 2 1 ∷ chunk 1 0 ∷ []) ≡ 2 ∷ 3 ∷ []
 a_crumb_counts = refl
 

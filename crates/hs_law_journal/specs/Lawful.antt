@@ -23,7 +23,7 @@ pub record IsLawful (W : PlainWorkload) (J : PlainJournal) : Type 0 where
   pub L3 : AllByRecursion (λ (run : NodeRun). IsPoolHistory W.settings.buffers (pool_history run)) (followed W J).nodes
   -- a give answers the draw of its chunk
   pub L4 : has_answers (played W J) ≡ true
-  -- each log is a list of whole passes
+  -- every log is one whole pass after another
   pub L5 : has_passes (played W J) ≡ true
   -- in each pass all offers are made
   pub L6 : has_offers (played W J) ≡ true

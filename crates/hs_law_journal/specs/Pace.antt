@@ -1,4 +1,4 @@
--- The clause L11 of the lawful journal: agents and coordinator keep pace with the clients. An operation has a round, by the
+-- The clause L11 of the lawful journal: agents and coordinator do not fall behind the clients. An operation has a round, by the
 -- stride, and a draw that of the operation that starts its page. The gives of a pass come behind the draws of earlier rounds and
 -- before those of later rounds. What the rounds up to one send is taken by the pass behind it, or at least 64 items more than by
 -- the pass before it; and likewise asks.

@@ -1,4 +1,4 @@
--- The clauses L5 and L6 of the lawful journal: each log is a list of whole passes, and in each pass all offers are made. In a
+-- The clauses L5 and L6 of the lawful journal: every log is one whole pass after another, and in each pass all offers are made. In a
 -- pass the agent takes from each queue, in order, at most 64 items: for each client its chunks, its crumbs and its triggers, and
 -- then the asks. Then it makes one turn, and then it offers the buffers of its hand: until the hand is empty, or until one offer
 -- is unread.

@@ -53,7 +53,7 @@ ScheduleHasHistory = (W : PlainWorkload) → AllByRecursion (λ (run : NodeRun).
 abbrev pub ScheduleHasAnswers : Type 0
 ScheduleHasAnswers = (W : PlainWorkload) → has_answers (played W (lockstep W)) ≡ true
 
--- Each log is a list of whole passes.
+-- Every log is one whole pass after another.
 abbrev pub ScheduleHasPasses : Type 0
 ScheduleHasPasses = (W : PlainWorkload) → has_passes (played W (lockstep W)) ≡ true
 
@@ -61,7 +61,7 @@ ScheduleHasPasses = (W : PlainWorkload) → has_passes (played W (lockstep W)) �
 abbrev pub ScheduleHasOffers : Type 0
 ScheduleHasOffers = (W : PlainWorkload) → has_offers (played W (lockstep W)) ≡ true
 
--- Agents and coordinator keep pace with the clients.
+-- Agents and coordinator do not fall behind the clients.
 abbrev pub ScheduleHasPace : Type 0
 ScheduleHasPace = (W : PlainWorkload) → IsValid W → has_pace (played W (lockstep W)) ≡ true
 

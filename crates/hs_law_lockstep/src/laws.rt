@@ -29,7 +29,7 @@ pub fn schedule_is_doings()
     known();
 }
 
-/// So its journal keeps the clauses on order: each log is a list of whole passes in which all offers are made, none of them is unread, each
+/// So its journal keeps the clauses on order: every log is one whole pass after another in which all offers are made, none of them is unread, each
 /// step is ready when its turn comes, and all agents make as many passes, as many as there are rounds at least.
 pub fn schedule_has_order()
     ensures passes { ScheduleHasPasses }
@@ -46,7 +46,7 @@ pub fn schedule_has_order()
     doings_are_enough();
 }
 
-/// Agents and coordinator of the schedule keep pace with the clients.
+/// Agents and coordinator of the schedule do not fall behind the clients.
 pub fn schedule_has_pace()
     ensures { ScheduleHasPace }
 {

@@ -34,7 +34,7 @@ pub fn doings_have_shape()
     ensures { HaveShape }
 {}
 
-/// L5: where each pass is one of the loop, each log is a list of whole passes.
+/// L5: where each pass is one of the loop, every log is one whole pass after another.
 pub fn doings_are_whole_passes()
     ensures { AreWholePasses }
 {}

@@ -75,7 +75,7 @@ pub fn push_payload(out: &mut Vec<u8>, bytes: &[u8]) -> Result<(), Memory>
     Ok(())
 }
 
-/// Appends a word behind a space. After an `Err` of this call and of those below, the text may have grown.
+/// Appends a word behind a space. After an `Err` of this call and of those below, no clause says what the text is.
 pub fn push_spaced(out: &mut Vec<u8>, word: &[u8]) -> Result<(), Memory>
     ensures { OnOk result (out.new.items ≡ out.old.items ++ 32 ∷ word.now) }
 {
