@@ -219,17 +219,46 @@ the_numbers_behind_two_dashes : command_in (codes "make" ∷ codes "--" ∷ code
 unfolding clap_on_literals
 the_numbers_behind_two_dashes = refl
 
+-- both sides of each number's limits
+the_greatest_numbers_made : command_in (codes "make" ∷ codes "18446744073709551615" ∷ codes "10000" ∷ []) ≡ Some (Make 18446744073709551615 10000)
+unfolding clap_on_literals
+the_greatest_numbers_made = refl
+
+no_seed_above_the_greatest : command_in (codes "make" ∷ codes "18446744073709551616" ∷ codes "1" ∷ []) ≡ None
+unfolding clap_on_literals
+no_seed_above_the_greatest = refl
+
 no_size_above_the_greatest : command_in (codes "make" ∷ codes "7" ∷ codes "10001" ∷ []) ≡ None
 unfolding clap_on_literals
 no_size_above_the_greatest = refl
+
+no_size_of_none : command_in (codes "drill" ∷ codes "7" ∷ codes "0" ∷ []) ≡ None
+unfolding clap_on_literals
+no_size_of_none = refl
 
 compared_under_two_numbers : command_in (codes "compare" ∷ codes "10" ∷ codes "1000" ∷ []) ≡ Some (Compare 10 1000)
 unfolding clap_on_literals
 compared_under_two_numbers = refl
 
+compared_under_the_least : command_in (codes "compare" ∷ codes "1" ∷ codes "1" ∷ []) ≡ Some (Compare 1 1)
+unfolding clap_on_literals
+compared_under_the_least = refl
+
+compared_under_the_greatest : command_in (codes "compare" ∷ codes "1000000" ∷ codes "262144" ∷ []) ≡ Some (Compare 1000000 262144)
+unfolding clap_on_literals
+compared_under_the_greatest = refl
+
 no_share_of_none : command_in (codes "compare" ∷ codes "0" ∷ codes "1000" ∷ []) ≡ None
 unfolding clap_on_literals
 no_share_of_none = refl
+
+no_share_above_the_greatest : command_in (codes "compare" ∷ codes "1000001" ∷ codes "1000" ∷ []) ≡ None
+unfolding clap_on_literals
+no_share_above_the_greatest = refl
+
+no_room_of_none : command_in (codes "compare" ∷ codes "10" ∷ codes "0" ∷ []) ≡ None
+unfolding clap_on_literals
+no_room_of_none = refl
 
 no_room_above_the_greatest : command_in (codes "compare" ∷ codes "1000000" ∷ codes "262145" ∷ []) ≡ None
 unfolding clap_on_literals

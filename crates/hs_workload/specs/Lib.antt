@@ -8,3 +8,4 @@ pub mod Validity
 pub mod Versions
 pub mod Faults
 pub mod Forward
+pub mod Limits
