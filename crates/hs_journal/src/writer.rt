@@ -1,6 +1,6 @@
 //! Writing a journal.
 
-ghost use Rattle.std.specs.Prelude.{◌≡◌, ◌<◌, ◌+◌, ◌*◌, ◌≤◌, ◌++◌, ◌∷◌, [], map, length, IfOk, OnOk};
+ghost use Rattle.std.specs.Prelude.{◌≡◌, ◌<◌, ◌+◌, ◌*◌, ◌≤◌, ◌++◌, ◌∷◌, [], map, sum, length, IfOk, OnOk};
 ghost use Rattle.hs_base.specs.declared.limits.TheConstants.{MAX_NODES, MAX_CLIENTS};
 ghost use Rattle.hs_journal.specs.Views.{journal_of};
 ghost use Rattle.hs_journal.specs.Statements.{statement_line, draw_statement, step_statement, told_statement};
@@ -118,8 +118,11 @@ const STEP_ROOM: usize = 12;
 
 const TOLD_ROOM: usize = 8;
 
-/// About how many bytes the text of a journal has.
-fn room_for(journal: &Journal) -> usize {
+/// About how many bytes the text of a journal has: at most so many for each draw, each step and each message.
+fn room_for(journal: &Journal) -> usize
+    ensures { result ≤ length journal.now.told.items * TOLD_ROOM + (sum (map (λ draws. length draws.items) journal.now.draws.items) * DRAW_ROOM
+        + sum (map (λ log. length log.items) journal.now.logs.items) * STEP_ROOM) }
+{
     let mut room = journal.told.len().saturating_mul(TOLD_ROOM);
     for draws in journal.draws.as_slice() {
         room = room.saturating_add(draws.len().saturating_mul(DRAW_ROOM));

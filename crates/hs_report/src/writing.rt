@@ -1,6 +1,6 @@
 //! The text of an outcome.
 
-ghost use Rattle.std.specs.Prelude.{◌≡◌, [], ◌∷◌, ◌++◌, List, filter, IfOk, OnOk};
+ghost use Rattle.std.specs.Prelude.{◌≡◌, ◌≤◌, ◌*◌, [], ◌∷◌, ◌++◌, List, length, filter, IfOk, OnOk};
 ghost use Rattle.hs_journal.specs.Grammar.{journal_text};
 ghost use Rattle.hs_journal.specs.Views.{PlainJournal, journal_of};
 ghost use Rattle.hs_law_journal.specs.Lawful.{IsLawful};
@@ -75,8 +75,10 @@ pub fn sort_out(alloc: Global, outcome: &Outcome) -> Result<Sorted, Memory>
 /// About how many bytes the line of a ledger's entry has, where a trace has 16 digits.
 const ENTRY_ROOM: usize = 48;
 
-/// About how many bytes a ledger has in a text of this version.
-pub(crate) fn room_for(version: u8, ledger: &Ledger) -> usize {
+/// About how many bytes a ledger has in a text of this version: at most 64 for each entry.
+pub(crate) fn room_for(version: u8, ledger: &Ledger) -> usize
+    ensures { result ≤ length ledger.now.entries.items * 64 }
+{
     let wider = if version == 1 { 0 } else { 16 };
     let entries = ledger.entries.len();
     entries.saturating_mul(ENTRY_ROOM + wider)
