@@ -1,6 +1,6 @@
 //! Chunks that are kept for when they are asked for.
 
-ghost use Rattle.std.specs.Prelude.{◌≡◌, [], ◌∷◌, ◌++◌, map, OnOk, if◌then◌else◌};
+ghost use Rattle.std.specs.Prelude.{◌≡◌, ◌≤◌, ◌+◌, ◌*◌, IsTrue, [], ◌∷◌, ◌++◌, length, map, OnOk, if◌then◌else◌};
 ghost use Rattle.hs_words.specs.Buffers.{buffer_of};
 
 use hs_base::Memory;
@@ -40,9 +40,11 @@ impl Keeping {
 
 /// Whether the chunks of a client with these operations are kept at these draws: where they are few, and take little, for so many
 /// operations.
-pub(crate) fn may_keep(size: u32, operations: &[Op], draws: &[Draw]) -> bool {
+pub(crate) fn may_keep(size: u32, operations: &[Op], draws: &[Draw]) -> bool
+    ensures few { IsTrue result → length draws.now * FEWEST ≤ length operations.now }
+    ensures little { IsTrue result → length draws.now * (size + BESIDE) ≤ length operations.now * MOST }
+{
     let count = operations.len();
     let chunk = (size as usize).saturating_add(BESIDE);
-    draws.len().saturating_mul(FEWEST) <= count
-        && draws.len().saturating_mul(chunk) <= count.saturating_mul(MOST)
+    draws.len() <= count / FEWEST && draws.len() <= count.saturating_mul(MOST) / chunk
 }
