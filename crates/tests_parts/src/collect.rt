@@ -1,13 +1,14 @@
-//! Pages of as many records and of as many traces as may be. How records are joined is shown by `examples/` and `cases/pages`.
+//! Pages of as many records and of as many traces as may be, and one of which the page before was evicted. How records are joined is shown
+//! by `examples/` and `cases/pages`.
 
-ghost use Rattle.std.specs.Prelude.{◌≤◌};
-ghost use Rattle.tests_with.specs.Pages.{HasAdded};
+ghost use Rattle.std.specs.Prelude.{◌≤◌, IsTrue};
+ghost use Rattle.tests_with.specs.Pages.{HasAdded, HasSheet};
 
 use crate::rows::row;
 use hs_base::limits::{MAX_SIZE, MAX_TRACES, MIN_SIZE};
-use hs_base::{Memory, TraceId};
+use hs_base::{ClientId, Memory, TraceId};
 use hs_collect::Collector;
-use hs_words::{Chunk, Stock};
+use hs_words::{Added, Chunk, Header, Stock};
 use std::alloc::Global;
 use tests_with::{add_page, fill_page, no_pages};
 
@@ -80,6 +81,44 @@ fn as_many_traces_as_records(alloc: Global) -> Result<bool, Memory> {
     Ok(traces.len() == MAX_TRACES as usize && traces.get(65_535).copied() == Some(TraceId(65_535)))
 }
 
+/// Fills the client's second page with its second record. Answers whether that fits.
+fn fill_second(chunk: &mut Chunk) -> bool
+    ensures { IsTrue result → HasSheet chunk.new 1 1 1 }
+{
+    chunk.clear();
+    chunk.start(Header {
+        trace: TraceId(1),
+        client: ClientId { node: 0, number: 0 },
+        page: 1,
+        first: 1,
+    });
+    matches!(chunk.add(3, &[0xbb]), Added::Added)
+}
+
+/// Whether trace 1 has that record alone.
+fn has_second(collector: &Collector) -> bool {
+    let Some(records) = collector.trace(TraceId(1)) else {
+        return false;
+    };
+    match records.entries.as_slice() {
+        [record] => record.id.number == 1
+            && record.moment == 3
+            && record.payload.as_slice() == [0xbb].as_slice(),
+        _ => false,
+    }
+}
+
+/// The pages of `examples/gap.txt`: the first of its trace was evicted before the trace was claimed, and the second was reported.
+fn a_trace_without_its_first_page(alloc: Global) -> Result<bool, Memory> {
+    let mut chunk = chunk_of(alloc, MIN_SIZE)?;
+    let mut collector = no_pages(alloc)?;
+    if !fill_second(&mut chunk) {
+        return Ok(false);
+    }
+    add_page(&mut collector, &chunk, 1, 1, 1)?;
+    Ok(collector.traces()?.as_slice() == [TraceId(1)].as_slice() && has_second(&collector))
+}
+
 #[test]
 fn collectors(rt: HostRuntime) {
     row(
@@ -91,5 +130,10 @@ fn collectors(rt: HostRuntime) {
         &rt,
         "as many traces as records",
         as_many_traces_as_records(rt.alloc()),
+    );
+    row(
+        &rt,
+        "a trace without its first page",
+        a_trace_without_its_first_page(rt.alloc()),
     );
 }

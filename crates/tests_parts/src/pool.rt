@@ -1,10 +1,13 @@
-//! A pool of as many buffers as may be.
+//! A pool of one buffer, and one of as many as may be.
+
+ghost use Rattle.std.specs.Prelude.{◌≡◌};
+ghost use Rattle.hs_words.specs.Chunks.{clear_chunks};
 
 use crate::rows::row;
 use hs_base::Memory;
-use hs_base::limits::{MAX_BUFFERS, MAX_SIZE};
+use hs_base::limits::{MAX_BUFFERS, MAX_SIZE, MIN_SIZE};
 use hs_pool::PlainPool;
-use hs_words::{Drawn, Stock};
+use hs_words::{Drawn, Given, Stock};
 use std::alloc::Global;
 
 /// The buffer that a draw got, and its stamp.
@@ -26,7 +29,28 @@ fn all_buffers_are_got(alloc: Global) -> Result<bool, Memory> {
     Ok(right && answer_of(&pool.draw()) == (None, u64::from(MAX_BUFFERS)))
 }
 
+/// Whether a pool of one buffer gets it, is empty, is given it, and gets it again, with a stamp for each.
+fn goes_round(mut pool: PlainPool) -> bool
+    requires buffers { pool.buffers ≡ 1 }
+    requires queue { pool.queue ≡ clear_chunks 1 MIN_SIZE }
+    requires events { pool.events ≡ 0 }
+{
+    let Drawn::Got { held, stamp: 0 } = pool.draw() else {
+        return false;
+    };
+    let is_empty = answer_of(&pool.draw()) == (None, 1);
+    let is_given = matches!(pool.give(held), Given::Given { stamp: 2 });
+    is_empty && is_given && answer_of(&pool.draw()) == (Some(0), 3)
+}
+
+/// A buffer that was drawn can be given, and is drawn again.
+fn a_buffer_goes_round(alloc: Global) -> Result<bool, Memory> {
+    let chunks = Stock::make(alloc, 1, MIN_SIZE)?;
+    Ok(goes_round(PlainPool::make(alloc, chunks)?))
+}
+
 #[test]
 fn pools(rt: HostRuntime) {
     row(&rt, "all buffers are got", all_buffers_are_got(rt.alloc()));
+    row(&rt, "a buffer goes round", a_buffer_goes_round(rt.alloc()));
 }

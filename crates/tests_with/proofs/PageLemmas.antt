@@ -27,12 +27,12 @@ one_more old new page first count piece has is =
     }
 
 -- none was added
-pub none_added : (collection : Collection) → AreCollected [] collection → HasAdded collection 0 0
-none_added collection are = record {
+pub none_added : (page first : ℕ) (collection : Collection) → AreCollected [] collection → HasAdded collection page first
+none_added page first collection are = record {
   sheets = [];
   are = are;
   can = record { pairs = λ i j d lt within. absurd (omega arith); fits = All-nil (λ s. end_of s ≤ 2 ^ 32) };
-  before = All-nil (IsBefore 0 0);
+  before = All-nil (IsBefore page first);
 }
 
 precedes : (sheet before : Sheet) (page first : ℕ) → sheet.header.page ≡ page → sheet.header.first ≡ first → IsBefore page first before → CanPrecede before sheet

@@ -10,7 +10,9 @@ use std::alloc::Global;
 
 /// A collector to which no page was added.
 pub fn no_pages(alloc: Global) -> Result<Collector, Memory>
-    ensures { IfOk result (λ collector. HasAdded collector 0 0) }
+    ensures none { IfOk result (λ collector. HasAdded collector 0 0) }
+    // The first page that is added may be the client's second.
+    ensures second { IfOk result (λ collector. HasAdded collector 1 1) }
 {
     Collector::make(alloc)
 }
