@@ -2,7 +2,7 @@
 import subprocess
 
 from caller import sources
-from caller.commands import COMMANDS, call_of, form_of
+from caller.commands import COMMANDS, form_of
 
 
 def usage():
@@ -12,7 +12,7 @@ def usage():
     found = ["usage: ./hindsight COMMAND < INPUT > OUTPUT", ""]
     for form, reads, writes in rows:
         found.append(f"  {form:{width}}  {'reads ' + reads if reads else 'reads nothing'}; writes {writes}")
-    found += ["", f"As in: {call_of('replay', ['examples/one-client.txt'])}"]
+    found += ["", f"As in: {'./hindsight replay < examples/one-client.txt'}"]
     found += ["Where the status is not 0, standard error says why. docs/FORMATS.md has each line and status, docs/TUTORIAL.md the way in."]
     return "".join(line + "\n" for line in found)
 

@@ -91,7 +91,7 @@ def call_of(command, files=()):
     words = " ".join([command, *(name for name, *_ in COMMANDS[command][1])])
     if command == "check":
         return f"cat WORKLOAD OUTPUT | ./hindsight {words}"
-    return f"./hindsight {words} < {files[0] if len(files) == 1 else 'FILE'}"
+    return f"./hindsight {words} < {files[0] if len(files) == 1 and os.path.isfile(files[0]) else 'FILE'}"
 
 
 def hint_on(word):
