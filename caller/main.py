@@ -61,7 +61,7 @@ def compile(crate):
     try:
         unproved.compile(crate, tell)
     except unproved.NotCompiled as fault:
-        say(f"{fault}\nhindsight: the sources gave no program so\n")
+        say(f"{fault}\nhindsight: no program was compiled\n")
         sys.exit(1)
     finally:
         if told:
