@@ -35,7 +35,7 @@ REFUSALS = {  # of a line of a workload
     "Order": "it is not the next one",
     "Unknown": "what it names was not declared",
     "Open": "a trace is open",
-    "NoTrace": "no trace is open",
+    "NoTrace": "no trace is open for it",
     "StillOpen": "a trace is still open",
     "TooMany": "with it there are more than 262,144 operations",
 }
@@ -58,13 +58,13 @@ BEGINNINGS = (  # how a text begins that is no workload, and what it is
     (b"\x28\xb5\x2f\xfd", "the input is compressed by zstd", "Unpack it first: zstd -dc FILE | ./hindsight ..."),
     (b"PK\x03\x04", "the input is a zip archive", "Unpack it first: unzip -p FILE | ./hindsight ..."),
     (b"\x7fELF", "the input is a program", None),
-    (b"\xef\xbb\xbf", "a byte order mark stands before the first word", "Save the text without it, or drop its three bytes: tail -c +4 FILE"),
+    (b"\xef\xbb\xbf", "a byte order mark stands before the first word", "Drop its three bytes: tail -c +4 FILE"),
     (b"\xff\xfe", "the text is in UTF-16, with a byte order mark", "Save it as ASCII: iconv -f UTF-16 -t ASCII FILE"),
     (b"\xfe\xff", "the text is in UTF-16, with a byte order mark", "Save it as ASCII: iconv -f UTF-16 -t ASCII FILE"),
     (b"usage: ", "this is what the program says to words that are no command, and no workload", "Look at the call that wrote it."),
     (b"refused ", "this is what the program says of an input that it refuses, and no workload", "Look at the call that wrote it."),
     (b"unlawful ", "this is what `check` says of a journal, and no workload", "Look at the call that wrote it."),
-    (b"journal ", "this is the output of a command, and no workload", "`check` reads it, after its workload: cat WORKLOAD OUTPUT | ./hindsight check"),
+    (b"journal ", "this is the output of a command, and no workload", f"`check` reads it, after its workload: {commands.call_of('check')}"),
 )
 
 
@@ -128,14 +128,15 @@ def start_of(words, at):
 
 def truncated(state, line, words):
     if line.count(b"\r") > 1:
-        return Found("the input ends in this line: its lines end in carriage returns, and not in newlines", line, line.index(b"\r"), hint="Turn them into newlines: tr '\\r' '\\n' < FILE")
+        what = "the input ends in this line: its lines end in carriage returns, and not in newlines"
+        return Found(what, line, line.index(b"\r"), hint="Turn them into newlines: tr '\\r' '\\n' < FILE")
     if line:
         due = "Due here: a newline, after the last line too."
         if line != (b"end" if state.journal else b"done"):
             due += f" And then what is left, up to `{'end' if state.journal else 'done'}`."
         return Found("the input ends in this line, before a newline", line, len(line), due=due)
     if state.journal and state.last is None:
-        return Found("no journal stands after the workload", due="Put one there: cat WORKLOAD OUTPUT | ./hindsight check")
+        return Found("no journal stands after the workload", due=f"Put one there: {commands.call_of('check')}")
     if not state.journal and not state.settings:
         return Found("the input is empty", due="A workload is due, through standard input: ./hindsight replay < FILE")
     return Found(f"the input ends before its line `{'end' if state.journal else 'done'}`", due=due_of(state))
@@ -148,15 +149,16 @@ def byte(state, line, words):
     at, value = found.start(), line[found.start()]
     if value == 13:
         if at == len(line) - 1:
-            return Found("a carriage return stands before the newline, as in texts from Windows", line, at, hint="Drop them all: tr -d '\\r' < FILE")
+            what = "a carriage return stands before the newline, as in texts from Windows"
+            return Found(what, line, at, hint="Drop them all: tr -d '\\r' < FILE")
         return Found("a carriage return stands in it", line, at, due="A newline alone ends a line.")
     if value == 9:
         return Found("a tab stands in it", line, at, due="One space stands between two words.")
-    if value > 126:
-        letter = letter_at(line, at)
-        named = f"the character {letter}" if letter else f"the byte 0x{value:02x}"
-        return Found(f"{named} stands in it, which is no ASCII", line, at, len(letter.encode()) if letter else 1, due="Each byte is one of 32 to 126; payloads are in hexadecimal.")
-    return Found(f"the byte 0x{value:02x} stands in it", line, at, due="Each byte is one of 32 to 126; payloads are in hexadecimal.")
+    letter = letter_at(line, at)
+    named = f"the character {letter}" if letter else f"the byte 0x{value:02x}"
+    what = f"{named} stands in it" + (", which is no ASCII" if value > 126 else "")
+    due = "Each byte is one of 32 to 126; payloads are in hexadecimal."
+    return Found(what, line, at, len(letter.encode()) if letter else 1, due=due)
 
 
 def letter_at(line, at):
@@ -304,31 +306,35 @@ def in_range(state, line, words):
             return Found(f"{quoted(given)} is {side} {bound:,}", line, start_of(words, at), len(given), hint=hint, due=due)
     for at, given, it in places_in(state, words, "payload"):
         if len(given) // 2 > grammar.MOST_PAYLOAD:
-            return Found(f"this payload has {len(given) // 2:,} bytes", line, start_of(words, at), len(given), due="PAYLOAD: at most 65,535 bytes. Cut it into several points.")
+            due = f"PAYLOAD: at most {grammar.MOST_PAYLOAD:,} bytes. Cut it into several points."
+            return Found(f"this payload has {len(given) // 2:,} bytes", line, start_of(words, at), len(given), due=due)
     return None
 
 
 def order(state, line, words):
-    first = words[0]
-    if first == b"triggerid":
+    first, start, length = words[0].decode(), start_of(words, 1), len(words[1])
+    if first == "triggerid":
         last = max(state.ids)
-        return Found(f"the id {words[1].decode()} does not rise above {last}, the one before", line, start_of(words, 1), len(words[1]), due=f"ID: {last + 1} to 64." if last < 64 else "No id is above 64.")
-    if first == b"auto":
-        return Found(f"this is not the next autotrigger, {state.autos}", line, start_of(words, 1), len(words[1]), due=f"Due here: auto {state.autos} ..")
-    if first in (b"client", b"draws"):
-        pair = state.next_draws() if state.journal else state.next_client()
-        due = f"{first.decode()} {pair[0]} {pair[1]}"
-        return Found(f"{due} is due", line, start_of(words, 1), len(b" ".join(words[1:])), hint="Clients come by node, and then by number; each has its line.")
-    return Found(f"log {state.logs} is due", line, start_of(words, 1), len(b" ".join(words[1:])), hint="Logs come by node.")
+        due = f"ID: {last + 1} to 64." if last < 64 else "No id is above 64."
+        return Found(f"the id {words[1].decode()} does not rise above {last}, the one before", line, start, length, due=due)
+    if first == "auto":
+        return Found(f"this is not the next autotrigger, {state.autos}", line, start, length, due=f"Due here: auto {state.autos} ..")
+    if first == "log":
+        return Found(f"log {state.logs} is due", line, start, length, hint="Logs come by node.")
+    node, number = state.next_draws() if state.journal else state.next_client()
+    hint = "Clients come by node, and then by number; each has its line."
+    return Found(f"{first} {node} {number} is due", line, start, len(b" ".join(words[1:])), hint=hint)
 
 
 def unknown(state, line, words):
     if words[0] == b"sample":
         declared = f"0 to {state.autos - 1}" if state.autos > 1 else "0 alone" if state.autos else "none"
-        return Found(f"no line above declares the autotrigger {quoted(words[2])}", line, start_of(words, 2), len(words[2]), due=f"Declared: {declared}. A line `auto A KIND ID ..` declares one, before the first client.")
-    at = 3 if words[0] == b"auto" else 2
-    declared = ", ".join(map(str, state.ids)) or "none"
-    return Found(f"no line above declares the id {quoted(words[at])}", line, start_of(words, at), len(words[at]), due=f"Declared: {declared}. A line `{grammar.form('triggerid', grammar.TRIGGER_ID)}` declares one, before the first client.")
+        what, at, form = "autotrigger", 2, "auto A KIND ID .."
+    else:
+        declared = ", ".join(map(str, state.ids)) or "none"
+        what, at, form = "id", 3 if words[0] == b"auto" else 2, grammar.form("triggerid", grammar.TRIGGER_ID)
+    due = f"Declared: {declared}. A line `{form}` declares one, before the first client."
+    return Found(f"no line above declares the {what} {quoted(words[at])}", line, start_of(words, at), len(words[at]), due=due)
 
 
 def trace_is_open(state, line, words):
@@ -344,7 +350,8 @@ def no_trace(state, line, words):
 
 
 def too_many(state, line, words):
-    return Found("with this one there are more than 262,144 operations", line, 0, len(words[0]), hint="A point counts once for each of its pieces. A larger `size` makes fewer pieces.")
+    hint = "A point counts once for each of its pieces. A larger `size` makes fewer pieces."
+    return Found(f"with this one there are more than {grammar.MOST_OPERATIONS:,} operations", line, 0, len(words[0]), hint=hint)
 
 
 FINDERS = {
@@ -410,7 +417,8 @@ def message(status, words, said, text, fault=None):
         return refusal(text, said.split())
     if name == "Unlawful" and said.split()[-1:] and said.split()[-1] in CLAUSES:
         clause = said.split()[-1]
-        return f'hindsight: the journal is not lawful for the workload, {clause}: {CLAUSES[clause]}\n  See docs/RULES.md, "The lawful journal".\n'
+        found = Found(f"the journal is not lawful for the workload, {clause}: {CLAUSES[clause]}")
+        return text_of(found, "", 'RULES.md, "The lawful journal"')
     if name in ("ReadFault", "WriteFault"):
         meaning += of_the_system(name, fault)
-    return f'hindsight: {meaning}\n  See docs/FORMATS.md, "Statuses".\n'
+    return text_of(Found(meaning), "", 'FORMATS.md, "Statuses"')
