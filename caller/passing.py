@@ -30,23 +30,22 @@ class Input:
     def text(self):
         """The bytes of the input, or None where they cannot be had."""
         if self.begin is None:
-            return self.read
+            return None if self.read is None else bytes(self.read)
         try:
-            return whole(lambda left, done: os.pread(0, left, self.begin + done))
+            return bytes(whole(lambda left, done: os.pread(0, left, self.begin + done)))
         except OSError:
             return None
 
 
 def whole(read):
     """What is read until there is no more, or too much. `read` gets how many bytes may still come, and how many came."""
-    pieces, done = [], 0
-    while done <= MOST:
-        piece = read(min(MOST + 1 - done, 1 << 20), done)
+    text = bytearray()
+    while len(text) <= MOST:
+        piece = read(min(MOST + 1 - len(text), 1 << 20), len(text))
         if not piece:
             break
-        pieces.append(piece)
-        done += len(piece)
-    return b"".join(pieces)
+        text += piece
+    return text
 
 
 def run(program, words, given):
