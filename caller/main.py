@@ -122,7 +122,11 @@ def main(is_folder, words):
     if signal.getsignal(signal.SIGINT) == signal.default_int_handler:
         signal.signal(signal.SIGINT, signal.SIG_DFL)
     given = passing.Input(is_folder) if commands.reads(words) else None
-    ended = passing.run(program, its_words, given)
+    try:
+        ended = passing.run(program, its_words, given)
+    except OSError as fault:  # of a program that does not start
+        say(f"hindsight: {program}: {fault.strerror}\n")
+        return 1
     if os.WIFEXITED(ended) and os.WEXITSTATUS(ended):
         try:
             explain(os.WEXITSTATUS(ended), program, its_words, words, given)

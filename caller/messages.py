@@ -210,7 +210,7 @@ def why_not(state, given):
     if given in (b"triggerid", b"auto") and state.started:
         return "Ids and autotriggers are declared before the first client."
     if given == b"done" and state.started and state.next_client():
-        return "Each client has its line, also one that does nothing."
+        return "client {} {} is due: each client has its line, also one that does nothing.".format(*state.next_client())
     return "All clients have come." if given == b"client" and state.started and not state.next_client() else None
 
 
