@@ -1,9 +1,9 @@
 -- What contracts see of a board's watchers, and of two of them beside the board's writer. A watcher has a reader. It notes its
 -- first look, and each later look that finds that more rounds are over. What it noted it saw on the board, or was told of.
-use Rattle.std.specs.Prelude.{◌≡◌, ◌⊎◌, ℕ, ◌+◌, ◌<◌, ◌≤◌, List, [], ◌∷◌, length}
+use Rattle.std.specs.Prelude.{◌≡◌, ◌⊎◌, ℕ, ◌+◌, ◌<◌, ◌≤◌, false, List, [], ◌∷◌, length}
 use Rattle.std.specs.List.{AllByRecursion}
 use Rattle.hs_board.specs.declared.progress.Progress.{Progress}
-use Rattle.hs_board.specs.Looking.{Looking}
+use Rattle.hs_board.specs.Looking.{Looking, HasLookedTimes}
 use Rattle.hs_board.specs.Shown.{IsFront, IsAmong, IsLast}
 
 -- all that was shown on a board
@@ -46,9 +46,17 @@ KeepsWatching old new = (shown : Totals) → Watches shown old → Watches shown
 abbrev pub KeepsNotes : Watching → Watching → Type 0
 KeepsNotes old new = IsFront old.seen new.seen
 
--- It looked, at a board on which no less was shown than before.
+-- It looked so many times, unless a look was handed back.
+abbrev pub LooksTimes : ℕ → Watching → Watching → Type 0
+LooksTimes times old new = HasLookedTimes times old.looking new.looking
+
+-- Unless a look was handed back, the latest that it knows is no earlier than the last that it saw.
+abbrev pub KnowsLastSeen : Watching → Type 0
+KnowsLastSeen w = w.looking.missed ≡ false → (last : Progress) × IsLast last w.looking.known × (last.rounds ≤ w.looking.latest.rounds)
+
+-- It looked four times, at a board on which no less was shown than before.
 abbrev pub HasLooked : Watching → Watching → Type 0
-HasLooked old new = KeepsWatching old new × KeepsNotes old new
+HasLooked old new = KeepsWatching old new × KeepsNotes old new × LooksTimes 4 old new × KnowsLastSeen new
 
 -- What it noted last has as many rounds as the latest that it knows.
 abbrev pub EndsAtLatest : Watching → Type 0
@@ -68,6 +76,21 @@ pub record WatchStands (s : Showing) : Type 0 where
 -- Both have room for the looks of a round.
 abbrev pub BothMayLook : Showing → Type 0
 BothMayLook s = MayLook s.one × MayLook s.other
+
+-- Both looked so many times, unless a look was handed back.
+abbrev pub BothLookTimes : ℕ → Showing → Showing → Type 0
+BothLookTimes times old new = LooksTimes times old.one new.one × LooksTimes times old.other new.other
+
+abbrev pub BothKnowLastSeen : Showing → Type 0
+BothKnowLastSeen s = KnowsLastSeen s.one × KnowsLastSeen s.other
+
+-- No look of either was handed back.
+abbrev pub NoneMissed : Showing → Type 0
+NoneMissed s = (s.one.looking.missed ≡ false) × (s.other.looking.missed ≡ false)
+
+-- Each of both looked so many times in all, unless a look was handed back.
+abbrev pub HaveLookedInAll : ℕ → Showing → Type 0
+HaveLookedInAll times s = (s.one.looking.missed ≡ false → s.one.looking.looks ≡ times) × (s.other.looking.missed ≡ false → s.other.looking.looks ≡ times)
 
 -- Both keep their notes.
 abbrev pub BothKeepNotes : Showing → Showing → Type 0

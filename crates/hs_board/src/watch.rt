@@ -1,13 +1,13 @@
 //! Two watchers and the writer of their board.
 
 ghost use Rattle.std.specs.Thread.{IsSync};
-ghost use Rattle.std.specs.Prelude.{◌≡◌, ◌≤◌, [], ◌∷◌, ◌++◌, length, map, IfOk, OnOk, OnErr};
+ghost use Rattle.std.specs.Prelude.{◌≡◌, ◌≤◌, false, [], ◌∷◌, ◌++◌, length, map, IfOk, OnOk, OnErr};
 ghost use Rattle.std.specs.List.{AllByRecursion};
 ghost use Rattle.hs_base.specs.Listing.{Listing};
 ghost use Rattle.hs_board.specs.declared.progress.Progress.{Progress as Totalled};
 ghost use Rattle.hs_board.specs.Looking.{Looking};
 ghost use Rattle.hs_board.specs.Shown.{first, IsFront, IsLast};
-ghost use Rattle.hs_board.specs.Watching.{MayLook, HasLooked, WatchStands, BothMayLook, BothKeepNotes, IsLater, KnowLast, EndsAtLatest, IsSeenOf};
+ghost use Rattle.hs_board.specs.Watching.{MayLook, HasLooked, WatchStands, BothMayLook, BothLookTimes, BothKnowLastSeen, NoneMissed, HaveLookedInAll, BothKeepNotes, IsLater, KnowLast, EndsAtLatest, IsSeenOf};
 
 use crate::making::board;
 use crate::progress::Progress;
@@ -38,12 +38,13 @@ impl Model for Watch {
 
 impl Watch {
     /// A new board, which shows the first totals, with two watchers that have not looked.
-    pub fn make(alloc: Global) -> Result<Watch, Memory>
+    pub fn make<R: Wait>(rt: &R, alloc: Global) -> Result<Watch, Memory>
         ensures shown { IfOk result (λ watch. watch.shown ≡ first ∷ []) }
         ensures none { IfOk result (λ watch. (watch.one.seen ≡ []) × (watch.other.seen ≡ [])) }
         ensures stands { IfOk result (λ watch. WatchStands watch) }
+        ensures looks { IfOk result (λ watch. HaveLookedInAll 0 watch × NoneMissed watch) }
     {
-        let (writer, mut readers) = board(alloc, 2)?;
+        let (writer, mut readers) = board(rt, alloc, 2)?;
         match (readers.pop(), readers.pop()) {
             (Some(other), Some(one)) => Ok(Watch {
                 writer,
@@ -57,10 +58,12 @@ impl Watch {
     /// Makes room for four looks of each watcher.
     pub fn make_room(&mut self) -> Result<(), Memory>
         ensures ok { OnOk result (BothMayLook self.new) }
+        ensures full { OnErr result (BothMayLook self.old → ⊥) }
         ensures shown { self.new.shown ≡ self.old.shown }
         ensures stands { WatchStands self.old → WatchStands self.new }
         ensures keeps { BothKeepNotes self.old self.new }
         ensures last { KnowLast self.old → KnowLast self.new }
+        ensures looks { BothLookTimes 0 self.old self.new }
     {
         self.one.make_room()?;
         self.other.make_room()
@@ -72,6 +75,8 @@ impl Watch {
         ensures shown { self.new.shown ≡ self.old.shown }
         ensures stands { WatchStands self.old → WatchStands self.new }
         ensures keeps { BothKeepNotes self.old self.new }
+        ensures looks { BothLookTimes 4 self.old self.new }
+        ensures seen { BothKnowLastSeen self.new }
     {
         look_both(rt, &mut self.one, &mut self.other);
     }
@@ -89,6 +94,8 @@ impl Watch {
         ensures err { OnErr result (self.new.shown ≡ self.old.shown) }
         ensures stands { WatchStands self.old → WatchStands self.new }
         ensures keeps { BothKeepNotes self.old self.new }
+        ensures looks { BothLookTimes 4 self.old self.new }
+        ensures seen { BothKnowLastSeen self.new }
     {
         publish_and_look(
             rt,
@@ -106,6 +113,7 @@ impl Watch {
         ensures err { OnErr result (self.new.shown ≡ self.old.shown) }
         ensures stands { WatchStands self.old → WatchStands self.new }
         ensures keeps { BothKeepNotes self.old self.new }
+        ensures looks { BothLookTimes 0 self.old self.new }
     {
         publish(rt, &mut self.writer, progress)
     }
@@ -117,6 +125,7 @@ impl Watch {
         ensures keeps { BothKeepNotes self.old self.new }
         ensures last { KnowLast self.new }
         ensures room { BothMayLook self.old → BothMayLook self.new }
+        ensures looks { BothLookTimes 0 self.old self.new }
     {
         self.one.hear(&mut self.writer);
         self.other.hear(&mut self.writer);
@@ -130,6 +139,8 @@ impl Watch {
         ensures keeps { BothKeepNotes self.old self.new }
         ensures last { KnowLast self.old → KnowLast self.new }
         ensures ends { EndsAtLatest self.new.one × EndsAtLatest self.new.other }
+        ensures looks { BothLookTimes 1 self.old self.new }
+        ensures seen { BothKnowLastSeen self.new }
     {
         self.one.look();
         self.other.look();
@@ -139,13 +150,14 @@ impl Watch {
     pub fn close<R: Wait>(self, rt: &R, alloc: Global) -> Result<List<List<Progress>>, Memory>
         ensures count { IfOk result (λ seen. length seen.items ≡ 2) }
         ensures lists { IfOk result (λ seen. map (λ (list : Listing Totalled). list.items) seen.items ≡ self.one.seen ∷ self.other.seen ∷ []) }
+        ensures looks { IfOk result (λ _. NoneMissed self) }
         ensures seen { WatchStands self → KnowLast self → EndsAtLatest self.one × EndsAtLatest self.other
             → IfOk result (λ seen. AllByRecursion (λ (list : Listing Totalled). IsSeenOf self.shown list.items) seen.items) }
     {
         let Watch { writer, one, other } = self;
         let (first, some) = one.parts();
         let (second, others) = other.parts();
-        close(rt, alloc, writer, first, second)?;
+        close(rt, writer, first, second)?;
         two_lists(alloc, some, others)
     }
 }
@@ -208,34 +220,20 @@ fn publish_and_look<R: Threads + Wait + Sync>(
 /// The two readers and their board end.
 fn close<R: Wait>(
     rt: &R,
-    alloc: Global,
     writer: BoardWriter,
     one: BoardReader,
     other: BoardReader,
 ) -> Result<(), Memory>
-    ensures { OnOk result (IsFront one.known writer × IsFront other.known writer) }
+    ensures fronts { OnOk result (IsFront one.known writer × IsFront other.known writer) }
+    ensures looks { OnOk result ((one.missed ≡ false) × (other.missed ≡ false)) }
 {
-    match two_readers(alloc, one, other) {
-        Ok(readers) => writer.close(rt, readers),
-        Err(_) => {
-            let _ = writer.close(rt, List::new(alloc));
-            Err(Memory)
-        }
+    let missed = one.has_missed() || other.has_missed();
+    let mut readers = [one, other];
+    writer.close(rt, &mut readers)?;
+    if missed {
+        return Err(Memory);
     }
-}
-
-/// The two readers as a list.
-fn two_readers(
-    alloc: Global,
-    one: BoardReader,
-    other: BoardReader,
-) -> Result<List<BoardReader>, Memory>
-    ensures { IfOk result (λ list. list.items ≡ one ∷ other ∷ []) }
-{
-    let mut list = List::with_room(alloc, 2)?;
-    list.push(one);
-    list.push(other);
-    Ok(list)
+    Ok(())
 }
 
 /// The two lists as a list.

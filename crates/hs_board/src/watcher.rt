@@ -1,9 +1,9 @@
 //! A watcher.
 
-ghost use Rattle.std.specs.Prelude.{◌≡◌, ◌+◌, ◌<◌, ◌≤◌, [], true, false, length, OnOk};
+ghost use Rattle.std.specs.Prelude.{◌≡◌, ◌+◌, ◌<◌, ◌≤◌, [], true, false, length, OnOk, OnErr};
 ghost use Rattle.hs_board.specs.declared.progress.Progress.{Progress as Totalled};
 ghost use Rattle.hs_board.specs.Shown.{IsLast};
-ghost use Rattle.hs_board.specs.Watching.{Totals, Watches, MayLook, HasLooked, KeepsNotes, EndsAtLatest};
+ghost use Rattle.hs_board.specs.Watching.{Totals, Watches, MayLook, HasLooked, KeepsNotes, LooksTimes, KnowsLastSeen, EndsAtLatest};
 
 use crate::progress::Progress;
 use crate::reader::BoardReader;
@@ -55,6 +55,8 @@ impl Watcher {
         ensures ends { EndsAtLatest self.new }
         ensures rises { self.old.looking.latest.rounds ≤ self.new.looking.latest.rounds }
         ensures room { (self.old.room ≤ self.new.room) × (length self.new.seen ≤ length self.old.seen + 1) }
+        ensures looks { LooksTimes 1 self.old self.new }
+        ensures last { KnowsLastSeen self.new }
     {
         let now = self.reader.look();
         if is_new(self.seen.as_slice(), &now) {
@@ -76,6 +78,7 @@ impl Watcher {
     /// Makes room for four looks.
     pub(crate) fn make_room(&mut self) -> Result<(), Memory>
         ensures ok { OnOk result (MayLook self.new) }
+        ensures full { OnErr result (MayLook self.old → ⊥) }
         ensures same { (self.new.seen ≡ self.old.seen) × (self.new.looking ≡ self.old.looking) }
         ensures room { self.old.room ≤ self.new.room }
     {
@@ -88,6 +91,7 @@ impl Watcher {
         ensures watches { Watches writer.old self.old → Watches writer.old self.new }
         ensures told { (last : Totalled) → IsLast last writer.old → last.rounds ≤ self.new.looking.latest.rounds }
         ensures room { (self.new.seen ≡ self.old.seen) × (self.new.room ≡ self.old.room) }
+        ensures looks { LooksTimes 0 self.old self.new }
     {
         writer.tell(&mut self.reader);
     }

@@ -46,7 +46,7 @@ pub fn run_watched<R: Threads + Wait + Sync, G: Gate>(
     ensures { IfOk result (λ watched. (J : PlainJournal) × IsLawful (workload_of workload.now) J × IsOutcome (workload_of workload.now) J watched.outcome
         × AreSeen (workload_of workload.now) J (items_of watched.seen.items)) }
 {
-    let mut watch = Watch::make(alloc)?;
+    let mut watch = Watch::make(rt, alloc)?;
     let played = play_watched(rt, alloc, workload, gate, &mut watch);
     let closed = watch.close(rt, alloc);
     let books = played?;

@@ -105,9 +105,9 @@ fn play<R: Wait>(rt: &R, alloc: Global, count: u32, rounds: u32) -> Result<(Seen
     requires many { (1 ≤ count) × (count ≤ MAX_READERS) }
     requires few { rounds ≤ MAX_OPERATIONS }
 {
-    let (mut writer, mut readers) = board(alloc, count)?;
+    let (mut writer, mut readers) = board(rt, alloc, count)?;
     let seen = watch(rt, &mut writer, &mut readers, rounds);
-    let closed = writer.close(rt, readers).is_ok();
+    let closed = writer.close(rt, readers.as_mut_slice()).is_ok();
     Ok((seen, closed))
 }
 

@@ -17,8 +17,8 @@ returns-clause-seen g c =
     c.self.view_is
     (λ stands knows ends.
     let shown = c.self.inside.writer in
-    let one = seen_of shown c.self.inside.one stands.one knows.one ends.0 (subst (λ (l : Looking). IsFront l.known shown) c.parts-first.ensures.0 c.in_ok-close.ensures.0) in
-    let other = seen_of shown c.self.inside.other stands.other knows.other ends.1 (subst (λ (l : Looking). IsFront l.known shown) c.parts-second.ensures.0 c.in_ok-close.ensures.1) in
+    let one = seen_of shown c.self.inside.one stands.one knows.one ends.0 (subst (λ (l : Looking). IsFront l.known shown) c.parts-first.ensures.0 c.in_ok-close.ensures.fronts.0) in
+    let other = seen_of shown c.self.inside.other stands.other knows.other ends.1 (subst (λ (l : Looking). IsFront l.known shown) c.parts-second.ensures.0 c.in_ok-close.ensures.fronts.1) in
     IfOk-weaker c.two_lists.result _ _
     (λ seen is.
     subst (AllByRecursion (λ (list : Listing Progress). IsSeenOf shown list.items)) (sym is)
