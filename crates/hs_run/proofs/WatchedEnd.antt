@@ -1,8 +1,8 @@
 -- What the watchers of a run saw, when it is over.
-use Rattle.std.proofs.Common.{◌≡◌, List, [], ◌∷◌, length, ◌∙◌}
+use Rattle.std.proofs.Common.{◌≡◌, ℕ, ◌+◌, ◌*◌, List, [], ◌∷◌, length, subst, ◌∙◌}
 use Rattle.hs_run.proofs.Prelude.{length-map, AllByRecursion, all_each, Listing, Progress, items_of, ShownIsSeen, PlainCoordinatorActor, PlainJournal, PlainWorkload, NotesRounds, Showing, IsValid, ActingNode, AllWatched}
 use Rattle.hs_run.specs.Seen.{IsSeen, AreSeen}
-use Rattle.hs_board.specs.Watching.{IsSeenOf}
+use Rattle.hs_board.specs.Watching.{HaveLookedInAll, IsSeenOf}
 use Rattle.hs_run.specs.Watched.{HaveShown}
 
 pub have_shown : ShownIsSeen → (W : PlainWorkload) (nodes : List ActingNode) (c : PlainCoordinatorActor) (watch : Showing) (w : AllWatched W nodes c watch) → IsValid W → (J : PlainJournal)
@@ -10,6 +10,7 @@ pub have_shown : ShownIsSeen → (W : PlainWorkload) (nodes : List ActingNode) (
 have_shown law W nodes c watch w valid J notes =
     record {
       ended = w.ended;
+      looks = subst (λ (n : ℕ). HaveLookedInAll (4 * n + 1) watch) w.all w.looks;
       seen = λ list of. law W w.over.rounds w.over.made.moment w.over.made.came J valid notes w.all watch.shown list w.shown w.last.0 w.last.1 w.last.2 of;
     }
 

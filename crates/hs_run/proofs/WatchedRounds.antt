@@ -4,7 +4,7 @@ use Rattle.hs_run.proofs.Prelude.{mod-lt, AllByRecursion, Result, Ok, Err, OnOk,
 use Rattle.hs_lists.proofs.Alls.{all_append}
 use Rattle.hs_run.proofs.Seeing.{end_of}
 use Rattle.hs_run_story.specs.Coming.{RoundsKeepWhatCame}
-use Rattle.hs_board.specs.Watching.{Totals, WatchStands}
+use Rattle.hs_board.specs.Watching.{Totals, WatchStands, BothLookTimes, HaveLookedInAll, KnowLast}
 use Rattle.hs_workload.specs.declared.word.Setting.TheVariants as settings
 use Rattle.hs_run.specs.Watched.{MayShow, IsNeeded, WatchEnded}
 use Rattle.hs_run.proofs.Moments.{site_there}
@@ -110,11 +110,33 @@ module _ (W : PlainWorkload) (made : ℕ) (nodes : List ActingNode) (c : PlainCo
       let same = ap length is in
       omega (arith, low, same)
 
+-- ---- looks
+
+-- So many looks more.
+pub then_look : (m n : ℕ) (s s' : Showing) → HaveLookedInAll m s → BothLookTimes n s s' → HaveLookedInAll (m + n) s'
+then_look m n s s' have more = (
+  λ none. let (was, is) = more.0 none in let had = have.0 was in omega (arith, is, had),
+  λ none. let (was, is) = more.1 none in let had = have.1 was in omega (arith, is, had),
+)
+
+-- None before these four, and none behind them.
+pub four_more : (m : ℕ) (s s1 s2 s3 : Showing) → HaveLookedInAll m s → BothLookTimes 0 s s1 → BothLookTimes 4 s1 s2 → BothLookTimes 0 s2 s3 → HaveLookedInAll (m + 4) s3
+four_more m s s1 s2 s3 have one four last =
+    let same : m + 0 + 4 + 0 ≡ m + 4 = omega arith in
+    subst (λ (n : ℕ). HaveLookedInAll n s3) same (then_look (m + 0 + 4) 0 s2 s3 (then_look (m + 0) 4 s1 s2 (then_look m 0 s s1 have one) four) last)
+
+-- None before this one.
+pub one_more : (s s1 s2 s3 s4 : Showing) → BothLookTimes 0 s s1 → BothLookTimes 0 s1 s2 → BothLookTimes 0 s2 s3 → BothLookTimes 1 s3 s4 → BothLookTimes 1 s s4
+one_more s s1 s2 s3 s4 a b c d = (
+  λ none. let (n3, e3) = d.0 none in let (n2, e2) = c.0 n3 in let (n1, e1) = b.0 n2 in let (n0, e0) = a.0 n1 in (n0, omega (arith, e0, e1, e2, e3)),
+  λ none. let (n3, e3) = d.1 none in let (n2, e2) = c.1 n3 in let (n1, e1) = b.1 n2 in let (n0, e0) = a.1 n1 in (n0, omega (arith, e0, e1, e2, e3)),
+)
+
 -- ---- round by round
 
-pub begin_watched : NoRoundsCome → (W : PlainWorkload) (nodes : List ActingNode) (c : PlainCoordinatorActor) → CanBegin W nodes c → (counts : Counts) (watch : Showing) → watch.shown ≡ first ∷ [] → WatchStands watch → ((m : RunState) → IsBegun W m → AreCounts W m counts)
+pub begin_watched : NoRoundsCome → (W : PlainWorkload) (nodes : List ActingNode) (c : PlainCoordinatorActor) → CanBegin W nodes c → (counts : Counts) (watch : Showing) → watch.shown ≡ first ∷ [] → WatchStands watch → HaveLookedInAll 0 watch → ((m : RunState) → IsBegun W m → AreCounts W m counts)
     → RoundsWatched W 0 nodes c counts watch
-begin_watched none W nodes c b counts watch shown stands counted =
+begin_watched none W nodes c b counts watch shown stands looks counted =
     let h = begin_made none W nodes c b in
     record {
       rounds = h;
@@ -125,6 +147,8 @@ begin_watched none W nodes c b counts watch shown stands counted =
       low = subst (AllByRecursion (λ (x : Progress). x.rounds ≤ 0 - 1)) (sym shown) (omega arith, tt);
       begins = λ is. ([], shown);
       stands = stands;
+      knows = λ two. absurd (omega (arith, two));
+      looks = looks;
     }
 
 module _ (W : PlainWorkload) (made : ℕ) (nodes : List ActingNode) (c : PlainCoordinatorActor) (counts : Counts) (watch : Showing) (w : RoundsWatched W made nodes c counts watch) where
@@ -138,8 +162,8 @@ module _ (W : PlainWorkload) (made : ℕ) (nodes : List ActingNode) (c : PlainCo
       }
 
   pub next_watched : (nodes' : List ActingNode) (c' : PlainCoordinatorActor) (f : Follows W made nodes c w.rounds nodes' c') (counts' : Counts) (watch' : Showing) → TellsLeft W nodes true → AreCounts W f.next.moment counts' → FitTotals counts'
-      → watch'.shown ≡ shown_on made counts watch.shown → WatchStands watch' → RoundsWatched W (suc made) nodes' c' counts' watch'
-  next_watched nodes' c' f counts' watch' left counted fits shown stands =
+      → watch'.shown ≡ shown_on made counts watch.shown → WatchStands watch' → (1 ≤ made → KnowLast watch') → HaveLookedInAll (4 * made + 4) watch' → RoundsWatched W (suc made) nodes' c' counts' watch'
+  next_watched nodes' c' f counts' watch' left counted fits shown stands knows looks =
       let totals = IsTotal W (suc made) f.next.moment f.next.came in
       let here = total_here W made w.rounds.moment w.rounds.came counts w.counted in
       let on = total_on W made w.rounds.moment f.next.moment w.rounds.came f.next.came f.keeps in
@@ -155,10 +179,12 @@ module _ (W : PlainWorkload) (made : ℕ) (nodes : List ActingNode) (c : PlainCo
             (all_each (λ (x : Progress). x.rounds ≤ made - 1) (λ (x : Progress). x.rounds ≤ suc made - 1) watch.shown (λ x low. omega (arith, low)) w.low) (λ some. omega arith));
         begins = λ is. absurd (omega (arith, is));
         stands = stands;
+        knows = λ two. knows (omega (arith, two));
+        looks = let more : 4 * made + 4 ≡ 4 * suc made = omega arith in subst (λ (n : ℕ). HaveLookedInAll n watch') more looks;
       }
 
-  pub all_watched : TheseAreAllRounds → TellsLeft W nodes false → (watch' : Showing) → watch'.shown ≡ shown_on made counts watch.shown → WatchEnded watch' → AllWatched W nodes c watch'
-  all_watched law none watch' shown ended =
+  pub all_watched : TheseAreAllRounds → TellsLeft W nodes false → (watch' : Showing) → watch'.shown ≡ shown_on made counts watch.shown → WatchEnded watch' → BothLookTimes 1 watch watch' → AllWatched W nodes c watch'
+  all_watched law none watch' shown ended more =
       let totals = IsTotal W made w.rounds.moment w.rounds.came in
       let here = total_here W made w.rounds.moment w.rounds.came counts w.counted in
       record {
@@ -167,9 +193,10 @@ module _ (W : PlainWorkload) (made : ℕ) (nodes : List ActingNode) (c : PlainCo
         shown = subst (AllByRecursion totals) (sym shown) (all_on totals made counts watch.shown w.shown (λ some. inr here));
         last = subst (λ (l : Totals). (x : Progress) × IsLast x l × (x.rounds ≡ made)) (sym shown) (last_on made counts watch.shown w.begins);
         ended = ended;
+        looks = then_look (4 * made) 1 watch watch' w.looks more;
       }
 
--- two facts of an Ok
-pub on_both : {T E : Type 0} (r : Result T E) (A B C : Type 0) → (A → B → C) → OnOk r A → OnOk r B → OnOk r C
-on_both (Ok x) A B C f a b = f a b
-on_both (Err e) A B C f a b = tt
+-- three facts of an Ok
+pub on_three : {T E : Type 0} (r : Result T E) (A B C D : Type 0) → (A → B → C → D) → OnOk r A → OnOk r B → OnOk r C → OnOk r D
+on_three (Ok x) A B C D f a b c = f a b c
+on_three (Err e) A B C D f a b c = tt

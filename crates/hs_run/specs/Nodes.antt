@@ -41,6 +41,10 @@ pub record AllHaveActed (w : Workload) (old new : List ActingNode) : Type 0 wher
 abbrev pub NoneFailed : List ActingNode → Type 0
 NoneFailed nodes = (number : ℕ) (node : ActingNode) → slice_get nodes number ≡ Some node → node.failed ≡ false
 
+-- Memory failed some node.
+abbrev pub SomeFailed : List ActingNode → Type 0
+SomeFailed nodes = (number : ℕ) × (node : ActingNode) × (slice_get nodes number ≡ Some node) × (node.failed ≡ true)
+
 -- ---- the coordinator
 
 pub record MayHear (c : PlainCoordinatorActor) : Type 0 where

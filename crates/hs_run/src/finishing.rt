@@ -1,6 +1,6 @@
 //! The books of a run whose rounds are over.
 
-ghost use Rattle.std.specs.Prelude.{◌≡◌, map, IfOk};
+ghost use Rattle.std.specs.Prelude.{◌≡◌, ◌⊎◌, map, IfOk, OnErr, IsErr};
 ghost use Rattle.hs_coord.specs.Messages.{Messages};
 ghost use Rattle.hs_records.specs.Plain.{PlainWorkload};
 ghost use Rattle.hs_workload.specs.Views.{workload_of};
@@ -86,7 +86,8 @@ fn books_of(
     agents: Result<List<AgentBook>, Memory>,
     told: Result<List<NodeId>, Memory>,
 ) -> Result<Books, Memory>
-    ensures { IfOk result (AreGathered workload.now clients agents told) }
+    ensures ok { IfOk result (AreGathered workload.now clients agents told) }
+    ensures err { OnErr result (IsErr agents ⊎ IsErr told) }
 {
     match (agents, told) {
         (Ok(agents), Ok(told)) => Ok(Books {

@@ -1,10 +1,10 @@
 //! The rounds: all act at once, then all meet, and what was told is moved.
 
 ghost use Rattle.std.specs.Thread.{IsSync};
-ghost use Rattle.std.specs.Prelude.{◌≡◌, ◌<◌, false, length, slice_get, OnOk};
+ghost use Rattle.std.specs.Prelude.{◌≡◌, ◌<◌, true, false, length, slice_get, OnOk};
 ghost use Rattle.hs_run_story.specs.RunStates.{RunState};
 ghost use Rattle.hs_workload.specs.Views.{workload_of};
-ghost use Rattle.hs_run.specs.Nodes.{MayActAt, HasActedAt, AllMayAct, AllHaveActed, NoneFailed, MayHear, HasHeard, IsWhole, AreWhole, TellsNodeLeft, TellsLeft};
+ghost use Rattle.hs_run.specs.Nodes.{MayActAt, HasActedAt, AllMayAct, AllHaveActed, NoneFailed, SomeFailed, MayHear, HasHeard, IsWhole, AreWhole, TellsNodeLeft, TellsLeft};
 ghost use Rattle.hs_run.specs.Moments.{IsHere, AreFew, CanAct, ActedTo, CanBegin, RoundsOver};
 
 use crate::meeting::{meet_all, move_all};
@@ -120,7 +120,8 @@ fn act_all<R: Threads + Sync, G: Gate>(
 
 /// Whether memory was wanting at a node.
 fn has_failed(nodes: &List<ActingNode>) -> bool
-    ensures { result ≡ false → NoneFailed nodes.now.items }
+    ensures none { result ≡ false → NoneFailed nodes.now.items }
+    ensures some { result ≡ true → SomeFailed nodes.now.items }
 {
     for number in 0..nodes.len() {
         if has_failed_at(nodes, number) {

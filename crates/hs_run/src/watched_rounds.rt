@@ -1,10 +1,10 @@
 //! The rounds of a run under watchers: all act beside two watchers and, from the second round on, beside one that publishes totals.
 
 ghost use Rattle.std.specs.Thread.{IsSync};
-ghost use Rattle.std.specs.Prelude.{◌≡◌, suc, [], ◌∷◌, ◌++◌, true, OnOk};
+ghost use Rattle.std.specs.Prelude.{◌≡◌, ◌≤◌, suc, [], ◌∷◌, ◌++◌, true, OnOk, OnErr};
 ghost use Rattle.hs_board.specs.Shown.{first};
 ghost use Rattle.hs_run_story.specs.RunStates.{RunState};
-ghost use Rattle.hs_board.specs.Watching.{BothMayLook, IsLater, WatchStands};
+ghost use Rattle.hs_board.specs.Watching.{BothMayLook, BothLookTimes, HaveLookedInAll, IsLater, KnowLast, WatchStands};
 ghost use Rattle.hs_workload.specs.Validity.{IsValid};
 ghost use Rattle.hs_workload.specs.Views.{workload_of};
 ghost use Rattle.hs_run.specs.Moments.{IsHere, AreFew, CanAct, ActedTo, CanBegin};
@@ -38,7 +38,7 @@ pub(crate) fn watch_rounds<R: Threads + Wait + Sync, G: Gate>(
 ) -> Result<(), Memory>
     requires valid { IsValid (workload_of workload.now) }
     requires all { CanBegin (workload_of workload.now) nodes.old.items coordinator.old }
-    requires begins { (watch.old.shown ≡ first ∷ []) × WatchStands watch.old }
+    requires begins { (watch.old.shown ≡ first ∷ []) × WatchStands watch.old × HaveLookedInAll 0 watch.old }
     ensures { OnOk result (AllWatched (workload_of workload.now) nodes.new.items coordinator.new watch.new) }
 {
     no_rounds_come();
@@ -91,6 +91,8 @@ fn watch_round<R: Threads + Wait + Sync, G: Gate>(
 fn tell(watch: &mut Watch, made: u32)
     ensures shown { watch.new.shown ≡ watch.old.shown }
     ensures stands { WatchStands watch.old → WatchStands watch.new }
+    ensures last { 1 ≤ made → KnowLast watch.new }
+    ensures looks { BothLookTimes 0 watch.old watch.new }
 {
     if made > 0 {
         watch.tell();
@@ -217,6 +219,7 @@ fn end_watch<R: Wait>(rt: &R, watch: &mut Watch, tally: &Tally, made: u32) -> Re
     requires stands { WatchStands watch.old }
     ensures shown { OnOk result (watch.new.shown ≡ shown_on made tally.now watch.old.shown) }
     ensures ended { OnOk result (WatchEnded watch.new) }
+    ensures looks { OnOk result (BothLookTimes 1 watch.old watch.new) }
 {
     publish_last(rt, watch, tally, made)?;
     watch.make_room()?;
@@ -230,6 +233,8 @@ fn publish_last<R: Wait>(rt: &R, watch: &mut Watch, tally: &Tally, made: u32) ->
     requires show { MayShow made tally.now watch.old.shown }
     ensures shown { OnOk result (watch.new.shown ≡ shown_on made tally.now watch.old.shown) }
     ensures stands { WatchStands watch.old → WatchStands watch.new }
+    ensures looks { BothLookTimes 0 watch.old watch.new }
+    ensures none { made ≡ 0 → OnErr result ⊥ }
 {
     if made == 0 {
         return Ok(());

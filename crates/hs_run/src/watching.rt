@@ -7,7 +7,7 @@ ghost use Rattle.hs_run.specs.Seen.{AreSeen};
 ghost use Rattle.hs_journal.specs.Views.{PlainJournal};
 ghost use Rattle.hs_law_journal.specs.Lawful.{IsLawful};
 ghost use Rattle.hs_report.specs.Outcomes.{AreBooksOf, IsOutcome};
-ghost use Rattle.hs_board.specs.Watching.{WatchStands};
+ghost use Rattle.hs_board.specs.Watching.{HaveLookedInAll, WatchStands};
 ghost use Rattle.hs_workload.specs.Validity.{IsValid};
 ghost use Rattle.hs_workload.specs.Views.{workload_of};
 ghost use Rattle.hs_run.specs.Watched.{HaveShown};
@@ -64,7 +64,7 @@ fn play_watched<R: Threads + Wait + Sync, G: Gate>(
     watch: &mut Watch,
 ) -> Result<Books, Memory>
     requires valid { IsValid (workload_of workload.now) }
-    requires begins { (watch.old.shown ≡ first ∷ []) × WatchStands watch.old }
+    requires begins { (watch.old.shown ≡ first ∷ []) × WatchStands watch.old × HaveLookedInAll 0 watch.old }
     ensures { IfOk result (λ books. (J : PlainJournal) × AreBooksOf (workload_of workload.now) J books × HaveShown (workload_of workload.now) J watch.new) }
 {
     shown_is_seen();

@@ -5,4 +5,4 @@ pub returns : goal.returns
 returns c =
     IfOk-weaker c.books_of.result _ _
     (λ books gathered. record { agents = c.close_pools-agents.result; told = c.told_of-told.result; gathered = gathered; finished = c.close_pools-agents.ensures; heard = c.told_of-told.ensures })
-    c.books_of.ensures
+    c.books_of.ensures.ok

@@ -28,6 +28,6 @@ returns g c = λ m here few.
     let new = c.act_and_hear.new.nodes in
     let acted : AllHaveActed w items new = subst (λ (l : List ActingNode). AllHaveActed w l new) c.as_mut_slice.ensures.value c.in_ok-act_and_hear.ensures.acted in
     let kept : lent_whole items new ≡ new = lent_whole_is items new acted.count in
-    let none : NoneFailed new = subst NoneFailed kept (c.has_failed.ensures c.if-has_failed.false) in
+    let none : NoneFailed new = subst NoneFailed kept (c.has_failed.ensures.none c.if-has_failed.false) in
     subst (λ (l : List ActingNode). ActedTo (workload_of w) m l c.act_and_hear.new.coordinator) (sym kept)
     (acted_to w m items new c.args.coordinator.now c.act_and_hear.new.coordinator here few acted c.in_ok-act_and_hear.ensures.heard none)

@@ -1,8 +1,8 @@
-use Rattle.std.proofs.Common.{ap, ◌∙◌}
+use Rattle.std.proofs.Common.{◌*◌, ap, ◌∙◌}
 use Rattle.hs_run.proofs.Prelude.{workload_of, shown_on}
 use Rattle.hs_run.proofs.Moments.{met_to}
 use Rattle.hs_run.proofs.Rounded.{stand_of}
-use Rattle.hs_run.proofs.WatchedRounds.{follows, may_count, next_watched}
+use Rattle.hs_run.proofs.WatchedRounds.{follows, may_count, next_watched, four_more}
 use Rattle.hs_run.proofs.watched_rounds.watch_round.Goals as goal
 
 pub meet_all-requires : goal.meet_all-requires
@@ -47,4 +47,5 @@ returns g c =
     next_watched W c.args.made c.args.nodes.now.items c.args.coordinator.now c.args.tally.now c.args.watch.now c.requires.watched c.move_all.new.nodes.items c.move_all.new.coordinator f c.count.new.self c.tell.new.watch c.requires.left
     (c.count.ensures.counts f.next.moment f.next.here.stands f.next.here.nodes_are) c.count.ensures.fits
     (c.tell.ensures.shown ∙ c.in_ok-act_watched.ensures.shown ∙ ap (shown_on c.args.made c.args.tally.now) c.in_ok-make_room.ensures.shown)
-    (c.tell.ensures.stands (c.in_ok-act_watched.ensures.stands.by (c.in_ok-make_room.ensures.stands c.requires.watched.stands)))
+    (c.tell.ensures.stands (c.in_ok-act_watched.ensures.stands.by (c.in_ok-make_room.ensures.stands c.requires.watched.stands))) c.tell.ensures.last
+    (four_more (4 * c.args.made) c.args.watch.now c.make_room.new.self c.act_watched.new.watch c.tell.new.watch c.requires.watched.looks c.in_ok-make_room.ensures.looks c.in_ok-act_watched.ensures.stands.looks c.tell.ensures.looks)

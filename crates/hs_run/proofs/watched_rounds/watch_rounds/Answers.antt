@@ -1,12 +1,12 @@
 use Rattle.std.proofs.Common.{◌<◌, ◌-◌, ◌+◌, subst, arith}
 use Rattle.hs_run.proofs.Prelude.{MAX_OPERATIONS, workload_of, TellsLeft}
 use Rattle.hs_run.proofs.Rounded.{whole_of, left_low}
-use Rattle.hs_run.proofs.WatchedRounds.{begin_watched, may_show, all_watched, on_both}
+use Rattle.hs_run.proofs.WatchedRounds.{begin_watched, may_show, all_watched, on_three}
 use Rattle.hs_run.proofs.watched_rounds.watch_rounds.Goals as goal
 
 pub rounds-init : goal.rounds-init
 rounds-init g c =
-    begin_watched c.no_rounds_come.ensures (workload_of c.args.workload.now) c.args.nodes.now.items c.args.coordinator.now c.requires.all c.in_ok-tally.tally c.args.watch.now c.requires.begins.0 c.requires.begins.1
+    begin_watched c.no_rounds_come.ensures (workload_of c.args.workload.now) c.args.nodes.now.items c.args.coordinator.now c.requires.all c.in_ok-tally.tally c.args.watch.now c.requires.begins.0 c.requires.begins.1 c.requires.begins.2
     c.in_ok-tally.ensures
 
 pub has_left-requires : goal.has_left-requires
@@ -29,7 +29,7 @@ end_watch-requires-clause-show g c = may_show (workload_of c.args.workload.now) 
 pub returns : goal.returns
 returns g c =
     let W = workload_of c.args.workload.now in
-    on_both c.end_watch.result _ _ _
+    on_three c.end_watch.result _ _ _ _
     (all_watched W c.rounds.made c.rounds.nodes.items c.rounds.coordinator c.rounds.tally c.rounds.watch c.rounds.invariant c.these_are_all_rounds.ensures
     (subst (TellsLeft W c.rounds.nodes.items) c.rounds-test.false c.has_left.ensures) c.end_watch.new.watch)
-    c.end_watch.ensures.shown c.end_watch.ensures.ended
+    c.end_watch.ensures.shown c.end_watch.ensures.ended c.end_watch.ensures.looks
