@@ -1,13 +1,23 @@
-"""Draws the parts of an outcome as SVG: bars of totals, a node's time line, a group's asks, a trace's records, what watchers saw."""
+"""Draws the parts of an outcome as SVG: bars of totals, the marks of a time line, a group's asks, a trace's records, what watchers saw."""
 from html import escape
 from math import cos, pi, sin
 
-MARKS = 1500  # a drawing with more marks than this goes by steps
-BINS = 240
 NAMES = {
     "got": "a draw that got a buffer", "null": "a draw that found the pool empty", "chunk": "a chunk is taken", "crumb": "a crumb is taken",
     "trigger": "a trigger is taken", "ask": "an ask is taken", "turn": "a turn", "reported": "pages that the turn reported", "evicted": "chunks that were evicted",
     "abandoned": "chunks that were abandoned", "given": "a buffer is given back", "missed": "a give that missed", "unread": "an offer that was not read",
+}  # fmt: skip
+SHAPES = {  # of 10 by 16: those of the time lines, and those of records by their fates; each differs from the others without its colour
+    "s-got": '<circle cx="5" cy="8" r="4"/>', "s-null": '<path d="M1 4 9 12M9 4 1 12"/>', "s-chunk": '<rect x="1" y="4" width="8" height="8"/>',
+    "s-crumb": '<path d="M5 3 10 8 5 13 0 8z"/>', "s-trigger": '<path d="M5 2 10 13H0z"/>', "s-ask": '<path d="M1 3 9 8 1 13z"/>', "s-turn": '<path d="M5 2V14"/>',
+    "s-reported": '<rect x="0" y="9" width="10" height="5"/>', "s-evicted": '<path d="M1 4H9L5 12z"/>', "s-abandoned": '<path d="M5 3 9 8 5 13 1 8zM1 8H9"/>',
+    "s-given": '<path d="M5 3 10 9H7V13H3V9H0z"/>', "s-missed": '<path d="M5 3 9 9H7V13H3V9H1z"/>', "s-unread": '<path d="M1 8H9"/>',
+    "f-reported": '<rect x="1" y="2" width="8" height="12"/>', "f-live": '<circle cx="5" cy="8" r="4"/>', "f-null": '<path d="M1 4 9 12M9 4 1 12"/>',
+    "f-evicted": '<path d="M1 4H9L5 12z"/>', "f-abandoned": '<path d="M5 3 9 8 5 13 1 8zM1 8H9"/>',
+}  # fmt: skip
+PATTERNS = {  # what lies over a bar, so that its parts differ without their colours
+    "live": '<circle cx="4" cy="4" r="1.5"/>', "null": '<path d="M0 0 8 8M8 0 0 8"/>', "evicted": '<path d="M-2 2 2 -2M-2 10 10 -2M6 10 10 6"/>',
+    "abandoned": '<path d="M0 4H8"/>',
 }  # fmt: skip
 
 
@@ -25,171 +35,77 @@ def title(text):
     return f"<title>{escape(text)}</title>"
 
 
-def picture(width, height, inside, label):
-    return tag("svg", inside, viewBox=f"0 0 {width:g} {height:g}", width=f"{width:g}", height=f"{height:g}", role="img", aria_label=label)
+def picture(width, height, inside, label, **more):
+    """A drawing in points. A narrow window makes it smaller only where its class says so."""
+    return tag("svg", inside, viewBox=f"0 0 {width:g} {height:g}", width=f"{width:g}", height=f"{height:g}", role="img", aria_label=label, **more)
+
+
+def wide(height, inside, label, **more):
+    """A drawing as wide as what it stands in; its places across are parts of a hundred."""
+    return tag("svg", inside, width="100%", height=f"{height:g}", role="img", aria_label=label, **more)
 
 
 def words(x, y, text, **more):
-    return tag("text", escape(str(text)), x=f"{x:g}", y=f"{y:g}", **more)
+    return tag("text", escape(str(text)), x=x if isinstance(x, str) else f"{x:g}", y=f"{y:g}", **more)
 
 
 def box(x, y, width, height, inside="", **more):
     return tag("rect", inside, x=f"{x:.1f}", y=f"{y:.1f}", width=f"{width:.1f}", height=f"{height:.1f}", **more)
 
 
-def bar(parts, width, label):
-    """A bar of parts (class, count, what it is), as wide as their sum."""
+def sprite():
+    """The shapes and patterns that the drawings of the page use."""
+    shapes = "".join(tag("g", shape, id=name) for name, shape in SHAPES.items())
+    patterns = "".join(tag("pattern", shape, id=f"p-{name}", width=8, height=8, patternUnits="userSpaceOnUse") for name, shape in PATTERNS.items())
+    return tag("svg", tag("defs", shapes + patterns), width=0, height=0, _class="sprite", aria_hidden="true")
+
+
+def part(kind, x, width, y, height, what):
+    """A part of a bar, with the pattern of its kind; `x` and `width` are parts of a hundred."""
+    place = {"x": f"{x:.3f}%", "width": f"{width:.3f}%", "y": y, "height": height}
+    over = tag("rect", title(what), fill=f"url(#p-{kind})", **place) if kind in PATTERNS else ""
+    return tag("rect", title(what), _class=f"fill {kind}", **place) + over
+
+
+def bar(parts, label):
+    """A bar of parts (class, count, what it is), as wide as what it stands in."""
     whole, x, inside = sum(count for _, count, _ in parts) or 1, 0, ""
     for kind, count, what in parts:
-        wide = width * count / whole
-        if count:
-            inside += box(x, 0, wide, 26, title(f"{what}: {count:,}"), _class=f"fill {kind}")
-        if wide > 60:
-            inside += words(x + 6, 17, f"{what} {count:,}", _class="on")
-        x += wide
-    return picture(width, 26, inside, label)
+        inside += part(kind, x, 100 * count / whole, 0, 26, f"{what}: {count:,}") if count else ""
+        x += 100 * count / whole
+    return wide(26, inside, label, _class="bar")
 
 
-class Timeline:
-    """What happened at a node: draws and steps in one order, by passes."""
-
-    def __init__(self, outcome, followed, node):
-        self.outcome, self.followed, self.node = outcome, followed, node
-        self.events = []  # (kind, client or None, line, pass, how it is told)
-        self.drawn = sorted(((draw, client) for (n, client), draws in outcome.draws.items() if n == node for draw in draws), key=lambda d: d[0].stamp)
-        self.next, self.taken = 0, dict.fromkeys(range(outcome.clients), 0)
-        self.got = {client: [draw for draw in draws if draw.buffer is not None] for (n, client), draws in outcome.draws.items() if n == node}
-        self.merge(outcome.logs[node])
-        self.passes = max((event[3] for event in self.events), default=0)
-
-    def merge(self, log):
-        """Puts each draw before the give that follows it by its stamp, and before its chunk is taken; where its round is known, at that round's pass."""
-        number, turned = 1, False
-        gives = [step.number for step in log if step.kind in ("given", "missed")]
-        self.draw_round(number, gives)
-        for step in log:
-            offer = step.kind in ("given", "missed", "unread")
-            if turned and not offer:
-                number, turned = number + 1, False
-                self.draw_round(number, gives)
-            if step.kind == "turn":
-                turned = True
-            if step.kind in ("given", "missed"):
-                self.draw_until(step.number, number)
-                gives.pop(0)
-            elif step.kind == "chunk":
-                mine, place = self.got[step.number], self.taken[step.number]
-                if place < len(mine):
-                    self.draw_until(mine[place].stamp + 1, number)
-                self.taken[step.number] += 1
-            self.add_step(step, number)
-        self.draw_until(1 << 64, number)
-
-    def draw_until(self, stamp, number):
-        while self.next < len(self.drawn) and self.drawn[self.next][0].stamp < stamp:
-            draw, client = self.drawn[self.next]
-            what = f"client {client} finds the pool empty, stamp {draw.stamp}" if draw.buffer is None else f"client {client} gets buffer {draw.buffer}, stamp {draw.stamp}"
-            self.events.append(("null" if draw.buffer is None else "got", client, draw.line, number, what))
-            self.next += 1
-
-    def draw_round(self, number, gives):
-        rounds = self.followed.rounds if self.followed else {}
-        while self.next < len(self.drawn):
-            draw = self.drawn[self.next][0]
-            if rounds.get(draw.line, number) >= number or (gives and draw.stamp > gives[0]):
-                return
-            self.draw_until(draw.stamp + 1, number)
-
-    def add_step(self, step, number):
-        client = step.number if step.kind in ("chunk", "crumb", "trigger") else None
-        stamp = f", stamp {step.number}" if step.kind in ("given", "missed") else ""
-        what = NAMES[step.kind] + (f" of client {client}" if client is not None else stamp)
-        effects = self.followed.effects.get(step.line, []) if self.followed else []
-        told = "; ".join(effect.text for effect in effects if effect.kind in ("claimed", "limited"))
-        self.events.append((step.kind, client, step.line, number, f"{what}{': ' + told if told else ''}"))
-        for kind in ("reported", "evicted", "abandoned"):
-            mine = [effect for effect in effects if effect.kind == kind]
-            if mine:
-                count = sum(effect.count for effect in mine)
-                text = f"{count} {kind}: " + "; ".join(effect.text for effect in mine[:8]) + (" .." if len(mine) > 8 else "")
-                self.events.append((kind, None, step.line, number, text))
-
-    def lanes(self):
-        found = [(f"client {client}", ("got", "null", "chunk", "crumb", "trigger"), client) for client in range(self.outcome.clients)]
-        found += [("asks", ("ask",), None), ("turns", ("turn", "reported"), None), ("evicted", ("evicted",), None)]
-        found += [("abandoned", ("abandoned",), None), ("gives", ("given", "missed", "unread"), None)]
-        here = {(kind, client) for kind, client, *_ in self.events}
-        return [lane for lane in found if any((kind, lane[2]) in here for kind in lane[1])]
-
-    def svg(self):
-        return self.by_event() if len(self.events) <= MARKS else self.by_steps()
-
-    def frame(self, width, inside):
-        lanes, high = self.lanes(), 18
-        left = "".join(words(4, 34 + high * place, name, _class="name") for place, (name, _, _) in enumerate(lanes))
-        lines = "".join(box(84, 21 + high * place, width - 90, high - 2, _class="lane") for place in range(len(lanes)))
-        bottom = 24 + high * len(lanes)
-        return picture(width, bottom + 66, lines + left + words(4, bottom + 40, "buffers out", _class="name") + inside, f"time line of node {self.node}"), bottom
-
-    def by_event(self):
-        width, wide = 100 + 12 * max(len(self.events), 8), 12
-        lanes = {(kind, client): place for place, (_, kinds, client) in enumerate(self.lanes()) for kind in kinds}
-        inside, number, out, points = "", 0, 0, [(90, 0)]
-        for place, (kind, client, line, at, what) in enumerate(self.events):
-            x = 90 + wide * place
-            if at != number:
-                number = at
-                inside += tag("line", x1=x, x2=x, y1=12, y2=10000, _class="pass") + words(x + 2, 12, number, _class="small")
-            y = 21 + 18 * lanes[kind, client]
-            inside += mark(kind, x, y, f"{what} (line {line}, pass {at})", line)
-            out += {"got": 1, "given": -1}.get(kind, 0)
-            points += [(x, points[-1][1]), (x, out)]
-        whole, bottom = self.frame(width, "")
-        return whole.replace("</svg>", inside + area(points + [(90 + wide * len(self.events), out)], bottom) + "</svg>")
-
-    def by_steps(self):
-        """Bars in place of marks: so many passes a step."""
-        each = -(-self.passes // BINS)
-        count, wide = -(-self.passes // each), 4
-        counts, out, outs = {}, 0, [0] * count
-        for kind, client, _, at, _ in self.events:
-            place = (at - 1) // each
-            counts.setdefault((kind, client), [0] * count)[place] += 1
-            out += {"got": 1, "given": -1}.get(kind, 0)
-            outs[place] = max(outs[place], out)
-        inside = ""
-        for lane, (name, kinds, client) in enumerate(self.lanes()):
-            shown = [kind for kind in kinds if (kind, client) in counts]
-            most = max((max(counts[kind, client]) for kind in shown), default=1)
-            for place in range(count):
-                here = [(kind, counts[kind, client][place]) for kind in shown if counts[kind, client][place]]
-                if here:
-                    text = f"{name}, passes {place * each + 1} to {(place + 1) * each}: " + ", ".join(f"{number} {kind}" for kind, number in here)
-                    tall = 16 * max(number for _, number in here) / most
-                    worst = next((kind for kind, _ in here if kind in ("null", "missed", "unread", "evicted", "abandoned", "reported")), here[0][0])
-                    inside += box(90 + wide * place, 37 + 18 * lane - tall, wide - 0.5, tall, title(text), _class=f"fill {worst}")
-        inside += words(90, 14, "pass 1", _class="small") + words(90 + wide * count, 14, self.passes, _class="small", text_anchor="end")
-        whole, bottom = self.frame(100 + wide * count, "")
-        points = [point for place, out in enumerate(outs) for point in ((90 + wide * place, out), (90 + wide * (place + 1), out))]
-        return whole.replace("</svg>", inside + area([(90, 0), *points], bottom) + "</svg>"), each
+def swatch(kind):
+    """How a part of a bar looks."""
+    return picture(14, 14, part(kind, 0, 100, 0, 14, kind), kind)
 
 
-def area(points, bottom):
-    most = max((out for _, out in points), default=0) or 1
-    path = " ".join(f"{x:.1f},{bottom + 56 - 40 * out / most:.1f}" for x, out in points)
+def shape(name, kind):
+    """One of the shapes, as it stands in a legend."""
+    return picture(12, 16, tag("use", href=f"#{name}", _class=kind, x=1, y=0), kind)
+
+
+def bars(rows, label):
+    """A bar for each row: its name, how long it is beside the others, its class, and what stands behind it."""
+    most, inside = max((size for _, size, _, _ in rows), default=0) or 1, ""
+    for place, (name, size, kind, behind) in enumerate(rows):
+        y = 4 + 26 * place
+        inside += words(-84, y + 14, name, _class="name") + part(kind, 0, 100 * size / most, y, 20, f"{name}: {behind}")
+        inside += words(f"{100 * size / most:.3f}%", y + 14, behind, dx=6, _class="small")
+    return wide(8 + 26 * len(rows), inside, label, _class="bars")
+
+
+def area(points, bottom, most):
+    """How many buffers are out of the pool, at most `most` of them."""
+    path = " ".join(f"{x:.1f},{bottom - 40 * out / most:.1f}" for x, out in points)
     first, last = points[0][0], points[-1][0]
-    return tag("polygon", title(f"buffers out of the pool, at most {most}"), points=f"{first},{bottom + 56} {path} {last},{bottom + 56}", _class="area") + words(62, bottom + 24, most, _class="small")
+    return tag("polygon", title(f"buffers out of the pool, at most {most}"), points=f"{first},{bottom} {path} {last},{bottom}", _class="area")
 
 
 def mark(kind, x, y, text, line):
-    """A mark of 10 by 10 in a lane of 16."""
-    shapes = {
-        "got": '<circle cx="5" cy="8" r="4"/>', "null": '<path d="M1 4 9 12M9 4 1 12"/>', "chunk": '<rect x="1" y="4" width="8" height="8"/>',
-        "crumb": '<path d="M5 3 10 8 5 13 0 8z"/>', "trigger": '<path d="M5 2 10 13H0z"/>', "ask": '<path d="M0 3H10L5 13z"/>', "turn": '<path d="M5 2V14"/>',
-        "reported": '<rect x="0" y="9" width="10" height="5"/>', "evicted": '<path d="M0 4H10L5 13z"/>', "abandoned": '<path d="M5 2 10 8 5 14 0 8z"/>',
-        "given": '<path d="M5 3 10 9H7V13H3V9H0z"/>', "missed": '<path d="M5 3 10 9H7V13H3V9H0z"/>', "unread": '<path d="M1 8H9"/>',
-    }  # fmt: skip
-    return tag("g", title(text) + shapes[kind], _class=f"m {kind}", transform=f"translate({x:g} {y:g})", data_line=line)
+    """A mark of 10 by 10 in a lane of 16, which leads to its line."""
+    return tag("a", tag("use", title(text), href=f"#s-{kind}", _class=f"m {kind}", x=f"{x:g}", y=f"{y:g}", data_line=line), href=f"#step-{line}")
 
 
 def group(found, outcome):
@@ -214,26 +130,34 @@ def group(found, outcome):
 def waterfall(report, moments):
     """A trace's records by node and client over their moments; `moments` has those of gaps, where a workload tells them."""
     entries = [(entry, entry.moment if entry.moment is not None else moments.get(entry.key)) for entry in report.records + report.gaps]
-    lanes = sorted({(entry.node, entry.client) for entry, _ in entries})
-    known = [moment for _, moment in entries if moment is not None]
+    lanes = sorted({(entry.node, entry.client) for entry, moment in entries if moment is not None})
+    known, beside = [moment for _, moment in entries if moment is not None], [entry for entry, moment in entries if moment is None]
     first, last = min(known, default=0), max(known, default=0)
-    inside, beside = "", {}
-    for place, (node, client) in enumerate(lanes):
-        inside += words(4, 15 + 20 * place, f"{node}.{client}", _class="name") + box(44, 2 + 20 * place, 560, 16, _class="lane")
+    names = [f"{node}.{client}" for node, client in lanes] + (["when?"] if beside else [])
+    inside = "".join(words(-52, 15 + 20 * place, name, _class="name") + lane(place) for place, name in enumerate(names))
+    inside += "".join(record(entry, None, 100 * place / len(beside), 2 + 20 * len(lanes)) for place, entry in enumerate(beside))
     for entry, moment in entries:
-        lane = lanes.index((entry.node, entry.client))
-        kind = entry.fate.split(" ")[0]
-        if moment is None:
-            beside[lane] = beside.get(lane, -1) + 1
-            x = 612 + 9 * beside[lane]
-        else:
-            x = 46 + 548 * (moment - first) / ((last - first) or 1)
-        when = "moment not told" if moment is None else f"moment {moment}"
-        text = f"record {entry.number} of client {entry.client}, node {entry.node}, {when}: " + (f"payload {entry.payload}" if kind == "reported" else entry.fate)
-        inside += box(x, 4 + 20 * lane, 7, 12, title(text), _class=f"{'record' if kind == 'reported' else 'gap'} {kind}")
-    width = 620 + 9 * (max(beside.values(), default=-1) + 1)
-    axis = words(46, 14 + 20 * len(lanes), f"{first:,}", _class="small") + words(604, 14 + 20 * len(lanes), f"{last:,}", _class="small", text_anchor="end")
-    return picture(width, 20 + 20 * len(lanes), inside + axis, f"trace {report.trace}")
+        if moment is not None:
+            inside += record(entry, moment, 100 * (moment - first) / ((last - first) or 1), 2 + 20 * lanes.index((entry.node, entry.client)))
+    below = 14 + 20 * len(lanes)
+    below += 20 if beside else 0
+    if known:
+        inside += words(0, below, f"{first:,}", _class="small") + words("100%", below, f"{last:,}", _class="small", text_anchor="end", dx=12)
+    return wide(below + 6, inside, f"trace {report.trace}", _class="fall")
+
+
+def lane(place):
+    return tag("rect", _class="lane", x=-3, y=2 + 20 * place, width="100%", height=16)
+
+
+def record(entry, moment, at, y):
+    """The mark of a record, which leads to it."""
+    kind = entry.fate.split(" ")[0]
+    when = "moment not told" if moment is None else f"moment {moment:,}"
+    text = f"record {entry.number} of client {entry.client}, node {entry.node}, {when}: {entry.fate}"
+    name = f"{entry.node}-{entry.client}-{entry.number}"
+    inside = tag("use", title(text), href=f"#f-{kind}", _class=f"{'record' if kind == 'reported' else 'gap'} {kind}", x=f"{at:.3f}%", y=y, data_record=name)
+    return tag("a", inside, href=f"#record-{name}")
 
 
 def seen(watchers, key):
@@ -248,6 +172,6 @@ def seen(watchers, key):
         dots = [*points] if len(points) <= 400 else []
         for (x, y), look in zip(dots, looks):
             inside += tag("circle", title(f"watcher {number}, round {look['rounds']}: {look[key]:,}"), cx=f"{x:.1f}", cy=f"{y:.1f}", r=2.5, _class=f"dot w{number}")
-    return picture(370, 96, inside, key)
+    return picture(370, 96, inside, key, _class="fits")
 
 

@@ -3,7 +3,7 @@
 A plain retelling of docs/RULES.md for a picture's sake: it proves nothing, and what it cannot follow it refuses.
 """
 import re
-from collections import OrderedDict, deque
+from collections import Counter, OrderedDict, defaultdict, deque
 from dataclasses import dataclass, field
 
 from viewer.reading import Fault
@@ -75,6 +75,8 @@ class Followed:
     records: dict  # by node and client
     effects: dict  # by line of the journal
     groups: list
+    claims: dict  # by trace, (node, group) for each node that claimed it
+    crumbs: dict  # by trace, how often each (node, node that it names) was left
     rounds: dict  # the round of each draw, by line
 
 
@@ -136,6 +138,7 @@ class Client:
     def __init__(self, workload, node, number, draws):
         self.workload, self.node, self.number, self.draws = workload, node, number, iter(draws)
         self.records, self.chunks, self.crumbs, self.triggers = [], deque(), deque(), deque()
+        self.left = []  # (trace, node) of each crumb
         autos = [Autotrigger(*words) for words in workload.autos]
         trace, self.page = None, None
         for place, words in enumerate(workload.operations.get((node, number), [])):
@@ -146,6 +149,7 @@ class Client:
                 self.point(trace, int(words[1]), words[2], place // workload.stride)
             elif kind == "crumb":
                 self.crumbs.append((trace, int(words[1])))
+                self.left.append((trace, int(words[1])))
             elif kind == "end":
                 trace, self.page = None, None
             elif kind == "trigger":
@@ -332,7 +336,24 @@ def follow(workload, outcome):
             raise Fault(log[at[node]].line, "the workload has nothing that this step could take")
     check_fates(clients, outcome)
     rounds = {page.draw.line: page.round for client in clients.values() for record in client.records for page in record.pages}
-    return Followed({key: client.records for key, client in clients.items()}, effects, list(groups.values()), rounds)
+    records = {key: client.records for key, client in clients.items()}
+    return Followed(records, effects, list(groups.values()), claims_of(agents), crumbs_of(clients.values()), rounds)
+
+
+def claims_of(agents):
+    claims = defaultdict(list)
+    for agent in agents:
+        for trace, group in agent.claims.items():
+            claims[trace].append((agent.node, group))
+    return claims
+
+
+def crumbs_of(clients):
+    crumbs = defaultdict(Counter)
+    for client in clients:
+        for trace, node in client.left:
+            crumbs[trace][client.node, node] += 1
+    return crumbs
 
 
 def hear(agents, groups, node):

@@ -1,74 +1,161 @@
-"use strict";
-// The ledger as a table that sorts and filters, over the text of the page; and where in the journal a fate came about.
-(() => {
-  const table = document.getElementById("entries"), output = document.getElementById("output");
-  if (!table) return;
-  const lines = output.textContent.split("\n"), first = lines.findIndex((line) => line.startsWith("ledger ")) + 1;
-  const count = Number(lines[first - 1].split(" ")[1]), places = document.getElementById("places").textContent.split(" ").map(Number);
-  const entries = lines.slice(first, first + count).map((line, at) => {
-    const [node, client, number, trace, ...fate] = line.split(" ");
-    return { cells: [Number(node), Number(client), Number(number), trace, fate.join(" ")], kind: fate[0], line: places[at], at };
-  });
-  const form = document.querySelector(".filters"), most = 200;
-  let order = null, falls = false, from = 0;
-  form.hidden = false;
+// What all of the script stands on: the text of the page, its entries, and the panel that shows what the address names.
+const named = (id) => document.getElementById(id);
+const output = named("output"), there = named("there"), lines = output.textContent.split("\n");
+const journalEnd = Number(output.dataset.journal), most = 200;
+const entries = entriesOf(), shipped = shippedOf();
+let opener = null;
 
-  function shown() {
-    const { fate, node, trace } = form.elements;
-    let found = entries.filter((it) => (!fate.value || it.kind === fate.value) && (!node.value || it.cells[0] === Number(node.value)) && (!trace.value || it.cells[3].includes(trace.value)));
-    if (order !== null) found = found.sort((a, b) => ((a.cells[order] < b.cells[order] ? -1 : a.cells[order] > b.cells[order] ? 1 : a.at - b.at) * (falls ? -1 : 1)));
-    return found;
-  }
-  function draw() {
-    const found = shown(), body = table.tBodies[0];
-    from = Math.max(0, Math.min(from, Math.floor((found.length - 1) / most) * most));
-    body.replaceChildren(...found.slice(from, from + most).map(row));
-    form.querySelector(".count").textContent = found.length ? `${from + 1} to ${Math.min(from + most, found.length)} of ${found.length}` : "none";
-  }
-  function row(it) {
-    const tr = document.createElement("tr");
-    tr.className = it.kind;
-    it.cells.forEach((cell, place) => {
-      const td = tr.insertCell();
-      if (place === 4 && it.line) {
-        const a = td.appendChild(document.createElement("a"));
-        a.href = `#j${it.line}`, a.dataset.line = it.line, a.textContent = cell;
-      } else td.textContent = cell;
-    });
-    return tr;
-  }
-  // The lines of the journal about one of them, and its mark in the time line.
-  function show(line) {
-    const end = Number(output.dataset.journal), low = Math.max(1, line - 5), high = Math.min(end, line + 5);
-    const pre = document.createElement("pre"), about = document.createElement("p");
-    for (let at = low; at <= high; at++) {
-      const part = document.createElement(at === line ? "mark" : "span");
-      part.textContent = `${String(at).padStart(6)}  ${lines[at - 1]}\n`;
-      pre.append(part);
-    }
-    let head = line;
-    while (head > 1 && !/^(draws|log|coordinator|journal)/.test(lines[head - 1])) head--;
-    about.textContent = `Line ${line} of the journal, under '${lines[head - 1]}':`;
-    const close = document.createElement("button"), there = document.getElementById("there");
-    close.textContent = "close", close.onclick = () => there.replaceChildren();
-    there.replaceChildren(close, about, pre);
-    document.querySelectorAll(".m.here").forEach((it) => it.classList.remove("here"));
-    const marks = document.querySelectorAll(`.m[data-line="${line}"]`);
-    marks.forEach((it) => it.classList.add("here"));
-    if (marks.length) marks[0].scrollIntoView({ block: "center", inline: "center" });
-  }
-  document.addEventListener("click", (event) => {
-    const link = event.target.closest("a[data-line]"), button = event.target.closest("button[data-sort]");
-    if (link) {
-      event.preventDefault();
-      show(Number(link.dataset.line));
-    } else if (button) {
-      const place = Number(button.dataset.sort);
-      falls = order === place && !falls, order = place, from = 0;
-      draw();
-    } else if (event.target.name === "next") from += most, draw();
-    else if (event.target.name === "back") from -= most, draw();
+function make(name, values, ...inside) {
+  const element = document.createElement(name);
+  for (const key in values) element.setAttribute(key, values[key]);
+  element.append(...inside);
+  return element;
+}
+const link = (kind, name, shown) => make("a", { href: `#${kind}-${name}` }, shown);
+const traceOf = (trace) => link("trace", trace, make("code", {}, trace));
+
+// The ledger, with the step and the moment of each entry as far as they are known.
+function entriesOf() {
+  const first = lines.findIndex((line) => line.startsWith("ledger ")) + 1, count = Number(lines[first - 1].split(" ")[1]);
+  const [places, moments] = ["places", "moments"].map((id) => named(id).textContent.split(" "));
+  return lines.slice(first, first + count).map((line, at) => {
+    const [node, client, number, trace, kind] = line.split(" ", 5), fate = line.slice(line.indexOf(trace) + trace.length + 1);
+    return { cells: [Number(node), Number(client), Number(number), trace, fate], trace, kind, line: Number(places[at]), moment: moments[at], at };
   });
-  form.addEventListener("input", () => ((from = 0), draw()));
-  draw();
-})();
+}
+const nameOf = (it) => it.cells.slice(0, 3).join("-");
+// The moment and the payload of each record of a report.
+function shippedOf() {
+  const found = new Map(), first = lines.findIndex((line) => line.startsWith("reports ")) + 1;
+  const keep = ([node, client, number, moment, payload]) => found.set(`${node}-${client}-${number}`, { moment: String(moment), payload });
+  if (lines[first].startsWith("[")) JSON.parse(lines[first]).forEach((report) => report.records.forEach(keep));
+  for (let at = first; !lines[at].startsWith("ledger "); at++) if (/^\d/.test(lines[at])) keep(lines[at].split(" "));
+  return found;
+}
+function momentOf(it) {
+  const moment = shipped.get(nameOf(it))?.moment ?? it.moment;
+  return moment === "-" ? "not told" : Number(moment).toLocaleString("en");
+}
+// A payload as text where it can be printed, else its digits.
+function payloadOf(it) {
+  const digits = shipped.get(nameOf(it))?.payload;
+  if (digits === undefined) return "not shipped";
+  if (digits === "-") return "no bytes";
+  try {
+    const said = new TextDecoder("utf-8", { fatal: true, ignoreBOM: true }).decode(Uint8Array.from(digits.match(/../g), (two) => parseInt(two, 16)));
+    if (/^(?:[^\p{C}\p{Z}]| )*$/u.test(said)) return make("q", {}, said);
+  } catch {} // these bytes are no text
+  return make("code", {}, digits);
+}
+
+// Why a step of the journal did what it did, in sentences.
+function explained(line) {
+  const { buffers, threshold, traces, pins } = times.limits;
+  if (lines[line - 1].startsWith("empty ")) return [`The pool was empty${buffers ? `: all ${buffers} buffers were out` : ""}. What the client wrote there is lost.`];
+  return (times.effects[line] ?? []).map(([kind, text]) => {
+    const words = text.split(" ");
+    if (kind === "evicted") return `The index held ${words[3]} chunks of ${words[4]} traces, and may hold ${threshold} of ${traces}: trace ${words[1].slice(0, -1)}, touched longest ago, was evicted.`;
+    if (kind === "abandoned") return `More than ${pins} chunks were pinned: of trigger ${words[1]} the group with the lead ${words[2]}, of the lowest priority, was abandoned.`;
+    if (kind === "reported") return `It shipped a page of ${text.split(",")[0]}.`;
+    if (kind === "claimed") return `It claimed ${text}.`;
+    return kind === "limited" ? `The attempt of ${text}: its bucket had no token.` : `And ${text} more.`;
+  });
+}
+// The line of the journal with those about it.
+function journalAbout(line) {
+  const pre = make("pre", {});
+  for (let at = Math.max(1, line - 5); at <= Math.min(journalEnd, line + 5); at++)
+    pre.append(make(at === line ? "mark" : "span", {}, `${String(at).padStart(6)}  ${lines[at - 1]}\n`));
+  return pre;
+}
+function headOf(line) {
+  while (line > 1 && !/^(draws|log|coordinator|journal)/.test(lines[line - 1])) line--;
+  return lines[line - 1];
+}
+function rowsOf(them, heads, cells) {
+  const body = make("tbody", {}, ...them.slice(0, most).map((it) => make("tr", { class: it.kind }, ...cells(it).map((cell) => make("td", {}, cell)))));
+  const table = make("table", {}, make("thead", {}, make("tr", {}, ...heads.map((head) => make("th", {}, head)))), body);
+  return them.length > most ? make("div", {}, table, `and ${them.length - most} more`) : table;
+}
+const fateOf = (it) => (it.line ? link("step", it.line, it.cells[4]) : it.cells[4]);
+const recordOf = (it) => link("record", nameOf(it), it.cells.slice(0, 3).join("."));
+
+// What the panel says of a step, a record and a trace; null where there is none.
+function toldOfStep(name) {
+  const line = Number(name), decided = entries.filter((it) => it.line === line);
+  if (!(line >= 1 && line <= journalEnd)) return null;
+  const told = [make("h2", {}, `Line ${line} of the journal, under '${headOf(line)}'`)], why = explained(line);
+  if (decided.some((it) => it.kind === "live")) why.push("What is live stayed in the index to the end: nobody claimed its trace at this node.");
+  if (why.length) told.push(make("p", {}, why.join(" ")));
+  told.push(journalAbout(line));
+  if (decided.length) told.push(make("p", {}, "It decided these fates:"), rowsOf(decided, ["record", "trace", "fate"], (it) => [recordOf(it), traceOf(it.trace), it.cells[4]]));
+  return { told, line };
+}
+function toldOfRecord(name) {
+  const it = entries.find((entry) => nameOf(entry) === name);
+  if (!it) return null;
+  const [node, client, number] = it.cells;
+  const about = make("p", {}, "Trace ", traceOf(it.trace), `, moment ${momentOf(it)}, payload: `, payloadOf(it), ". Its fate: ", make("b", {}, it.cells[4]), ".");
+  const told = [make("h2", {}, `Record ${number} of client ${client}, node ${node}`), about];
+  if (it.line) told.push(make("p", {}, "That was decided at ", link("step", it.line, `line ${it.line} of the journal`), `, under '${headOf(it.line)}'. `, explained(it.line).join(" ")), journalAbout(it.line));
+  return { told, line: it.line };
+}
+function toldOfTrace(trace) {
+  const them = entries.filter((it) => it.trace === trace);
+  if (!them.length) return null;
+  const report = reportOf(trace), told = [make("h2", {}, `Trace ${trace}`), make("p", {}, report ? report.querySelector("summary").textContent.replace(trace, "Its report has").replace(",", "") + "." : "It has no report: no node claimed it.")];
+  const about = report?.querySelector("ul");
+  if (about) told.push(about.cloneNode(true));
+  told.push(rowsOf(them, ["record", "moment", "fate", "payload"], (it) => [recordOf(it), momentOf(it), fateOf(it), payloadOf(it)]));
+  return { told, report };
+}
+
+// Shows what the address names, and where it stands in the page.
+function tell() {
+  const [, kind, name] = /^#(step|record|trace)-(.+)$/.exec(location.hash) ?? [];
+  if (!kind) return hide();
+  const found = { step: toldOfStep, record: toldOfRecord, trace: toldOfTrace }[kind](name);
+  const close = make("button", { type: "button" }, "close");
+  close.onclick = leave;
+  there.replaceChildren(close, ...(found?.told ?? [make("h2", {}, `There is no ${kind} ${name} here`)]));
+  there.hidden = false;
+  document.documentElement.style.scrollPaddingBottom = document.body.style.paddingBottom = `${there.offsetHeight + 12}px`;
+  there.scrollTop = 0;
+  const line = there.querySelector("mark");
+  if (line) there.scrollTop = Math.max(0, line.offsetTop + line.offsetHeight - there.clientHeight + 8);
+  nearTo(found?.line ?? 0, kind === "step");
+  if (found?.report) openReport(found.report);
+}
+function hide() {
+  there.hidden = true;
+  document.documentElement.style.scrollPaddingBottom = document.body.style.paddingBottom = "";
+  nearTo(0, false);
+}
+// Follows a link of the page; the back button leads back to where it stood.
+function go(address) {
+  if (location.hash !== address) history.pushState(null, "", address);
+  tell();
+}
+function leave() {
+  history.pushState(null, "", location.href.split("#")[0]);
+  hide();
+  if (opener?.isConnected) opener.focus();
+}
+function begin() {
+  output.querySelectorAll("[id]").forEach((it) => it.removeAttribute("id")); // the panel shows the lines instead
+  document.addEventListener("click", (event) => {
+    const a = event.target.closest("a");
+    if (!a || event.ctrlKey || event.metaKey || event.shiftKey || event.altKey) return;
+    event.preventDefault();
+    if (!there.contains(a)) opener = a;
+    go(a.getAttribute("href"));
+  });
+  document.addEventListener("keydown", (event) => {
+    if (event.key === "Escape" && !there.hidden) leave();
+  });
+  addEventListener("popstate", tell);
+  drawReports();
+  drawLedger();
+  beginLine();
+  if (location.hash) tell();
+}

@@ -1,16 +1,21 @@
 """Puts what was read into one page of HTML that needs nothing beside it."""
+import json
 import pathlib
 from collections import Counter
 from html import escape
 
 from viewer import drawing
-from viewer.drawing import many
+from viewer.drawing import many, shape, swatch
 from viewer.following import page_of_fate
 from viewer.reading import FATES, SAMPLERS, SEEN, Comparison, Refusal
+from viewer.timeline import MARKS, Axis, Timeline, effects_of
 
 HERE = pathlib.Path(__file__).parent
 ROWS = 200  # of the ledger, without the script
-DRAWN = 3000  # marks of reports, and lines of the journal that can be linked
+DRAWN = 3000  # records of reports, and lines of the journal that can be linked without the script
+OPEN = 20  # reports; if there are more, all are closed
+SHORT = 64  # bytes of a payload in a row
+PART = 500  # lines of the text that a browser lays out at once
 GROUPS = 120
 MEANING = {
     "live": "in the index of its node at the end", "reported": "shipped", "null": "the pool was empty, its bytes are lost",
@@ -19,15 +24,18 @@ MEANING = {
 
 
 def page(found, followed=None, workload=None):
+    script = ""
     if isinstance(found, Refusal):
         body = section("What was said", f"<p class='said'>{escape(found.line)}</p>")
     elif isinstance(found, Comparison):
         body = compared(found)
     else:
         body = outcome(found, followed, workload)
-    style, script = ((HERE / name).read_text() for name in ("page.css", "page.js"))
-    head = f'<meta charset="utf-8"><meta name="viewport" content="width=device-width"><title>Hindsight</title><style>{style}</style>'
-    return f'<!DOCTYPE html>\n<html lang="en"><head>{head}</head><body><h1>Hindsight</h1>{body}<script>{script}</script></body></html>\n'
+        script = "".join((HERE / name).read_text() for name in ("page.js", "lists.js", "line.js"))
+    head = '<meta charset="utf-8"><meta name="viewport" content="width=device-width, initial-scale=1"><title>Hindsight</title>'
+    style = (HERE / "page.css").read_text()
+    whole = f"<h1>Hindsight</h1>{drawing.sprite()}{body}" + (f'<script>"use strict";\n{{\n{script}}}\n</script>' if script else "")
+    return f'<!DOCTYPE html>\n<html lang="en"><head>{head}<style>{style}</style></head><body>{whole}</body></html>\n'
 
 
 def section(name, inside, id=None):
@@ -36,11 +44,32 @@ def section(name, inside, id=None):
 
 def table(heads, rows):
     head = "".join(f"<th>{head}</th>" for head in heads)
-    return f"<table><thead><tr>{head}</tr></thead><tbody>" + "".join("<tr>" + "".join(f"<td>{cell}</td>" for cell in row) + "</tr>" for row in rows) + "</tbody></table>"
+    body = "".join("<tr>" + "".join(f"<td>{cell}</td>" for cell in row) + "</tr>" for row in rows)
+    return f"<div class='wide'><table><thead><tr>{head}</tr></thead><tbody>{body}</tbody></table></div>"
+
+
+def options(name, first, values):
+    """A choice among values, of which the first is any."""
+    return f'<label>{name} <select name="{name}"><option value="">{first}</option>' + "".join(f"<option>{value}</option>" for value in values) + "</select></label>"
+
+
+def pager():
+    return '<span class="count"></span> <button type="button" name="back">back</button> <button type="button" name="next">next</button>'
+
+
+def link(trace):
+    return f'<a href="#trace-{trace}"><code>{trace}</code></a>'
+
+
+def step(line):
+    return f'<a href="#step-{line}">line {line}</a>'
 
 
 def outcome(out, followed, workload):
-    parts = [section("Totals", totals(out, followed), "totals")]
+    without = f"Without its script the page draws at most {MARKS:,} marks of time lines and {DRAWN:,} of reports, has {ROWS} rows of the ledger, and leads to a line of the journal if that has at most {DRAWN:,}."
+    search = f"<noscript><p>{without}</p></noscript>"
+    search += '<form id="search" role="search" hidden><label>find a trace <input name="trace" autocomplete="off" spellcheck="false"></label> <span class="count"></span></form>'
+    parts = [search, section("Totals", totals(out, followed), "totals")]
     if out.watchers:
         parts.append(section("What the watchers saw", watched(out), "watchers"))
     parts.append(section("Reports", reports(out, followed), "reports"))
@@ -48,23 +77,48 @@ def outcome(out, followed, workload):
     parts.append(section("Coordinator", coordinator(out, followed), "coordinator"))
     parts.append(section("Ledger", ledger(out, followed), "ledger"))
     parts.append(section("All of it as text", text_of(out), "text"))
+    parts.append('<aside id="there" hidden tabindex="-1" aria-live="polite" aria-label="what was chosen"></aside>')
     return "".join(parts)
 
 
 def totals(out, followed):
-    told = "".join(f"<li class='{fate}'><b class='total'>{out.totals[fate]:,}</b> {fate}: {MEANING[fate]}</li>" for fate in FATES)
-    bar = drawing.bar([(fate, out.totals[fate], fate) for fate in FATES], 900, "the fates of all records")
-    size = lambda payload: 0 if payload == "-" else len(payload) // 2
-    shipped = sum(size(entry.payload) for report in out.reports for entry in report.records)
+    told = "".join(f"<li>{swatch(fate)}{mark_of(fate)} <span><b class='total'>{out.totals[fate]:,}</b> {fate}: {MEANING[fate]}</span></li>" for fate in FATES)
+    bar = drawing.bar([(fate, out.totals[fate], fate) for fate in FATES], "the fates of all records")
     if followed:
-        whole, unit = sum(size(record.payload) for records in followed.records.values() for record in records), "payload bytes"
+        shipped = sum(size_of(entry.payload) for report in out.reports for entry in report.records)
+        whole, unit = sum(size_of(record.payload) for records in followed.records.values() for record in records), "payload bytes"
     else:
         shipped, whole, unit = out.totals["reported"], out.totals["records"], "records"
-    share = drawing.bar([("reported", shipped, "shipped"), ("rest", whole - shipped, "not shipped")], 900, "what was shipped")
+    share = drawing.bar([("reported", shipped, "shipped"), ("rest", whole - shipped, "not shipped")], "what was shipped")
     said = f"<p>Shipped: <b>{shipped:,}</b> of {whole:,} {unit}, in {many(len(out.reports), 'report')}.</p>"
     who = f"{many(out.clients, 'client')} on {'each of ' * (out.nodes > 1)}{many(out.nodes, 'node')}"
     written = f"<p><b class='total'>{out.totals['records']:,}</b> records were written, by {who}.</p>"
     return f"{written}{bar}<ul class='legend'>{told}</ul>{said}{share}"
+
+
+def mark_of(fate):
+    """The mark of a record with this fate."""
+    return shape(f"f-{fate}", f"{'record' if fate == 'reported' else 'gap'} {fate}")
+
+
+def size_of(payload):
+    return 0 if payload == "-" else len(payload) // 2
+
+
+def payload_of(digits):
+    """A payload as text where it can be printed, else its digits; both cut where they are long."""
+    size = size_of(digits)
+    data = bytes.fromhex(digits if size else "")
+    more = f" .. {size:,} bytes" if size > SHORT else ""
+    try:
+        text = data.decode()
+    except UnicodeDecodeError:
+        text = "\n"
+    if not size:
+        return "no bytes"
+    if text.isprintable():
+        return f"<q>{escape(data[:SHORT].decode(errors='ignore'))}</q>{more}"
+    return f"<code>{digits[: 2 * SHORT]}</code>{more}"
 
 
 def watched(out):
@@ -76,43 +130,106 @@ def watched(out):
 def reports(out, followed):
     if not out.reports:
         return "<p>No trace was claimed that has a record.</p>"
-    moments = {(*key, number): record.moment for key, records in (followed.records if followed else {}).items() for number, record in enumerate(records)}
-    said = "<p>A bar is a record at its moment, in the lane of its node and client. A gap, drawn as an outline, is a record of the trace that was not shipped"
-    parts = [said + (".</p>" if followed else "; its moment is told where the workload stands beside (<code>--workload</code>).</p>")]
-    left, rest = DRAWN, []
-    for report in out.reports:
+    moments = moments_of(followed)
+    lacking = sum(bool(report.gaps) for report in out.reports)
+    said = f"{many(len(out.reports), 'report')}, of which {lacking:,} {'is' if lacking == 1 else 'are'} incomplete; these come first. In a report each mark is a record at its moment, in the lane of its node and client. A hollow mark is a gap: a record of the trace that was not shipped"
+    parts = [f"<p>{said}{'.' if followed else '; its moment, the crumbs, and all of the triggers are told where the workload stands beside (<code>--workload</code>).'}</p>"]
+    left, drawn, ids, opened = DRAWN, [], set(), len(out.reports) <= OPEN
+    for report in sorted(out.reports, key=lambda report: not report.gaps):
         count = len(report.records) + len(report.gaps)
-        if count > left:
-            rest.append(report)
-            continue
-        left -= count
-        told = f"<code>{report.trace}</code>, {many(len(report.records), 'record')}, {many(len(report.gaps), 'gap')}"
-        parts.append(f"<details open class='report'><summary>{told}</summary>{drawing.waterfall(report, moments)}</details>")
-    if rest:
-        parts.append(f"<p>{len(rest):,} more reports are drawn as one bar each, since they have more than {DRAWN:,} records together.</p>")
-        for report in rest:
-            counts = Counter(entry.fate.split(" ")[0] for entry in report.gaps)
-            bar = drawing.bar([("reported", len(report.records), "records"), *((fate, counts[fate], fate) for fate in FATES if counts[fate])], 600, report.trace)
-            parts.append(f"<details class='report'><summary><code>{report.trace}</code></summary>{bar}</details>")
+        triggers, told = claimed(report, followed)
+        inside = told + (report_drawn(report, moments, out, followed) if count <= left else report_counted(report))
+        left -= count if count <= left else 0
+        ids |= triggers
+        drawn.append(report_of(report, triggers, inside, opened))
+    orders = '<label>order <select name="order"><option value="gaps">incomplete first</option><option value="most">most gaps first</option><option value="trace">trace</option><option value="records">most records first</option></select></label>'
+    chosen = options("trigger", "any", sorted(ids)) + options("node", "any", range(out.nodes)) + options("fate", "any", FATES)
+    parts.append(f'<form class="filters" hidden>{orders} {chosen} {pager()}</form><div id="drawn">{"".join(drawn)}</div>')
     return "".join(parts)
+
+
+def moments_of(followed):
+    """The moment of each record, where the workload tells it."""
+    return {(*key, number): record.moment for key, records in (followed.records if followed else {}).items() for number, record in enumerate(records)}
+
+
+def report_of(report, triggers, inside, opened):
+    entries = report.records + report.gaps
+    data = {
+        "trigger": sorted(triggers), "node": sorted({entry.node for entry in entries}), "fate": sorted({entry.fate.split(" ")[0] for entry in entries}),
+        "records": [len(report.records)], "gaps": [len(report.gaps)],
+    }  # fmt: skip
+    named = "".join(f' data-{name}="{" ".join(map(str, values))}"' for name, values in data.items())
+    told = f"<code>{report.trace}</code>, {many(len(report.records), 'record')}, {many(len(report.gaps), 'gap')}{listed('trigger', data['trigger'])}{listed('node', data['node'])}"
+    return f"<details{' open' * opened} class='report' id='trace-{report.trace}'{named}><summary>{told}</summary>{inside}</details>"
+
+
+def listed(one, values):
+    """A word with its values, behind others: '; nodes 0, 1'."""
+    return f"; {one}{'s' * (len(values) > 1)} {', '.join(map(str, values))}" if values else ""
+
+
+def report_drawn(report, moments, out, followed):
+    """A report's records as marks and as rows."""
+    rows = [row_of_report(entry, moments, place_of(entry, out, followed)) for entry in report.records + report.gaps]
+    return drawing.waterfall(report, moments) + table(("record", "moment", "fate", "payload"), rows)
+
+
+def row_of_report(entry, moments, place):
+    moment = entry.moment if entry.moment is not None else moments.get(entry.key)
+    name = ".".join(map(str, entry.key))
+    payload = "not shipped" if entry.payload is None else payload_of(entry.payload)
+    return f'<a href="#record-{name.replace(".", "-")}">{name}</a>', "not told" if moment is None else f"{moment:,}", fate_of(entry, place), payload
+
+
+def fate_of(entry, place):
+    """A fate, which leads to the step that decided it where that is known."""
+    return f'<a href="#step-{place}" data-line="{place}">{escape(entry.fate)}</a>' if place else escape(entry.fate)
+
+
+def report_counted(report):
+    """A report with more records than the page draws: how many of each fate."""
+    counts = Counter(entry.fate.split(" ")[0] for entry in report.gaps)
+    bar = drawing.bar([("reported", len(report.records), "records"), *((fate, counts[fate], fate) for fate in FATES)], report.trace)
+    told = "".join(f", {counts[fate]:,} {fate}" for fate in FATES if counts[fate])
+    return f"<p>{len(report.records):,} shipped{told}: more than are drawn here. The ledger has them.</p>{bar}"
+
+
+def claimed(report, followed):
+    """The trigger ids that a trace was claimed for, and what is told of that and of its crumbs."""
+    if not followed:
+        words = [entry.fate.split(" ") for entry in report.records + report.gaps if entry.fate.startswith(("reported", "abandoned"))]
+        pairs = dict.fromkeys((int(word[1]), word[2]) for word in words)
+        told = "".join(f"<li>Claimed for trigger {trigger} with the lead {link(lead)}.</li>" for trigger, lead in pairs)
+        return {trigger for trigger, _ in pairs}, f"<ul>{told}</ul>"
+    nodes = {}
+    for node, group in followed.claims.get(report.trace, []):
+        nodes.setdefault(group.key, (group, []))[1].append(node)
+    told = ""
+    for group, where in nodes.values():
+        lateral = "" if group.lead == report.trace else f", as a lateral of {link(group.lead)}"
+        told += f"<li>Trigger {group.trigger}, admitted at node {group.node} ({step(group.line)}), claimed it at {'node' if len(where) == 1 else 'nodes'} {', '.join(map(str, where))}{lateral}.</li>"
+    crumbs = followed.crumbs.get(report.trace, {})
+    ways = ", ".join(f"{by} to {to}" + (f" ({count:,} times)" if count > 1 else "") for (by, to), count in sorted(crumbs.items()))
+    told += f"<li>{'Crumbs: ' + ways if ways else 'It left no crumb'}.</li>"
+    return {group.trigger for group, _ in nodes.values()}, f"<ul>{told}</ul>"
 
 
 def nodes(out, followed, workload):
     shown = [kind for kind in drawing.NAMES if followed or kind not in ("reported", "evicted", "abandoned")]
-    key = "".join(f'<li><svg width="12" height="16">{drawing.mark(kind, 1, 0, "", 0)}</svg> {drawing.NAMES[kind]}</li>'.replace(' data-line="0"', "") for kind in shown)
+    key = "".join(f"<li>{shape(f's-{kind}', f'm {kind}')} {drawing.NAMES[kind]}</li>" for kind in shown)
     parts = [f"<ul class='legend key'>{key}</ul>"]
     if not followed:
         parts.append("<p>With the workload beside it (<code>--workload</code>) the time lines also show what each turn reported, and which chunks went where.</p>")
     if workload:
         limits = ", ".join(f"{name} {workload.settings[name]}" for name in ("buffers", "size", "threshold", "traces", "pins", "stride"))
         parts.append(f"<p>Each node has {limits}.</p>")
-    for node in range(out.nodes):
-        line = drawing.Timeline(out, followed, node)
-        drawn, by = line.svg(), ""
-        if isinstance(drawn, tuple):
-            drawn, each = drawn
-            by = f" It has {len(line.events):,} draws and steps, so it is drawn in steps of {each} passes; a bar's height is the count beside the greatest of its lane."
-        parts.append(f"<h3>Node {node}</h3><p>{many(line.passes, 'pass', 'passes')}.{by}</p><div class='wide'>{drawn}</div>")
+    axis = Axis([Timeline(out, followed, node) for node in range(out.nodes)])
+    parts.append(f"<p>{many(len(axis.firsts) - 1, 'pass', 'passes')}, and {many(axis.events, 'draw and step', 'draws and steps')}. All nodes have one axis: a pass begins at the same place for each of them.</p>")
+    zoom = '<button type="button" name="nearer">nearer</button> <button type="button" name="farther">farther</button> <button type="button" name="whole">whole</button>'
+    parts.append(f'<form id="zoom" class="filters" hidden>{zoom} <span class="count"></span></form>{axis.html()}')
+    data = {**axis.data(), "effects": effects_of(followed) if followed else {}, "limits": workload.settings if workload else {}}
+    parts.append(f'<script type="application/json" id="times">{json.dumps(data, separators=(",", ":"))}</script>')
     return "".join(parts)
 
 
@@ -127,7 +244,7 @@ def coordinator(out, followed):
     said += "<p>Of each group the node that admitted it has a thick ring, and the nodes that were asked are filled; an ask has its number, beside the crumb that led there.</p>"
     drawn = "".join(group(each, out) for each in followed.groups[:GROUPS])
     rest = followed.groups[GROUPS:]
-    more = [(each.node, each.number, each.trigger, f"<code>{each.lead}</code>", " ".join(str(to) for to, by in each.asked if by is not None) or "nobody") for each in rest]
+    more = [(each.node, each.number, each.trigger, link(each.lead), " ".join(str(to) for to, by in each.asked if by is not None) or "nobody") for each in rest]
     if more:
         drawn += f"</div><details><summary>{len(rest):,} more groups, as a table</summary>{table(('node', 'number', 'trigger', 'lead', 'asked'), more)}</details><div>"
     return f"{said}<div class='row'>{drawn}</div>"
@@ -135,7 +252,7 @@ def coordinator(out, followed):
 
 def group(each, out):
     laterals = ", " + many(len(each.laterals), "lateral") if each.laterals else ""
-    caption = f"trigger {each.trigger}, lead <code>{each.lead}</code>{laterals}"
+    caption = f"trigger {each.trigger} ({step(each.line)}), lead {link(each.lead)}{laterals}"
     return f"<figure>{drawing.group(each, out)}<figcaption>{caption}</figcaption></figure>"
 
 
@@ -150,55 +267,54 @@ def place_of(entry, out, followed):
 
 
 def ledger(out, followed):
-    known = {}
-    places = []
+    known, places, moments = {}, [], moments_of(followed)
     for entry in out.ledger:
         key = entry.node, entry.client, entry.fate
         if followed or key not in known:
             known[key] = place_of(entry, out, followed)
         places.append(known[key])
-    rows = "".join(row(entry, place) for entry, place in zip(out.ledger[:ROWS], places))
+    told = {report.trace for report in out.reports}
+    first = {entry.trace: entry for entry in reversed(out.ledger[:ROWS]) if entry.trace not in told}  # where a trace without a report is shown
+    rows = "".join(row(entry, place, first.get(entry.trace) is entry) for entry, place in zip(out.ledger[:ROWS], places))
     heads = "".join(f'<th><button data-sort="{place}">{name}</button></th>' for place, name in enumerate(("node", "client", "number", "trace", "fate")))
     more = f" The first {ROWS} stand here; with the script, and in the text below, all." if len(out.ledger) > ROWS else ""
     how = "A click on a fate shows where in the journal it came about." if followed else "A click on a null fate shows its draw; with the workload beside it each fate leads to its step."
-    fates = "".join(f"<option>{fate}</option>" for fate in FATES)
-    filters = f"""<form class="filters" hidden><label>fate <select name="fate"><option value="">all</option>{fates}</select></label>
-<label>node <input name="node" size="3"></label> <label>trace <input name="trace" size="34"></label> <span class="count"></span> <button type="button" name="back">back</button> <button type="button" name="next">next</button></form>"""
+    filters = f'<form class="filters" hidden>{options("fate", "all", FATES)} {options("node", "all", range(out.nodes))} {pager()}</form>'
     data = f'<script type="text/plain" id="places">{" ".join(map(str, places))}</script>'
-    return f'<p>{how}{more}</p>{filters}<table id="entries"><thead><tr>{heads}</tr></thead><tbody>{rows}</tbody></table>{data}<div id="there"></div>'
+    data += f'<script type="text/plain" id="moments">{" ".join(str(moments.get(entry.key, "-")) for entry in out.ledger)}</script>'
+    return f'<p>{how}{more}</p>{filters}<table id="entries"><thead><tr>{heads}</tr></thead><tbody>{rows}</tbody></table>{data}'
 
 
-def row(entry, place):
-    fate = escape(entry.fate)
-    link = f'<a href="#j{place}" data-line="{place}">{fate}</a>' if place else fate
-    return f'<tr class="{entry.fate.split(" ")[0]}"><td>{entry.node}</td><td>{entry.client}</td><td>{entry.number}</td><td><code>{entry.trace}</code></td><td>{link}</td></tr>'
+def row(entry, place, first):
+    name = "-".join(map(str, entry.key))
+    number = f'<a href="#record-{name}">{entry.number}</a>'
+    trace = f' id="trace-{entry.trace}"' if first else ""
+    return f'<tr id="record-{name}" class="{entry.fate.split(" ")[0]}"><td>{entry.node}</td><td>{entry.client}</td><td>{number}</td><td{trace}>{link(entry.trace)}</td><td>{fate_of(entry, place)}</td></tr>'
 
 
 def text_of(out):
-    lines = out.text.split("\n")
-    journal = lines[: out.journal_end]
-    if len(journal) <= DRAWN:
-        inside = "\n".join(f'<span id="j{number}">{line}</span>' for number, line in enumerate(journal, 1))
-        rest = "\n".join(lines[out.journal_end :])
-        inside += "\n" + escape(rest)
-    else:
-        inside = escape(out.text)
-    return f'<details id="whole"><summary>{len(lines) - 1:,} lines</summary><pre id="output" data-journal="{out.journal_end}">{inside}</pre></details>'
+    """The whole text, in parts that a browser lays out one by one. Each line of a journal that is not long can be linked."""
+    lines = out.text.split("\n")[:-1]
+    linked = out.journal_end if out.journal_end <= DRAWN else 0
+    shown = [f'<span id="step-{number}">{line}</span>' if number <= linked else escape(line) for number, line in enumerate(lines, 1)]
+    parts = "".join("<span class='part'>" + "\n".join(shown[at : at + PART]) + "\n</span>" for at in range(0, len(shown), PART))
+    return f'<details id="whole"><summary>{len(lines):,} lines</summary><pre id="output" data-journal="{out.journal_end}">{parts}</pre></details>'
 
 
 def compared(found):
-    rows = [(name, *(f"{found.samplers[name][key]:,}" for key in ("records", "traces", "whole", "shipped"))) for name in SAMPLERS]
-    parts = [table(("sampler", "records kept", "traces", "whole traces", "bytes shipped"), rows)]
-    for key, what in (("records", "Records that each keeps"), ("whole", "Named traces that each keeps whole"), ("shipped", "Payload bytes that each ships")):
-        most = max(found.samplers[name][key] for name in SAMPLERS) or 1
-        bars = "".join(
-            drawing.words(4, 18 + 26 * place, name, _class="name")
-            + drawing.box(90, 4 + 26 * place, 640 * found.samplers[name][key] / most, 20, drawing.title(f"{name}: {found.samplers[name][key]:,}"), _class=f"fill s{place}")
-            + drawing.words(98 + 640 * found.samplers[name][key] / most, 19 + 26 * place, f"{found.samplers[name][key]:,}", _class="small")
-            for place, name in enumerate(SAMPLERS)
-        )
-        parts.append(f"<h3>{what}</h3>" + drawing.picture(820, 112, bars, what))
-    rest = found.samplers["tail"]["records"]
-    bar = drawing.bar([("reported", found.samplers["hindsight"]["records"], "kept"), ("evicted", found.gap, "in gaps"), ("abandoned", found.limited, "limited")], 820, "what tail keeps")
-    parts.append(f"<h3>Where the records of named traces went</h3><p>Of the {rest:,} records that tail sampling keeps, Hindsight keeps {found.samplers['hindsight']['records']:,}; {found.gap:,} stand as gaps in its reports, and {found.limited:,} are of traces whose triggers were limited.</p>{bar}")
+    """Of each sampler, first how many of the named traces it keeps whole."""
+    rows = [(name, *(f"{found.samplers[name][key]:,}" for key in ("whole", "traces", "records", "shipped"))) for name in SAMPLERS]
+    named = found.samplers["tail"]["whole"]  # tail keeps all that was named
+    behind = {
+        "whole": lambda size: f"{size:,} of {named:,}", "records": lambda size: f"{size:,}", "shipped": lambda size: f"{size:,}",
+    }  # fmt: skip
+    parts = [f"<p>The triggers named {many(named, 'trace')} that {'has' if named == 1 else 'have'} a record.</p>"]
+    for key, what in (("whole", "Named traces that each keeps whole"), ("records", "Records that each keeps"), ("shipped", "Payload bytes that each ships")):
+        sizes = {name: found.samplers[name][key] for name in SAMPLERS}
+        bars = drawing.bars([(name, size, "reported" if name == "hindsight" else "other", behind[key](size)) for name, size in sizes.items()], what)
+        parts.append(f"<h3>{what}</h3>{bars}")
+    parts.append(table(("sampler", "whole traces", "traces", "records kept", "bytes shipped"), rows))
+    rest, kept = found.samplers["tail"]["records"], found.samplers["hindsight"]["records"]
+    bar = drawing.bar([("reported", kept, "kept"), ("evicted", found.gap, "in gaps"), ("abandoned", found.limited, "limited")], "what tail keeps")
+    parts.append(f"<h3>Where the records of named traces went</h3><p>Of the {rest:,} records that tail sampling keeps, Hindsight keeps {kept:,}; {found.gap:,} stand as gaps in its reports, and {found.limited:,} are of traces whose triggers were limited.</p>{bar}")
     return section("Four samplers over one workload", "".join(parts), "compared") + f'<details><summary>As text</summary><pre id="output">{escape(found.text)}</pre></details>'

@@ -1,0 +1,94 @@
+// The reports and the ledger as lists that are sorted, filtered and shown in parts; and the search over both.
+const fewer = 50; // reports that are shown at once
+const search = named("search"), drawn = named("drawn"), table = named("entries");
+const reports = [...document.querySelectorAll("details.report")].map((element, at) => {
+  const { trigger, node, fate, records, gaps } = element.dataset;
+  return { element, trace: element.id.slice(6), trigger: trigger.split(" "), node: node.split(" "), fate: fate.split(" "), records: Number(records), gaps: Number(gaps), at };
+});
+const reportOf = (trace) => reports.find((it) => it.trace === trace)?.element;
+const wanted = () => search.elements.trace.value.trim().toLowerCase();
+const compared = (a, b) => (a < b ? -1 : a > b ? 1 : 0);
+
+// A list in parts: what of it is shown, and the form that leads through it.
+function listOf(form, found, show, most) {
+  const list = { from: 0 };
+  list.draw = () => {
+    const them = found(form.elements), last = Math.max(0, Math.floor((them.length - 1) / most) * most);
+    list.from = Math.max(0, Math.min(list.from, last));
+    show(them.slice(list.from, list.from + most));
+    form.querySelector(".count").textContent = them.length ? `${list.from + 1} to ${Math.min(list.from + most, them.length)} of ${them.length}` : "none";
+    form.elements.back.disabled = list.from === 0;
+    form.elements.next.disabled = list.from === last;
+    return them.length;
+  };
+  form.hidden = false;
+  form.addEventListener("submit", (event) => event.preventDefault());
+  form.addEventListener("input", () => ((list.from = 0), list.draw()));
+  form.elements.back.onclick = () => ((list.from -= most), list.draw());
+  form.elements.next.onclick = () => ((list.from += most), list.draw());
+  return list;
+}
+
+const orders = {
+  gaps: (a, b) => a.at - b.at, // as they stand
+  most: (a, b) => b.gaps - a.gaps || a.at - b.at,
+  trace: (a, b) => compared(a.trace, b.trace),
+  records: (a, b) => b.records - a.records || a.at - b.at,
+};
+function reportsFound({ order, trigger, node, fate }) {
+  const trace = wanted(), fits = (values, field) => !field.value || values.includes(field.value);
+  return reports.filter((it) => it.trace.includes(trace) && fits(it.trigger, trigger) && fits(it.node, node) && fits(it.fate, fate)).sort(orders[order.value]);
+}
+const reportList = drawn && listOf(drawn.previousElementSibling, reportsFound, (them) => drawn.replaceChildren(...them.map((it) => it.element)), fewer);
+const drawReports = () => reportList?.draw() ?? 0;
+
+// Brings a report into view: where it is not among those that are shown, all filters go.
+function openReport(element) {
+  if (!element.isConnected) {
+    drawn.previousElementSibling.reset();
+    search.reset();
+    reportList.from = Math.floor(reports.findIndex((it) => it.element === element) / fewer) * fewer;
+    searched();
+  }
+  element.open = true;
+  element.scrollIntoView({ block: "start" });
+}
+
+let order = null, falls = false;
+function entriesFound({ fate, node }) {
+  const trace = wanted();
+  const found = entries.filter((it) => (!fate.value || it.kind === fate.value) && (!node.value || it.cells[0] === Number(node.value)) && it.trace.includes(trace));
+  if (order !== null) found.sort((a, b) => compared(a.cells[order], b.cells[order]));
+  return falls ? found.reverse() : found;
+}
+function row(it) {
+  const [node, client, number] = it.cells, cells = [node, client, link("record", nameOf(it), number), traceOf(it.trace), it.cells[4]];
+  if (it.line) (cells[4] = fateOf(it)).dataset.line = it.line;
+  return make("tr", { class: it.kind }, ...cells.map((cell) => make("td", {}, cell)));
+}
+const ledgerList = listOf(table.previousElementSibling, entriesFound, (them) => table.tBodies[0].replaceChildren(...them.map(row)), most);
+const drawLedger = () => ledgerList.draw();
+table.tHead.addEventListener("click", (event) => {
+  const button = event.target.closest("button");
+  if (!button) return;
+  const place = Number(button.dataset.sort);
+  falls = order === place && !falls, order = place, ledgerList.from = 0;
+  table.tHead.querySelectorAll("th").forEach((head, at) => head.setAttribute("aria-sort", at !== place ? "none" : falls ? "descending" : "ascending"));
+  drawLedger();
+});
+
+// Both lists show the traces that have what is looked for; a line beside it says how many, and leads to the first of them.
+function searched() {
+  const trace = wanted(), counts = [drawReports(), drawLedger()], said = search.querySelector(".count");
+  const found = trace ? [...new Set(entries.filter((it) => it.trace.includes(trace)).map((it) => it.trace))] : [];
+  const shown = found.slice(0, 5).flatMap((it) => [" ", traceOf(it)]);
+  said.replaceChildren(...(trace ? [found.length ? `${found.length} ${found.length === 1 ? "trace" : "traces"}, ${counts[0]} reports, ${counts[1]} records:` : "no trace has this", ...shown, found.length > 5 ? " .." : ""] : []));
+  return found;
+}
+search.hidden = false;
+search.addEventListener("input", () => ((ledgerList.from = 0), reportList && (reportList.from = 0), searched()));
+search.addEventListener("submit", (event) => {
+  event.preventDefault();
+  const found = searched();
+  if (found.length) (opener = search.elements.trace), go(`#trace-${found.includes(wanted()) ? wanted() : found[0]}`);
+});
