@@ -1,9 +1,10 @@
 // The reports and the ledger as lists that are sorted, filtered and shown in parts; and the search over both.
 const fewer = 50; // reports that are shown at once
+const wordsOf = (text) => text.split(" ").filter((word) => word);
 const search = named("search"), drawn = named("drawn"), table = named("entries");
-const reports = [...document.querySelectorAll("details.report")].map((element, at) => {
+const reports = [...document.querySelectorAll("details.report")].map((element) => {
   const { trigger, node, fate, records, gaps } = element.dataset;
-  return { element, trace: element.id.slice(6), trigger: trigger.split(" "), node: node.split(" "), fate: fate.split(" "), records: Number(records), gaps: Number(gaps), at };
+  return { element, trace: element.id.slice(6), trigger: wordsOf(trigger), node: wordsOf(node), fate: wordsOf(fate), records: Number(records), gaps: Number(gaps) };
 });
 const reportOf = (trace) => reports.find((it) => it.trace === trace)?.element;
 const wanted = () => search.elements.trace.value.trim().toLowerCase();
@@ -29,11 +30,15 @@ function listOf(form, found, show, most) {
   return list;
 }
 
+// Where these leave two equal, the incomplete stays before the whole: so they stand in the page.
 const orders = {
-  gaps: (a, b) => a.at - b.at, // as they stand
-  most: (a, b) => b.gaps - a.gaps || a.at - b.at,
+  gaps: () => 0,
+  most: (a, b) => b.gaps - a.gaps,
+  records: (a, b) => b.records - a.records,
   trace: (a, b) => compared(a.trace, b.trace),
-  records: (a, b) => b.records - a.records || a.at - b.at,
+  trigger: (a, b) => Number(a.trigger[0] ?? 0) - Number(b.trigger[0] ?? 0),
+  node: (a, b) => Number(a.node[0]) - Number(b.node[0]),
+  fate: (a, b) => compared(a.fate.join(" "), b.fate.join(" ")),
 };
 function reportsFound({ order, trigger, node, fate }) {
   const trace = wanted(), fits = (values, field) => !field.value || values.includes(field.value);

@@ -142,7 +142,7 @@ def reports(out, followed):
         left -= count if count <= left else 0
         ids |= triggers
         drawn.append(report_of(report, triggers, inside, opened))
-    orders = '<label>order <select name="order"><option value="gaps">incomplete first</option><option value="most">most gaps first</option><option value="trace">trace</option><option value="records">most records first</option></select></label>'
+    orders = '<label>order <select name="order"><option value="gaps">incomplete first</option><option value="most">most gaps first</option><option value="records">most records first</option><option value="trace">by trace</option><option value="trigger">by trigger</option><option value="node">by node</option><option value="fate">by fate</option></select></label>'
     chosen = options("trigger", "any", sorted(ids)) + options("node", "any", range(out.nodes)) + options("fate", "any", FATES)
     parts.append(f'<form class="filters" hidden>{orders} {chosen} {pager()}</form><div id="drawn">{"".join(drawn)}</div>')
     return "".join(parts)
