@@ -83,9 +83,9 @@ function passes(x, width) {
   let last = -100;
   for (let at = Math.max(0, from - 1); at < times.firsts.length - 1 && x(times.firsts[at]) < width; at++) {
     const place = x(times.firsts[at]);
-    if (place < last + 44 && wide < near) continue;
-    found.push(shape("line", { class: "pass", x1: place, x2: place, y1: 0, y2: times.high }));
-    if (place < last + 44) continue;
+    const room = place > last + 12 + 6 * String(at).length;
+    if (room || wide >= near) found.push(shape("line", { class: "pass", x1: place, x2: place, y1: 0, y2: times.high }));
+    if (!room) continue;
     last = place;
     for (const node of nodes) found.push(shape("text", { class: "small", x: place + 2, y: node.top + 13 }, String(at + 1)));
   }

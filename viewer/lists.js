@@ -20,7 +20,6 @@ function listOf(form, found, show, most) {
     form.querySelector(".count").textContent = them.length ? `${list.from + 1} to ${Math.min(list.from + most, them.length)} of ${them.length}` : "none";
     form.elements.back.disabled = list.from === 0;
     form.elements.next.disabled = list.from === last;
-    return them.length;
   };
   form.hidden = false;
   form.addEventListener("submit", (event) => event.preventDefault());
@@ -45,7 +44,7 @@ function reportsFound({ order, trigger, node, fate }) {
   return reports.filter((it) => it.trace.includes(trace) && fits(it.trigger, trigger) && fits(it.node, node) && fits(it.fate, fate)).sort(orders[order.value]);
 }
 const reportList = drawn && listOf(drawn.previousElementSibling, reportsFound, (them) => drawn.replaceChildren(...them.map((it) => it.element)), fewer);
-const drawReports = () => reportList?.draw() ?? 0;
+const drawReports = () => reportList?.draw();
 
 // Brings a report into view: where it is not among those that are shown, all filters go.
 function openReport(element) {
@@ -60,10 +59,17 @@ function openReport(element) {
 }
 
 let order = null, falls = false;
+const ranks = [];
+// For each entry the rank of its cell among all that stand in this column: numbers are sorted faster than words.
+function ranksOf(place) {
+  if (ranks[place]) return ranks[place];
+  const cells = [...new Set(entries.map((it) => it.cells[place]))].sort(compared), rank = new Map(cells.map((cell, at) => [cell, at]));
+  return (ranks[place] = entries.map((it) => rank.get(it.cells[place])));
+}
 function entriesFound({ fate, node }) {
   const trace = wanted();
   const found = entries.filter((it) => (!fate.value || it.kind === fate.value) && (!node.value || it.cells[0] === Number(node.value)) && it.trace.includes(trace));
-  if (order !== null) found.sort((a, b) => compared(a.cells[order], b.cells[order]));
+  if (order !== null) found.sort((a, b) => ranksOf(order)[a.at] - ranksOf(order)[b.at]);
   return falls ? found.reverse() : found;
 }
 function row(it) {
@@ -82,12 +88,15 @@ table.tHead.addEventListener("click", (event) => {
   drawLedger();
 });
 
-// Both lists show the traces that have what is looked for; a line beside it says how many, and leads to the first of them.
+// Both lists show the traces that have what is looked for alone; beside it stands how many there are, with links to the first.
 function searched() {
-  const trace = wanted(), counts = [drawReports(), drawLedger()], said = search.querySelector(".count");
+  const trace = wanted(), said = search.querySelector(".count");
+  drawReports();
+  drawLedger();
   const found = trace ? [...new Set(entries.filter((it) => it.trace.includes(trace)).map((it) => it.trace))] : [];
   const shown = found.slice(0, 5).flatMap((it) => [" ", traceOf(it)]);
-  said.replaceChildren(...(trace ? [found.length ? `${found.length} ${found.length === 1 ? "trace" : "traces"}, ${counts[0]} reports, ${counts[1]} records:` : "no trace has this", ...shown, found.length > 5 ? " .." : ""] : []));
+  if (trace) said.replaceChildren(found.length ? `${found.length} found, and shown alone below:` : "no trace has this", ...shown, found.length > 5 ? " .." : "");
+  else said.replaceChildren();
   return found;
 }
 search.hidden = false;

@@ -27,14 +27,14 @@ const nameOf = (it) => it.cells.slice(0, 3).join("-");
 // The moment and the payload of each record of a report.
 function shippedOf() {
   const found = new Map(), first = lines.findIndex((line) => line.startsWith("reports ")) + 1;
-  const keep = ([node, client, number, moment, payload]) => found.set(`${node}-${client}-${number}`, { moment: String(moment), payload });
-  if (lines[first].startsWith("[")) JSON.parse(lines[first]).forEach((report) => report.records.forEach(keep));
+  const keep = ([node, client, number, moment, payload]) => found.set(`${node}-${client}-${number}`, { moment, payload });
+  for (const [, ...words] of lines[first].matchAll(/\[(\d+),(\d+),(\d+),(\d+),"([^"]*)"\]/g)) keep(words); // where reports are JSON
   for (let at = first; !lines[at].startsWith("ledger "); at++) if (/^\d/.test(lines[at])) keep(lines[at].split(" "));
   return found;
 }
 function momentOf(it) {
   const moment = shipped.get(nameOf(it))?.moment ?? it.moment;
-  return moment === "-" ? "not told" : Number(moment).toLocaleString("en");
+  return moment === "-" ? "not told" : BigInt(moment).toLocaleString("en");
 }
 // A payload as text where it can be printed, else its digits.
 function payloadOf(it) {
@@ -48,7 +48,7 @@ function payloadOf(it) {
   return make("code", {}, digits);
 }
 
-// Why a step of the journal did what it did, in sentences.
+// What a step of the journal did, and why, in sentences.
 function explained(line) {
   const { buffers, threshold, traces, pins } = times.limits;
   if (lines[line - 1].startsWith("empty ")) return [`The pool was empty${buffers ? `: all ${buffers} buffers were out` : ""}. What the client wrote there is lost.`];
@@ -60,6 +60,10 @@ function explained(line) {
     if (kind === "claimed") return `It claimed ${text}.`;
     return kind === "limited" ? `The attempt of ${text}: its bucket had no token.` : `And ${text} more.`;
   });
+}
+function whyOf(line, them) {
+  const live = them.some((it) => it.kind === "live") ? ["What is live stayed in the index to the end: nobody claimed its trace at this node."] : [];
+  return [...explained(line), ...live].join(" ");
 }
 // The line of the journal with those about it.
 function journalAbout(line) {
@@ -84,10 +88,7 @@ const recordOf = (it) => link("record", nameOf(it), it.cells.slice(0, 3).join(".
 function toldOfStep(name) {
   const line = Number(name), decided = entries.filter((it) => it.line === line);
   if (!(line >= 1 && line <= journalEnd)) return null;
-  const told = [make("h2", {}, `Line ${line} of the journal, under '${headOf(line)}'`)], why = explained(line);
-  if (decided.some((it) => it.kind === "live")) why.push("What is live stayed in the index to the end: nobody claimed its trace at this node.");
-  if (why.length) told.push(make("p", {}, why.join(" ")));
-  told.push(journalAbout(line));
+  const told = [make("h2", {}, `Line ${line} of the journal, under '${headOf(line)}'`), make("p", {}, whyOf(line, decided)), journalAbout(line)];
   if (decided.length) told.push(make("p", {}, "It decided these fates:"), rowsOf(decided, ["record", "trace", "fate"], (it) => [recordOf(it), traceOf(it.trace), it.cells[4]]));
   return { told, line };
 }
@@ -97,7 +98,7 @@ function toldOfRecord(name) {
   const [node, client, number] = it.cells;
   const about = make("p", {}, "Trace ", traceOf(it.trace), `, moment ${momentOf(it)}, payload: `, payloadOf(it), ". Its fate: ", make("b", {}, it.cells[4]), ".");
   const told = [make("h2", {}, `Record ${number} of client ${client}, node ${node}`), about];
-  if (it.line) told.push(make("p", {}, "That was decided at ", link("step", it.line, `line ${it.line} of the journal`), `, under '${headOf(it.line)}'. `, explained(it.line).join(" ")), journalAbout(it.line));
+  if (it.line) told.push(make("p", {}, "That was decided at ", link("step", it.line, `line ${it.line} of the journal`), `, under '${headOf(it.line)}'. `, whyOf(it.line, [it])), journalAbout(it.line));
   return { told, line: it.line };
 }
 function toldOfTrace(trace) {

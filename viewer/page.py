@@ -69,13 +69,14 @@ def outcome(out, followed, workload):
     without = f"Without its script the page draws at most {MARKS:,} marks of time lines and {DRAWN:,} of reports, has {ROWS} rows of the ledger, and leads to a line of the journal if that has at most {DRAWN:,}."
     search = f"<noscript><p>{without}</p></noscript>"
     search += '<form id="search" role="search" hidden><label>find a trace <input name="trace" autocomplete="off" spellcheck="false"></label> <span class="count"></span></form>'
+    places = places_of(out, followed)
     parts = [search, section("Totals", totals(out, followed), "totals")]
     if out.watchers:
         parts.append(section("What the watchers saw", watched(out), "watchers"))
-    parts.append(section("Reports", reports(out, followed), "reports"))
+    parts.append(section("Reports", reports(out, followed, places), "reports"))
     parts.append(section("Nodes", nodes(out, followed, workload), "nodes"))
     parts.append(section("Coordinator", coordinator(out, followed), "coordinator"))
-    parts.append(section("Ledger", ledger(out, followed), "ledger"))
+    parts.append(section("Ledger", ledger(out, followed, places), "ledger"))
     parts.append(section("All of it as text", text_of(out), "text"))
     parts.append('<aside id="there" hidden tabindex="-1" aria-live="polite" aria-label="what was chosen"></aside>')
     return "".join(parts)
@@ -127,7 +128,7 @@ def watched(out):
     return f"<p>Totals after whole rounds, as {len(out.watchers)} watchers saw them beside the run: {counts}.</p><div class='row'>{charts}</div>"
 
 
-def reports(out, followed):
+def reports(out, followed, places):
     if not out.reports:
         return "<p>No trace was claimed that has a record.</p>"
     moments = moments_of(followed)
@@ -138,7 +139,7 @@ def reports(out, followed):
     for report in sorted(out.reports, key=lambda report: not report.gaps):
         count = len(report.records) + len(report.gaps)
         triggers, told = claimed(report, followed)
-        inside = told + (report_drawn(report, moments, out, followed) if count <= left else report_counted(report))
+        inside = told + (report_drawn(report, moments, places) if count <= left else report_counted(report))
         left -= count if count <= left else 0
         ids |= triggers
         drawn.append(report_of(report, triggers, inside, opened))
@@ -169,9 +170,9 @@ def listed(one, values):
     return f"; {one}{'s' * (len(values) > 1)} {', '.join(map(str, values))}" if values else ""
 
 
-def report_drawn(report, moments, out, followed):
+def report_drawn(report, moments, places):
     """A report's records as marks and as rows."""
-    rows = [row_of_report(entry, moments, place_of(entry, out, followed)) for entry in report.records + report.gaps]
+    rows = [row_of_report(entry, moments, places[entry.key]) for entry in report.records + report.gaps]
     return drawing.waterfall(report, moments) + table(("record", "moment", "fate", "payload"), rows)
 
 
@@ -256,31 +257,23 @@ def group(each, out):
     return f"<figure>{drawing.group(each, out)}<figcaption>{caption}</figcaption></figure>"
 
 
-def place_of(entry, out, followed):
-    """The line of the journal where the entry's fate came about, or 0 where that is not known."""
+def places_of(out, followed):
+    """Of each record the line of the journal where its fate came about, or 0 where that is not known."""
     if followed:
-        return page_of_fate(followed.records[entry.node, entry.client][entry.number]).where
-    if entry.fate.startswith("null "):
-        stamp = int(entry.fate.split(" ")[1])
-        return next((draw.line for draw in out.draws[entry.node, entry.client] if draw.stamp == stamp), 0)
-    return 0
+        return {entry.key: page_of_fate(followed.records[entry.node, entry.client][entry.number]).where for entry in out.ledger}
+    empty = {(*key, f"null {draw.stamp}"): draw.line for key, draws in out.draws.items() for draw in draws if draw.buffer is None}
+    return {entry.key: empty.get((entry.node, entry.client, entry.fate), 0) for entry in out.ledger}
 
 
-def ledger(out, followed):
-    known, places, moments = {}, [], moments_of(followed)
-    for entry in out.ledger:
-        key = entry.node, entry.client, entry.fate
-        if followed or key not in known:
-            known[key] = place_of(entry, out, followed)
-        places.append(known[key])
-    told = {report.trace for report in out.reports}
+def ledger(out, followed, places):
+    moments, told = moments_of(followed), {report.trace for report in out.reports}
     first = {entry.trace: entry for entry in reversed(out.ledger[:ROWS]) if entry.trace not in told}  # where a trace without a report is shown
-    rows = "".join(row(entry, place, first.get(entry.trace) is entry) for entry, place in zip(out.ledger[:ROWS], places))
+    rows = "".join(row(entry, places[entry.key], first.get(entry.trace) is entry) for entry in out.ledger[:ROWS])
     heads = "".join(f'<th><button data-sort="{place}">{name}</button></th>' for place, name in enumerate(("node", "client", "number", "trace", "fate")))
     more = f" The first {ROWS} stand here; with the script, and in the text below, all." if len(out.ledger) > ROWS else ""
     how = "A click on a fate shows where in the journal it came about." if followed else "A click on a null fate shows its draw; with the workload beside it each fate leads to its step."
     filters = f'<form class="filters" hidden>{options("fate", "all", FATES)} {options("node", "all", range(out.nodes))} {pager()}</form>'
-    data = f'<script type="text/plain" id="places">{" ".join(map(str, places))}</script>'
+    data = f'<script type="text/plain" id="places">{" ".join(str(places[entry.key]) for entry in out.ledger)}</script>'
     data += f'<script type="text/plain" id="moments">{" ".join(str(moments.get(entry.key, "-")) for entry in out.ledger)}</script>'
     return f'<p>{how}{more}</p>{filters}<table id="entries"><thead><tr>{heads}</tr></thead><tbody>{rows}</tbody></table>{data}'
 

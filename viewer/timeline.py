@@ -133,10 +133,11 @@ class Axis:
     def marks(self):
         """All as marks; every pass begins at a line through all nodes."""
         width = 20 + COLUMN * self.firsts[-1]
-        inside = "".join(tag("line", x1=COLUMN * first, x2=COLUMN * first, y1=0, y2=self.tops[-1], _class="pass") for first in self.firsts[:-1])
+        inside = ""
         for line, top in zip(self.lines, self.tops):
-            inside += "".join(words(COLUMN * first + 2, top + 13, number, _class="small") for number, first in enumerate(self.firsts[:-1], 1))
             inside += "".join(box(0, top + HIGH * place, width, HIGH - 2, _class="lane") for place in range(1, 1 + len(line.lanes)))
+            inside += "".join(words(COLUMN * first + 2, top + 13, number, _class="small") for number, first in enumerate(self.firsts[:-1], 1))
+        inside += "".join(tag("line", x1=COLUMN * first, x2=COLUMN * first, y1=0, y2=self.tops[-1], _class="pass") for first in self.firsts[:-1])
         for line, top in zip(self.lines, self.tops):
             lanes, out, points = line.places(), 0, [(0, 0)]
             for column, (kind, client, number, at, what) in self.columns(line):
