@@ -133,8 +133,10 @@ def reports(out, followed, places):
         return "<p>No trace was claimed that has a record.</p>"
     moments = moments_of(followed)
     lacking = sum(bool(report.gaps) for report in out.reports)
-    said = f"{many(len(out.reports), 'report')}, of which {lacking:,} {'is' if lacking == 1 else 'are'} incomplete; these come first. In a report each mark is a record at its moment, in the lane of its node and client. A hollow mark is a gap: a record of the trace that was not shipped"
-    parts = [f"<p>{said}{'.' if followed else '; its moment, the crumbs, and all of the triggers are told where the workload stands beside (<code>--workload</code>).'}</p>"]
+    said = f"{many(len(out.reports), 'report')}, {f'{lacking:,} of them incomplete: these come first' if lacking else 'all of them whole'}."
+    said += " Each mark is a record at its moment, in the lane of its node and client. A full bar was shipped. Any other mark is a gap, a record of the trace that was not shipped, in the shape of its fate."
+    more = "" if followed else " The moments of gaps, the crumbs and all of the triggers are told where the workload stands beside (<code>--workload</code>)."
+    parts = [f"<p>{said}{more}</p>"]
     left, drawn, ids, opened = DRAWN, [], set(), len(out.reports) <= OPEN
     for report in sorted(out.reports, key=lambda report: not report.gaps):
         count = len(report.records) + len(report.gaps)
