@@ -78,6 +78,16 @@ fn looked(readers: &mut List<BoardReader>) -> u32 {
     }
 }
 
+/// Whether the last reader, none of whose looks was handed back, is handed back a look now, and still answers these rounds.
+fn is_over(readers: &mut List<BoardReader>, rounds: u32) -> bool {
+    match readers.as_mut_slice().last_mut() {
+        Some(reader) => {
+            !reader.has_missed() && reader.look().rounds == rounds && reader.has_missed()
+        }
+        None => false,
+    }
+}
+
 /// What is seen of a board with so many readers, of these rounds.
 fn watch<R: Wait>(
     rt: &R,
@@ -100,7 +110,7 @@ fn watch<R: Wait>(
     }
 }
 
-/// Makes a board, shows these rounds on it, and closes it; answers what was seen, and whether the close was Ok.
+/// Makes a board, shows these rounds on it, and closes it; answers what was seen, and whether the close was Ok and the board is over then.
 fn play<R: Wait>(rt: &R, alloc: Global, count: u32, rounds: u32) -> Result<(Seen, bool), Memory>
     requires many { (1 ≤ count) × (count ≤ MAX_READERS) }
     requires few { rounds ≤ MAX_OPERATIONS }
@@ -108,10 +118,10 @@ fn play<R: Wait>(rt: &R, alloc: Global, count: u32, rounds: u32) -> Result<(Seen
     let (mut writer, mut readers) = board(rt, alloc, count)?;
     let seen = watch(rt, &mut writer, &mut readers, rounds);
     let closed = writer.close(rt, readers.as_mut_slice()).is_ok();
-    Ok((seen, closed))
+    Ok((seen, closed && is_over(&mut readers, rounds)))
 }
 
-/// Whether all readers saw nothing before, all rounds behind the last publish, and the close was Ok.
+/// Whether all readers saw nothing before, all rounds behind the last publish, and the close was Ok and ended the board.
 fn all_seen<R: Wait>(rt: &R, alloc: Global, count: u32, rounds: u32) -> bool
     requires many { (1 ≤ count) × (count ≤ MAX_READERS) }
     requires few { rounds ≤ MAX_OPERATIONS }
