@@ -146,7 +146,7 @@ impl Watch {
         self.other.look();
     }
 
-    /// Ends the board, at `Memory` too. Answers what each watcher noted.
+    /// Ends the board, at `Memory` too. Answers what each watcher noted; `Memory` also if a look of either was handed back.
     pub fn close<R: Wait>(self, rt: &R, alloc: Global) -> Result<List<List<Progress>>, Memory>
         ensures count { IfOk result (λ seen. length seen.items ≡ 2) }
         ensures lists { IfOk result (λ seen. map (λ (list : Listing Totalled). list.items) seen.items ≡ self.one.seen ∷ self.other.seen ∷ []) }
