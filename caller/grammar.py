@@ -5,12 +5,12 @@ MOST_NUMBER = 2**64 - 1
 MOST_PAYLOAD = 65535
 MOST_OPERATIONS = 262144
 
-# What stands in one place of a line: its name, what kind it is of, and the range of a number that has one.
-Place = collections.namedtuple("Place", "name kind least most")
+# What stands in one place of a line: its name, what kind it is of, and the range of a number that has one, with what it counts.
+Place = collections.namedtuple("Place", "name kind least most unit", defaults=[None])
 
 
-def number(name, least=0, most=MOST_NUMBER):
-    return Place(name, "number", least, most)
+def number(name, least=0, most=MOST_NUMBER, unit=None):
+    return Place(name, "number", least, most, unit)
 
 
 def trace(name):
@@ -22,13 +22,13 @@ HEAD = {
     "nodes": [number("N", 1, 16)],
     "clients": [number("N", 1, 16)],
     "buffers": [number("N", 1, 1024)],
-    "size": [number("N", 64, 32768)],
+    "size": [number("N", 64, 32768, "bytes")],
     "threshold": [number("N", 0, 1024)],
     "traces": [number("N", 1, 65536)],
     "pins": [number("N", 0, 1024)],
     "stride": [number("N", 1, 64)],
 }
-TRIGGER_ID = [number("ID", 1, 64), number("WEIGHT", 1, 100), number("BURST", 1, 1000), number("RATE", 0, 1000000)]
+TRIGGER_ID = [number("ID", 1, 64), number("WEIGHT", 1, 100), number("BURST", 1, 1000), number("RATE", 0, 1000000, "tokens a second")]
 WINDOW, SHARE = number("WINDOW", 2, 1024), number("SHARE", 1, 9999)
 KINDS = {  # of an autotrigger, with what stands after the kind
     "exception": [number("ID")],
@@ -39,13 +39,14 @@ KINDS = {  # of an autotrigger, with what stands after the kind
 AUTO = [number("A", 0, 15), Place("KIND", "kind", None, None)]
 CLIENT = [number("NODE"), number("NUMBER")]
 MOST_LATERALS = 32
+MOMENT = number("MOMENT", unit="microseconds")
 OPERATIONS = {
     "begin": [trace("TRACE")],
-    "point": [number("MOMENT"), Place("PAYLOAD", "payload", None, None)],
+    "point": [MOMENT, Place("PAYLOAD", "payload", None, None)],
     "crumb": [number("NODE")],
     "end": [],
-    "trigger": [number("MOMENT"), number("ID"), trace("LEAD")],
-    "sample": [number("MOMENT"), number("A"), number("VALUE")],
+    "trigger": [MOMENT, number("ID"), trace("LEAD")],
+    "sample": [MOMENT, number("A"), number("VALUE")],
 }
 DRAWS = {"got": [number("BUFFER", 0, 1023), number("STAMP")], "empty": [number("STAMP")]}
 STEPS = ("chunk", "crumb", "trigger", "ask", "turn", "given", "missed", "unread")
@@ -61,6 +62,13 @@ def is_hex(word):
 
 def is_payload(word):
     return word == b"-" or (is_hex(word) and len(word) % 2 == 0)
+
+
+def fits(word, place, digits):
+    """Whether such a word may stand there, be it in its range or not; a trace has so many digits."""
+    if place.kind == "number":
+        return is_number(word)
+    return is_payload(word) if place.kind == "payload" else place.kind != "trace" or (is_hex(word) and len(word) == digits)
 
 
 class Workload:
@@ -164,6 +172,10 @@ class Journal:
         known["told"] = [number("NODE", 0, self.nodes - 1)]
         return known.get(first)
 
+    def digits(self):
+        """How many digits a trace has: no line of a journal names one."""
+        return None
+
     def next_draws(self):
         return divmod(self.draws, self.clients)
 
@@ -191,3 +203,17 @@ def form(word, places):
 def range_of(place):
     """The range of a number in words."""
     return f"{place.least:,} to {place.most:,}" if place.most < MOST_NUMBER else "0 to 2^64 - 1"
+
+
+def named(place):
+    """The name of what stands there, and what it counts."""
+    return f"{place.name}, in {place.unit}" if place.unit else place.name
+
+
+def wanted(place, digits):
+    """What may stand there, as a sentence; a trace has so many digits."""
+    if place.kind == "number":
+        return f"{named(place)}: a number from {range_of(place)}, in decimal digits alone, without a leading zero."
+    if place.kind == "trace":
+        return f"{place.name}: exactly {digits} lower-case hexadecimal digits."
+    return f"{place.name}: two lower-case hexadecimal digits for each byte, or `-` for no bytes."

@@ -67,6 +67,8 @@ BEGINNINGS = (  # how a text begins that is no workload, and what it is
     (b"journal ", "this is the output of a command, and no workload", f"`check` reads it, after its workload: {commands.call_of('check')}"),
 )
 
+AS_PAYLOAD = "Text becomes a payload by: printf 'TEXT' | xxd -p"
+
 
 def text_of(found, first, page):
     """A message: what is wrong, then where and what is due, then what to read."""
@@ -232,6 +234,11 @@ def count(state, line, words):
     else:
         form = grammar.form(first, places) if first != "trigger" else "trigger MOMENT ID LEAD LATERAL .., with up to 32 laterals"
     due = f"Due here: {form}"
+    for at, (given, it) in enumerate(zip(words[1:], places), 1):
+        if not grammar.fits(given, it, state.digits()):
+            hint = AS_PAYLOAD if it.kind == "payload" else grammar.wanted(it, state.digits())
+            what = f"{quoted(given)} is no {it.name}, and the line has too {'many' if len(words) - 1 > len(places) else 'few'} words"
+            return Found(what, line, start_of(words, at), len(given), hint=hint, due=due)
     if len(words) - 1 > len(places):
         at = len(places) + 1
         return Found(f"{quoted(words[at])} is one word too many", line, start_of(words, at), len(words[at]), due=due)
@@ -252,8 +259,8 @@ def places_in(state, words, kind):
 def number(state, line, words):
     for at, given, it in places_in(state, words, "number"):
         if not grammar.is_number(given):
-            due = f"{it.name}: a number from {grammar.range_of(it)}, in decimal digits alone, without a leading zero."
-            return Found(f"{quoted(given)} is no number{why_no_number(given)}", line, start_of(words, at), len(given), due=due)
+            what = f"{quoted(given)} is no number{why_no_number(given)}"
+            return Found(what, line, start_of(words, at), len(given), due=grammar.wanted(it, state.digits()))
     return None
 
 
@@ -264,14 +271,9 @@ def why_no_number(given):
 
 
 def hexadecimal(state, line, words):
-    for at, given, it in places_in(state, words, "trace"):
-        if not (grammar.is_hex(given) and len(given) == state.digits()):
-            due = f"{it.name}: exactly {state.digits()} lower-case hexadecimal digits."
-            return bad_hex(given, line, start_of(words, at), due, it, state)
-    for at, given, it in places_in(state, words, "payload"):
-        if not grammar.is_payload(given):
-            due = "PAYLOAD: two lower-case hexadecimal digits for each byte, or `-` for no bytes."
-            return bad_hex(given, line, start_of(words, at), due, it, state)
+    for at, given, it in places_in(state, words, "trace") + places_in(state, words, "payload"):
+        if not grammar.fits(given, it, state.digits()):
+            return bad_hex(given, line, start_of(words, at), grammar.wanted(it, state.digits()), it, state)
     return None
 
 
@@ -282,7 +284,7 @@ def bad_hex(given, line, start, due, it, state):
         return Found("`0x` stands before the digits", line, start, 2, due=due)
     strange = re.search(rb"[^0-9a-fA-F]", given)
     if strange:
-        hint = "Text becomes a payload by: printf TEXT | xxd -p" if it.kind == "payload" else None
+        hint = AS_PAYLOAD if it.kind == "payload" else None
         return Found(f"{quoted(strange[0])} is no hexadecimal digit", line, start + strange.start(), hint=hint, due=due)
     capital = re.search(rb"[A-F]+", given)
     if capital:
@@ -302,7 +304,7 @@ def in_range(state, line, words):
             side = "below" if int(given) < it.least else "above"
             bound = it.least if int(given) < it.least else it.most
             hint = "Nodes count from 0." if words[0] in (b"crumb", b"told") and it.name == "NODE" else None
-            due = f"{it.name}: {grammar.range_of(it)}." if it.least != it.most else f"{it.name}: {it.least}."
+            due = f"{grammar.named(it)}: {grammar.range_of(it)}." if it.least != it.most else f"{it.name}: {it.least}."
             return Found(f"{quoted(given)} is {side} {bound:,}", line, start_of(words, at), len(given), hint=hint, due=due)
     for at, given, it in places_in(state, words, "payload"):
         if len(given) // 2 > grammar.MOST_PAYLOAD:
