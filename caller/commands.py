@@ -36,6 +36,12 @@ def reads(words):
     return fault_of(words) is None and bool(COMMANDS[words[plain[0]]][2])
 
 
+def awaited(words):
+    """What is said where such a command would read what is typed."""
+    command = words[sorted_out(words)[0][0]]
+    return f"hindsight: {command} reads {COMMANDS[command][2]} from standard input: what is typed here, up to Ctrl-D, or {call_of(command)}"
+
+
 def fault_of(words):
     """What makes these words no command, or None."""
     plain, flags = sorted_out(words)

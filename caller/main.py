@@ -113,6 +113,8 @@ def main(is_folder, words):
         except OSError:
             return 5
         return 0
+    if os.isatty(0) and os.isatty(2) and commands.reads(words):
+        say(f"{commands.awaited(words)}\n")
     try:
         program, its_words = program_for(words)
     except KeyboardInterrupt:
