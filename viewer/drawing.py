@@ -115,12 +115,13 @@ def group(found, outcome):
     angles = {node: 2 * pi * node / outcome.nodes - pi / 2 for node in range(outcome.nodes)}
     places = {node: (middle + radius * cos(angle), middle + radius * sin(angle)) for node, angle in angles.items()}
     inside = ""
-    for order, (to, by) in enumerate(found.asked):
-        if by is not None:
+    for order, ask in enumerate(found.asked):
+        if ask.because is not None:
+            to, by = ask.node, ask.because.node
             (x1, y1), (x2, y2) = places[by], places[to]
             inside += tag("line", title(f"ask {order}: node {by} told of node {to}"), x1=f"{x1:.0f}", y1=f"{y1:.0f}", x2=f"{x2:.0f}", y2=f"{y2:.0f}", _class="ask")
             inside += words(x1 + (x2 - x1) * 0.62 + 3, y1 + (y2 - y1) * 0.62 - 3, order, _class="small")
-    asked = {to for to, _ in found.asked}
+    asked = {ask.node for ask in found.asked}
     for node, (x, y) in places.items():
         kind = "first" if node == found.node else "asked" if node in asked else "not"
         inside += tag("circle", title(f"node {node}"), cx=f"{x:.0f}", cy=f"{y:.0f}", r=10, _class=f"node {kind}") + words(x, y + 4, node, _class="small in", text_anchor="middle")

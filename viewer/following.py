@@ -43,6 +43,43 @@ class Record:
 
 
 @dataclass
+class Crumb:
+    """A crumb that a client left: where it was told, or how it was forgotten."""
+
+    trace: str
+    by: int
+    to: int
+    known: bool = False  # a crumb that the claimed trace had already changes nothing
+    forgotten: int = 0  # the line that evicted its trace
+    told: list = field(default_factory=list)  # the messages that named the node
+
+
+@dataclass
+class Ask:
+    """A node that was asked for a group, or the one that admitted it."""
+
+    node: int
+    because: object = None  # the message that led there
+    line: int = 0  # where the node took the ask
+
+
+@dataclass
+class Message:
+    """What an agent told of a group."""
+
+    node: int
+    group: object
+    crumbs: list
+    line: int  # of the agent's log
+    forgotten: list = field(default_factory=list)  # crumbs of the group's traces that were evicted here before
+    asked: list = field(default_factory=list)
+
+    @property
+    def nodes(self):
+        return sorted({crumb.to for crumb in self.crumbs})
+
+
+@dataclass
 class Group:
     node: int
     number: int
@@ -50,11 +87,15 @@ class Group:
     lead: str
     laterals: list
     line: int
-    asked: list = field(default_factory=list)  # (node, the node whose message led there)
+    asked: list = field(default_factory=list)
 
     @property
     def key(self):
         return self.node, self.number
+
+    @property
+    def traces(self):
+        return list(dict.fromkeys([self.lead, *self.laterals]))
 
     @property
     def rank(self):
@@ -76,7 +117,8 @@ class Followed:
     effects: dict  # by line of the journal
     groups: list
     claims: dict  # by trace, (node, group) for each node that claimed it
-    crumbs: dict  # by trace, how often each (node, node that it names) was left
+    crumbs: dict  # by trace, all that were left
+    messages: dict  # by line of the journal: that of the step that told it, and that where the coordinator heard it
     rounds: dict  # the round of each draw, by line
 
 
@@ -138,7 +180,7 @@ class Client:
     def __init__(self, workload, node, number, draws):
         self.workload, self.node, self.number, self.draws = workload, node, number, iter(draws)
         self.records, self.chunks, self.crumbs, self.triggers = [], deque(), deque(), deque()
-        self.left = []  # (trace, node) of each crumb
+        self.left = []  # all crumbs
         autos = [Autotrigger(*words) for words in workload.autos]
         trace, self.page = None, None
         for place, words in enumerate(workload.operations.get((node, number), [])):
@@ -148,8 +190,8 @@ class Client:
             elif kind == "point":
                 self.point(trace, int(words[1]), words[2], place // workload.stride)
             elif kind == "crumb":
-                self.crumbs.append((trace, int(words[1])))
-                self.left.append((trace, int(words[1])))
+                self.left.append(Crumb(trace, node, int(words[1])))
+                self.crumbs.append(self.left[-1])
             elif kind == "end":
                 trace, self.page = None, None
             elif kind == "trigger":
@@ -182,7 +224,7 @@ class Agent:
     def __init__(self, workload, node):
         self.workload, self.node = workload, node
         self.index, self.indexed = OrderedDict(), 0  # of each trace its pages and crumbs, touched longest ago first
-        self.claims, self.crumbs, self.groups, self.gone = {}, {}, {}, set()
+        self.claims, self.crumbs, self.groups, self.gone, self.forgotten = {}, {}, {}, set(), defaultdict(list)
         self.pinned = {id: OrderedDict() for id in workload.ids}
         self.buckets = {id: (burst * 10**6, 0) for id, (_, burst, _) in workload.ids.items()}
         self.deficit = dict.fromkeys(workload.ids, 0)
@@ -195,18 +237,23 @@ class Agent:
         self.effects.append(Effect(kind, text, count))
 
     def touch(self, trace):
-        self.index.setdefault(trace, ([], set()))
+        self.index.setdefault(trace, ([], []))
         self.index.move_to_end(trace)
         return self.index[trace]
 
     def evict(self):
         while self.indexed > self.workload.threshold or len(self.index) > self.workload.traces:
             chunks, traces = self.indexed, len(self.index)
-            trace, (pages, _) = self.index.popitem(last=False)
+            trace, (pages, crumbs) = self.index.popitem(last=False)
             for page in pages:
                 self.stand(page, f"evicted {chunks} {traces}")
+            for crumb in crumbs:
+                crumb.forgotten = self.line
+            self.forgotten[trace] += crumbs
             self.indexed -= len(pages)
             self.note("evicted", f"trace {trace}: evicted {chunks} {traces}", len(pages))
+            if crumbs:
+                self.note("forgotten", f"Its crumbs to {nodes_of(crumbs)} were forgotten with it.")
 
     def fate(self, word, group):
         rank = f" {rank_of(group.lead):016x}" if word == "abandoned" else ""
@@ -243,14 +290,23 @@ class Agent:
             self.pin(group, page)
             self.abandon()
 
-    def crumb(self, item):
-        trace, node = item
-        if trace not in self.claims:
-            self.touch(trace)[1].add(node)
+    def crumb(self, crumb):
+        if crumb.trace not in self.claims:
+            self.touch(crumb.trace)[1].append(crumb)
             self.evict()
-        elif node not in self.crumbs[trace]:
-            self.crumbs[trace].add(node)
-            self.told.append((self.claims[trace], {node}))
+            return
+        known = self.crumbs[crumb.trace]
+        crumb.known = crumb.to in {other.to for other in known}
+        if not crumb.known:
+            known.append(crumb)
+            self.tell(self.claims[crumb.trace], [crumb], late=True)
+
+    def tell(self, group, crumbs, late=False):
+        forgotten = [] if late else [crumb for trace in group.traces for crumb in self.forgotten[trace]]
+        message = Message(self.node, group, crumbs, self.line, forgotten)
+        for crumb in crumbs:
+            crumb.told.append(message)
+        self.told.append(message)
 
     def trigger(self, item):
         moment, id, lead, laterals = item
@@ -268,17 +324,17 @@ class Agent:
 
     def claim(self, group):
         self.groups[group.key] = group
-        for trace in [group.lead, *group.laterals]:
+        for trace in group.traces:
             if trace in self.claims:
                 continue
-            pages, crumbs = self.index.pop(trace, ([], set()))
+            pages, crumbs = self.index.pop(trace, ([], []))
             self.indexed -= len(pages)
-            self.claims[trace], self.crumbs[trace] = group, set(crumbs)
+            self.claims[trace], self.crumbs[trace] = group, crumbs
             self.note("claimed", f"trace {trace} for trigger {group.trigger}")
             for page in pages:
                 self.pin(group, page)
         self.abandon()
-        self.told.append((group, set().union(*(self.crumbs[trace] for trace in [group.lead, *group.laterals]))))
+        self.tell(group, [crumb for trace in group.traces for crumb in self.crumbs[trace]])
 
     def turn(self):
         for id, (weight, _, _) in sorted(self.workload.ids.items()):
@@ -306,7 +362,9 @@ class Agent:
         elif step.kind == "ask":
             if not self.asks:
                 return False
-            self.claim(self.asks.popleft())
+            group, ask = self.asks.popleft()
+            ask.line = self.line
+            self.claim(group)
         elif step.kind == "turn":
             self.turn()
         return True
@@ -318,7 +376,7 @@ def follow(workload, outcome):
         raise Fault(1, "the workload has other nodes or clients")
     clients = {key: Client(workload, *key, draws) for key, draws in outcome.draws.items()}
     agents = [Agent(workload, node) for node in range(outcome.nodes)]
-    effects, groups, heard, at = {}, OrderedDict(), 0, [0] * outcome.nodes
+    effects, groups, messages, heard, at = {}, OrderedDict(), {}, 0, [0] * outcome.nodes
     went = True
     while went:
         went = False
@@ -329,7 +387,10 @@ def follow(workload, outcome):
                     effects[agent.line] = agent.effects
                 at[node], went = at[node] + 1, True
         while heard < len(outcome.told) and agents[outcome.told[heard][0]].told:
-            hear(agents, groups, outcome.told[heard][0])
+            node, line = outcome.told[heard]
+            message = agents[node].told.popleft()
+            hear(agents, groups, message)
+            messages[message.line] = messages[line] = message
             heard, went = heard + 1, True
     for node, log in enumerate(outcome.logs):
         if at[node] < len(log):
@@ -337,7 +398,7 @@ def follow(workload, outcome):
     check_fates(clients, outcome)
     rounds = {page.draw.line: page.round for client in clients.values() for record in client.records for page in record.pages}
     records = {key: client.records for key, client in clients.items()}
-    return Followed(records, effects, list(groups.values()), claims_of(agents), crumbs_of(clients.values()), rounds)
+    return Followed(records, effects, list(groups.values()), claims_of(agents), crumbs_of(clients.values()), messages, rounds)
 
 
 def claims_of(agents):
@@ -349,23 +410,48 @@ def claims_of(agents):
 
 
 def crumbs_of(clients):
-    crumbs = defaultdict(Counter)
+    crumbs = defaultdict(list)
     for client in clients:
-        for trace, node in client.left:
-            crumbs[trace][client.node, node] += 1
+        for crumb in client.left:
+            crumbs[crumb.trace].append(crumb)
     return crumbs
 
 
-def hear(agents, groups, node):
-    group, crumbs = agents[node].told.popleft()
-    first = groups.setdefault(group.key, group)
-    asked = {first.node if not first.asked else first.asked[0][0], *(to for to, _ in first.asked)}
-    if not first.asked:
-        first.asked.append((node, None))
-        asked = {node}
-    for to in sorted(crumbs - asked):
-        first.asked.append((to, node))
-        agents[to].asks.append(first)
+def hear(agents, groups, message):
+    """The coordinator asks each node that was told and was not asked for the group before."""
+    group = groups.setdefault(message.group.key, message.group)
+    if not group.asked:
+        group.asked.append(Ask(message.node))
+    asked = {ask.node for ask in group.asked}
+    for node in message.nodes:
+        if node not in asked:
+            message.asked.append(Ask(node, message))
+            agents[node].asks.append((group, message.asked[-1]))
+    group.asked += message.asked
+
+
+def nodes_of(crumbs):
+    """The nodes that crumbs name: 'node 1', 'nodes 1, 2'."""
+    nodes = sorted({crumb.to for crumb in crumbs})
+    return f"node{'s' * (len(nodes) > 1)} {', '.join(map(str, nodes))}"
+
+
+def told_of(message):
+    """In sentences what a message told, what was forgotten before, and who was asked because of it; of a group's first message, all who were asked."""
+    group, lost = message.group, defaultdict(list)
+    first = group.line == message.line
+    told = f"At line {message.line} node {message.node} told of {nodes_of(message.crumbs) if message.crumbs else 'no node'}"
+    found = [f"{told} for the group of trigger {group.trigger} with the lead {group.lead}{'' if first else f', admitted at line {group.line}'}."]
+    for crumb in message.forgotten:
+        lost[crumb.trace, crumb.forgotten].append(crumb)
+    found += [f"Forgotten at line {line} with the evicted trace {trace}: its crumbs to {nodes_of(crumbs)}." for (trace, line), crumbs in list(lost.items())[:5]]
+    if first:
+        asks = [f"node {ask.node} (line {ask.line}), of which node {ask.because.node} told at line {ask.because.line}" for ask in group.asked[1:]]
+        found.append(f"Asked for this group: {'; '.join(asks) or 'no node'}.")
+    elif message.crumbs:
+        asks = [f"node {ask.node} (line {ask.line})" for ask in message.asked]
+        found.append(f"Asked because of that: {', '.join(asks) or 'no node, since each had been asked before or admitted the group'}.")
+    return " ".join(found)
 
 
 def page_of_fate(record):

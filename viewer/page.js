@@ -58,13 +58,12 @@ function explained(line) {
     if (kind === "abandoned") return `More than ${pins} chunks were pinned: of trigger ${words[1]} the group with the lead ${words[2]}, of the lowest priority, was abandoned.`;
     if (kind === "reported") return `It shipped a page of ${text.split(",")[0]}.`;
     if (kind === "claimed") return `It claimed ${text}.`;
+    if (kind === "told" || kind === "forgotten") return text; // sentences already
     return kind === "limited" ? `The attempt of ${text}: its bucket had no token.` : `And ${text} more.`;
   });
 }
-function whyOf(line, them) {
-  const live = them.some((it) => it.kind === "live") ? ["What is live stayed in the index to the end: nobody claimed its trace at this node."] : [];
-  return [...explained(line), ...live].join(" ");
-}
+// The same with a link to each line that it names.
+const whyOf = (line) => explained(line).join(" ").split(/(line \d+)/).map((part) => (/^line \d+$/.test(part) ? link("step", part.slice(5), part) : part));
 // The line of the journal with those about it.
 function journalAbout(line) {
   const pre = make("pre", {});
@@ -88,7 +87,7 @@ const recordOf = (it) => link("record", nameOf(it), it.cells.slice(0, 3).join(".
 function toldOfStep(name) {
   const line = Number(name), decided = entries.filter((it) => it.line === line);
   if (!(line >= 1 && line <= journalEnd)) return null;
-  const told = [make("h2", {}, `Line ${line} of the journal, under '${headOf(line)}'`), make("p", {}, whyOf(line, decided)), journalAbout(line)];
+  const told = [make("h2", {}, `Line ${line} of the journal, under '${headOf(line)}'`), make("p", {}, ...whyOf(line)), journalAbout(line)];
   if (decided.length) told.push(make("p", {}, "It decided these fates:"), rowsOf(decided, ["record", "trace", "fate"], (it) => [recordOf(it), traceOf(it.trace), it.cells[4]]));
   return { told, line };
 }
@@ -98,7 +97,7 @@ function toldOfRecord(name) {
   const [node, client, number] = it.cells;
   const about = make("p", {}, "Trace ", traceOf(it.trace), `, moment ${momentOf(it)}, payload: `, payloadOf(it), ". Its fate: ", make("b", {}, it.cells[4]), ".");
   const told = [make("h2", {}, `Record ${number} of client ${client}, node ${node}`), about];
-  if (it.line) told.push(make("p", {}, "That was decided at ", link("step", it.line, `line ${it.line} of the journal`), `, under '${headOf(it.line)}'. `, whyOf(it.line, [it])), journalAbout(it.line));
+  if (it.line) told.push(make("p", {}, "That was decided at ", link("step", it.line, `line ${it.line} of the journal`), `, under '${headOf(it.line)}'. `, ...whyOf(it.line)), journalAbout(it.line));
   return { told, line: it.line };
 }
 function toldOfTrace(trace) {

@@ -17,6 +17,7 @@ OPEN = 20  # reports; if there are more, all are closed
 SHORT = 64  # bytes of a payload in a row
 PART = 500  # lines of the text that a browser lays out at once
 GROUPS = 120
+WAYS = 5  # messages that told a crumb, and lines that forgot one
 MEANING = {
     "live": "in the index of its node at the end", "reported": "shipped", "null": "the pool was empty, its bytes are lost",
     "evicted": "gone before anybody asked", "abandoned": "claimed, and given up since too much was pinned",
@@ -212,10 +213,26 @@ def claimed(report, followed):
     for group, where in nodes.values():
         lateral = "" if group.lead == report.trace else f", as a lateral of {link(group.lead)}"
         told += f"<li>Trigger {group.trigger}, admitted at node {group.node} ({step(group.line)}), claimed it at {'node' if len(where) == 1 else 'nodes'} {', '.join(map(str, where))}{lateral}.</li>"
-    crumbs = followed.crumbs.get(report.trace, {})
-    ways = ", ".join(f"{by} to {to}" + (f" ({count:,} times)" if count > 1 else "") for (by, to), count in sorted(crumbs.items()))
-    told += f"<li>{'Crumbs: ' + ways if ways else 'It left no crumb'}.</li>"
+    crumbs = followed.crumbs.get(report.trace, [])
+    ways = ", ".join(f"{by} to {to} ({way})" for (by, to), way in ways_of(crumbs))
+    none = "" if any(crumb.told for crumb in crumbs) else "; told: none"
+    told += f"<li>{f'Crumbs: {ways}{none}' if ways else 'It left no crumb'}.</li>"
     return {group.trigger for group, _ in nodes.values()}, f"<ul>{told}</ul>"
+
+
+def ways_of(crumbs):
+    """What became of the crumbs from one node to another: for which groups they were told, and by which lines they were forgotten."""
+    for way in sorted({(crumb.by, crumb.to) for crumb in crumbs}):
+        mine = [crumb for crumb in crumbs if (crumb.by, crumb.to) == way]
+        found = [f"{len(mine):,} times"] * (len(mine) > 1)
+        messages = list({message.line: message for crumb in mine for message in crumb.told}.values())
+        for message in messages[:WAYS]:
+            found.append(f"told at {step(message.line)} for trigger {message.group.trigger}" + (f" of {step(message.group.line)}" if message.group.line != message.line else ""))
+        found += [f"and {len(messages) - WAYS:,} times more"] * (len(messages) > WAYS)
+        lines = sorted({crumb.forgotten for crumb in mine if crumb.forgotten})
+        found += [f"forgotten at {step(line)}" for line in lines[:WAYS]] + [f"and at {len(lines) - WAYS:,} more"] * (len(lines) > WAYS)
+        found += [f"not told: node {way[0]} did not claim the trace"] * any(not (crumb.told or crumb.forgotten or crumb.known) for crumb in mine)
+        yield way, ", ".join(found)
 
 
 def nodes(out, followed, workload):
@@ -247,7 +264,7 @@ def coordinator(out, followed):
     said += "<p>Of each group the node that admitted it has a thick ring, and the nodes that were asked are filled; an ask has its number, beside the crumb that led there.</p>"
     drawn = "".join(group(each, out) for each in followed.groups[:GROUPS])
     rest = followed.groups[GROUPS:]
-    more = [(each.node, each.number, each.trigger, link(each.lead), " ".join(str(to) for to, by in each.asked if by is not None) or "nobody") for each in rest]
+    more = [(each.node, each.number, each.trigger, link(each.lead), " ".join(str(ask.node) for ask in each.asked[1:]) or "nobody") for each in rest]
     if more:
         drawn += f"</div><details><summary>{len(rest):,} more groups, as a table</summary>{table(('node', 'number', 'trigger', 'lead', 'asked'), more)}</details><div>"
     return f"{said}<div class='row'>{drawn}</div>"

@@ -3,6 +3,7 @@ from collections import Counter
 from itertools import accumulate
 
 from viewer.drawing import NAMES, area, box, mark, picture, tag, words
+from viewer.following import told_of
 
 MARKS = 1500  # without the script more marks than this are told as counts
 COLUMN, HIGH, AREA = 12, 18, 66  # of a mark, of a lane, of the buffers below the lanes of a node
@@ -169,5 +170,8 @@ class Axis:
 
 
 def effects_of(followed):
-    """What each step brought about, by its line; of what is one of many the first twenty."""
-    return {line: [[effect.kind, effect.text] for effect in effects[:20]] + [["more", str(len(effects) - 20)]] * (len(effects) > 20) for line, effects in followed.effects.items()}
+    """What each step brought about, by its line, of what is one of many the first twenty; and what was told there."""
+    found = {line: [[effect.kind, effect.text] for effect in effects[:20]] + [["more", str(len(effects) - 20)]] * (len(effects) > 20) for line, effects in followed.effects.items()}
+    for line, message in followed.messages.items():
+        found.setdefault(line, []).append(["told", told_of(message)])
+    return found
