@@ -88,7 +88,9 @@ function toldOfStep(name) {
   const line = Number(name), decided = entries.filter((it) => it.line === line);
   if (!(line >= 1 && line <= journalEnd)) return null;
   const told = [make("h2", {}, `Line ${line} of the journal, under '${headOf(line)}'`), make("p", {}, ...whyOf(line)), journalAbout(line)];
-  if (decided.length) told.push(make("p", {}, "It decided these fates:"), rowsOf(decided, ["record", "trace", "fate"], (it) => [recordOf(it), traceOf(it.trace), it.cells[4]]));
+  const listed = (what, them) => them.length && told.push(make("p", {}, what), rowsOf(them, ["record", "trace", "fate"], (it) => [recordOf(it), traceOf(it.trace), it.cells[4]]));
+  listed("It decided these fates:", decided.filter((it) => it.kind !== "live"));
+  listed("The chunk that it took still stands in the index at the end, since nobody claimed its trace at this node. It has:", decided.filter((it) => it.kind === "live"));
   return { told, line };
 }
 function toldOfRecord(name) {
@@ -97,7 +99,9 @@ function toldOfRecord(name) {
   const [node, client, number] = it.cells;
   const about = make("p", {}, "Trace ", traceOf(it.trace), `, moment ${momentOf(it)}, payload: `, payloadOf(it), ". Its fate: ", make("b", {}, it.cells[4]), ".");
   const told = [make("h2", {}, `Record ${number} of client ${client}, node ${node}`), about];
-  if (it.line) told.push(make("p", {}, "That was decided at ", link("step", it.line, `line ${it.line} of the journal`), `, under '${headOf(it.line)}'. `, ...whyOf(it.line)), journalAbout(it.line));
+  const where = [link("step", it.line, `line ${it.line} of the journal`), `, under '${headOf(it.line)}'`];
+  if (it.line && it.kind === "live") told.push(make("p", {}, "Its chunk was taken at ", ...where, ", and still stands in the index at the end: nobody claimed its trace at this node."), journalAbout(it.line));
+  else if (it.line) told.push(make("p", {}, "That was decided at ", ...where, ". ", ...whyOf(it.line)), journalAbout(it.line));
   return { told, line: it.line };
 }
 function toldOfTrace(trace) {

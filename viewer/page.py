@@ -290,7 +290,7 @@ def ledger(out, followed, places):
     rows = "".join(row(entry, places[entry.key], first.get(entry.trace) is entry) for entry in out.ledger[:ROWS])
     heads = "".join(f'<th><button data-sort="{place}">{name}</button></th>' for place, name in enumerate(("node", "client", "number", "trace", "fate")))
     more = f" The first {ROWS} stand here; with the script, and in the text below, all." if len(out.ledger) > ROWS else ""
-    how = "A click on a fate shows where in the journal it came about." if followed else "A click on a null fate shows its draw; with the workload beside it each fate leads to its step."
+    how = "A click on a fate shows where in the journal it came about; of one that is live, where its chunk was taken." if followed else "A click on a null fate shows its draw; with the workload beside it each fate leads to its step."
     filters = f'<form class="filters" hidden>{options("fate", "all", FATES)} {options("node", "all", range(out.nodes))} {pager()}</form>'
     data = f'<script type="text/plain" id="places">{" ".join(str(places[entry.key]) for entry in out.ledger)}</script>'
     data += f'<script type="text/plain" id="moments">{" ".join(str(moments.get(entry.key, "-")) for entry in out.ledger)}</script>'
