@@ -121,6 +121,10 @@ class Lines:
 def read(text):
     """An Outcome, a Comparison or a Refusal. Raises Fault."""
     first = text.split("\n", 1)[0]
+    if not text:
+        raise Fault(1, "there is no input: what should have written it wrote nothing")
+    if first.startswith("hindsight "):
+        raise Fault(1, "this is a workload; the page is made of what the program writes: ./hindsight replay < WORKLOAD | ./show --workload WORKLOAD > page.html")
     if first.startswith("head "):
         return read_comparison(text)
     if re.match(r"(refused|unlawful|usage:) ", first):
