@@ -143,7 +143,7 @@ def waterfall(report, moments):
     below = 14 + 20 * len(lanes)
     below += 20 if beside else 0
     if known:
-        inside += words(0, below, f"{first:,}", _class="small") + words("100%", below, f"{last:,}", _class="small", text_anchor="end", dx=12)
+        inside += words(0, below, f"{first:,} µs", _class="small") + words("100%", below, f"{last:,} µs", _class="small", text_anchor="end", dx=12)
     return wide(below + 6, inside, f"trace {report.trace}", _class="fall")
 
 
@@ -154,7 +154,7 @@ def lane(place):
 def record(entry, moment, at, y):
     """The mark of a record, which leads to it."""
     kind = entry.fate.split(" ")[0]
-    when = "moment not told" if moment is None else f"moment {moment:,}"
+    when = "moment not told" if moment is None else f"moment {moment:,} µs"
     text = f"record {entry.number} of client {entry.client}, node {entry.node}, {when}: {entry.fate}"
     name = f"{entry.node}-{entry.client}-{entry.number}"
     inside = tag("use", title(text), href=f"#f-{kind}", _class=f"{'record' if kind == 'reported' else 'gap'} {kind}", x=f"{at:.3f}%", y=y, data_record=name)

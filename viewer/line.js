@@ -104,6 +104,7 @@ function drawLine() {
   drawing.setAttribute("width", width);
   drawing.setAttribute("class", wide < near ? "afar" : "");
   drawing.replaceChildren(...parts);
+  named("bars").hidden = wide >= near;
   const first = placeOf(times.firsts, from / wide + 1), last = placeOf(times.firsts, (from + width) / wide);
   zoom.querySelector(".count").textContent = `passes ${Math.max(1, first)} to ${Math.min(last, times.firsts.length - 1)} of ${times.firsts.length - 1}${wide < near ? "; a click on a bar goes nearer" : ""}`;
 }

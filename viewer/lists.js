@@ -79,6 +79,17 @@ function row(it) {
 }
 const ledgerList = listOf(table.previousElementSibling, entriesFound, (them) => table.tBodies[0].replaceChildren(...them.map(row)), most);
 const drawLedger = () => ledgerList.draw();
+// Brings a record into view, in the ledger where no link to it is in view: where it is not among those that are found, all filters go.
+function openRecord(it) {
+  const address = `#record-${nameOf(it)}`, links = () => [...document.querySelectorAll(`a[href='${address}']`)].filter((a) => !there.contains(a));
+  const inView = ({ width, top, bottom }) => width > 0 && top >= 0 && bottom <= innerHeight - there.offsetHeight;
+  if (links().some((a) => inView(a.getBoundingClientRect()))) return;
+  const form = table.previousElementSibling;
+  if (!entriesFound(form.elements).includes(it)) form.reset(), search.reset(), searched();
+  ledgerList.from = Math.floor(entriesFound(form.elements).indexOf(it) / most) * most;
+  drawLedger();
+  table.querySelector(`a[href='${address}']`).scrollIntoView({ block: "center" });
+}
 table.tHead.addEventListener("click", (event) => {
   const button = event.target.closest("button");
   if (!button) return;

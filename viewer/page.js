@@ -32,9 +32,9 @@ function shippedOf() {
   for (let at = first; !lines[at].startsWith("ledger "); at++) if (/^\d/.test(lines[at])) keep(lines[at].split(" "));
   return found;
 }
-function momentOf(it) {
+function momentOf(it, unit = "") {
   const moment = shipped.get(nameOf(it))?.moment ?? it.moment;
-  return moment === "-" ? "not told" : BigInt(moment).toLocaleString("en");
+  return moment === "-" ? "not told" : BigInt(moment).toLocaleString("en") + unit;
 }
 // A payload as text where it can be printed, else its digits.
 function payloadOf(it) {
@@ -97,12 +97,12 @@ function toldOfRecord(name) {
   const it = entries.find((entry) => nameOf(entry) === name);
   if (!it) return null;
   const [node, client, number] = it.cells;
-  const about = make("p", {}, "Trace ", traceOf(it.trace), `, moment ${momentOf(it)}, payload: `, payloadOf(it), ". Its fate: ", make("b", {}, it.cells[4]), ".");
+  const about = make("p", {}, "Trace ", traceOf(it.trace), `, moment ${momentOf(it, " µs")}, payload: `, payloadOf(it), ". Its fate: ", make("b", {}, it.cells[4]), ".");
   const told = [make("h2", {}, `Record ${number} of client ${client}, node ${node}`), about];
   const where = [link("step", it.line, `line ${it.line} of the journal`), `, under '${headOf(it.line)}'`];
   if (it.line && it.kind === "live") told.push(make("p", {}, "Its chunk was taken at ", ...where, ", and still stands in the index at the end: nobody claimed its trace at this node."), journalAbout(it.line));
   else if (it.line) told.push(make("p", {}, "That was decided at ", ...where, ". ", ...whyOf(it.line)), journalAbout(it.line));
-  return { told, line: it.line };
+  return { told, line: it.line, entry: it };
 }
 function toldOfTrace(trace) {
   const them = entries.filter((it) => it.trace === trace);
@@ -110,7 +110,7 @@ function toldOfTrace(trace) {
   const report = reportOf(trace), told = [make("h2", {}, `Trace ${trace}`), make("p", {}, report ? report.querySelector("summary").textContent.replace(trace, "Its report has").replace(",", "") + "." : "It has no report: no node claimed it.")];
   const about = report?.querySelector("ul");
   if (about) told.push(about.cloneNode(true));
-  told.push(rowsOf(them, ["record", "moment", "fate", "payload"], (it) => [recordOf(it), momentOf(it), fateOf(it), payloadOf(it)]));
+  told.push(rowsOf(them, ["record", "moment (µs)", "fate", "payload"], (it) => [recordOf(it), momentOf(it), fateOf(it), payloadOf(it)]));
   return { told, report };
 }
 
@@ -128,6 +128,7 @@ function tell() {
   const line = there.querySelector("mark");
   if (line) there.scrollTop = Math.max(0, line.offsetTop + line.offsetHeight - there.clientHeight + 8);
   nearTo(found?.line ?? 0, kind === "step");
+  if (found?.entry) openRecord(found.entry);
   if (found?.report) openReport(found.report);
 }
 function hide() {

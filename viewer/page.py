@@ -17,6 +17,9 @@ OPEN = 20  # reports; if there are more, all are closed
 SHORT = 64  # bytes of a payload in a row
 PART = 500  # lines of the text that a browser lays out at once
 GROUPS = 120
+BARS = {  # the kinds whose bars have a look of their own from afar
+    "null": "found the pool empty", "missed": "missed or unread", "evicted": "evicted", "abandoned": "abandoned", "reported": "reported", "": "any other",
+}  # fmt: skip
 WAYS = 5  # messages that told a crumb, and lines that forgot one
 MEANING = {
     "live": "in the index of its node at the end", "reported": "shipped", "null": "the pool was empty, its bytes are lost",
@@ -24,7 +27,7 @@ MEANING = {
 }  # fmt: skip
 
 
-def page(found, followed=None, workload=None):
+def page(found, followed=None, workload=None, name=None):
     script = ""
     if isinstance(found, Refusal):
         body = section("What was said", f"<p class='said'>{escape(found.line)}</p>")
@@ -33,10 +36,21 @@ def page(found, followed=None, workload=None):
     else:
         body = outcome(found, followed, workload)
         script = "".join((HERE / name).read_text() for name in ("page.js", "lists.js", "line.js"))
-    head = '<meta charset="utf-8"><meta name="viewport" content="width=device-width, initial-scale=1"><title>Hindsight</title>'
+    head = '<meta charset="utf-8"><meta name="viewport" content="width=device-width, initial-scale=1">'
+    heading = escape(heading_of(found) + (f" of {name}" if name else ""))
+    head += f"<title>{heading} - Hindsight</title>"
     style = (HERE / "page.css").read_text()
-    whole = f"<h1>Hindsight</h1>{drawing.sprite()}{body}" + (f'<script>"use strict";\n{{\n{script}}}\n</script>' if script else "")
+    whole = f"<h1>Hindsight: {heading}</h1>{drawing.sprite()}{body}" + (f'<script>"use strict";\n{{\n{script}}}\n</script>' if script else "")
     return f'<!DOCTYPE html>\n<html lang="en"><head>{head}<style>{style}</style></head><body>{whole}</body></html>\n'
+
+
+def heading_of(found):
+    """What the output is."""
+    if isinstance(found, Refusal):
+        return "refusal"
+    if isinstance(found, Comparison):
+        return "comparison of samplers"
+    return "outcome, with what watchers saw," if found.watchers else "outcome"
 
 
 def section(name, inside, id=None):
@@ -176,7 +190,7 @@ def listed(one, values):
 def report_drawn(report, moments, places):
     """A report's records as marks and as rows."""
     rows = [row_of_report(entry, moments, places[entry.key]) for entry in report.records + report.gaps]
-    return drawing.waterfall(report, moments) + table(("record", "moment", "fate", "payload"), rows)
+    return drawing.waterfall(report, moments) + table(("record", "moment (µs)", "fate", "payload"), rows)
 
 
 def row_of_report(entry, moments, place):
@@ -244,13 +258,20 @@ def nodes(out, followed, workload):
     if workload:
         limits = ", ".join(f"{name} {workload.settings[name]}" for name in ("buffers", "size", "threshold", "traces", "pins", "stride"))
         parts.append(f"<p>Each node has {limits}.</p>")
-    axis = Axis([Timeline(out, followed, node) for node in range(out.nodes)])
+    axis = Axis([Timeline(out, followed, node) for node in range(out.nodes)], workload and workload.buffers)
     parts.append(f"<p>{many(len(axis.firsts) - 1, 'pass', 'passes')}, and {many(axis.events, 'draw and step', 'draws and steps')}. All nodes have one axis: a pass begins at the same place for each of them.</p>")
+    bars = "".join(f"<li>{picture_of_bar(kind)} {what}</li>" for kind, what in BARS.items())
+    parts.append(f"<ul class='legend' id='bars' hidden><li>From afar a bar counts draws and steps of its lane, beside the most of the lane. It looks like the worst of them:</li>{bars}</ul>")
     zoom = '<button type="button" name="nearer">nearer</button> <button type="button" name="farther">farther</button> <button type="button" name="whole">whole</button>'
     parts.append(f'<form id="zoom" class="filters" hidden>{zoom} <span class="count"></span></form>{axis.html()}')
     data = {**axis.data(), "effects": effects_of(followed) if followed else {}, "limits": workload.settings if workload else {}}
     parts.append(f'<script type="application/json" id="times">{json.dumps(data, separators=(",", ":"))}</script>')
     return "".join(parts)
+
+
+def picture_of_bar(kind):
+    """How a bar of the time lines looks from afar."""
+    return drawing.picture(12, 16, drawing.box(1, 2, 10, 13, _class=f"fill {kind}"), kind or "any other", _class="afar")
 
 
 def coordinator(out, followed):
@@ -289,7 +310,7 @@ def ledger(out, followed, places):
     first = {entry.trace: entry for entry in reversed(out.ledger[:ROWS]) if entry.trace not in told}  # where a trace without a report is shown
     rows = "".join(row(entry, places[entry.key], first.get(entry.trace) is entry) for entry in out.ledger[:ROWS])
     heads = "".join(f'<th><button data-sort="{place}">{name}</button></th>' for place, name in enumerate(("node", "client", "number", "trace", "fate")))
-    more = f" The first {ROWS} stand here; with the script, and in the text below, all." if len(out.ledger) > ROWS else ""
+    more = f"<noscript> The first {ROWS} stand here; with the script, and in the text below, all.</noscript>" if len(out.ledger) > ROWS else ""
     how = "A click on a fate shows where in the journal it came about; of one that is live, where its chunk was taken." if followed else "A click on a null fate shows its draw; with the workload beside it each fate leads to its step."
     filters = f'<form class="filters" hidden>{options("fate", "all", FATES)} {options("node", "all", range(out.nodes))} {pager()}</form>'
     data = f'<script type="text/plain" id="places">{" ".join(str(places[entry.key]) for entry in out.ledger)}</script>'

@@ -97,8 +97,8 @@ class Timeline:
 class Axis:
     """The time lines of all nodes, one below the other. A pass is as wide as the node that has most to do in it needs."""
 
-    def __init__(self, lines):
-        self.lines = lines
+    def __init__(self, lines, buffers=None):
+        self.lines, self.of = lines, f" of {buffers}" if buffers else ""
         self.tops = [0, *accumulate(line.high for line in lines)]
         widths = Counter()
         for line in lines:
@@ -119,8 +119,8 @@ class Axis:
         for line, top in zip(self.lines, self.tops):
             inside += words(0, top + 14, f"node {line.node}", _class="head")
             inside += "".join(words(0, top + 14 + HIGH * place, name) for place, (name, *_) in enumerate(line.lanes, 1))
-            inside += words(0, top + line.high - 32, "buffers out,") + words(0, top + line.high - 18, f"at most {line.most_out()}")
-        return picture(84, self.tops[-1], inside, "the names of the lanes")
+            inside += words(0, top + line.high - 32, "buffers out,") + words(0, top + line.high - 18, f"most: {line.most_out()}{self.of}")
+        return picture(108 if self.of else 84, self.tops[-1], inside, "the names of the lanes")
 
     def columns(self, line):
         """Each event of a node with its column."""
