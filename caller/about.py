@@ -29,7 +29,7 @@ def said_by(*words):
 def version():
     """Of which commit the program is, with which kit, and whether it is proved."""
     commit = said_by("git", "log", "-1", "--format=%h of %cs") or "of an unknown commit"
-    changed = ", changed since" if said_by("git", "status", "--porcelain") else ""
+    changed = ", changed since" if said_by("git", "status", "--porcelain", "--untracked-files=no") else ""
     kit = said_by("rt", "version") or "no Rattle kit on the path"
     if sources.is_current(sources.built(), "hindsight"):
         proved = "proved: ./build made the program of these sources"
