@@ -5,6 +5,7 @@ use Rattle.std.specs.Int.{Width, w16, w32, w64, w128, byte_at, bytes_high_first,
 use Rattle.std.proofs.lemmas.Nat.{div-mul-add, pow-add}
 use Rattle.std.proofs.lemmas.List.{length-take-le, take-append-drop}
 use Rattle.std.proofs.Math.Nat.{mul-add-div_right, mul-add-mod_self_right, mod-eq_of_lt, one-le-pow, div-one, pow-suc}
+use Rattle.hs_words.specs.Pages.{counts_bytes}
 use Rattle.byteorder.specs.Endian.{big_from}
 use Rattle.byteorder.specs.Numbers.{big_from-cons, big_from-lt, big_number-reads_back}
 
@@ -109,3 +110,13 @@ number_front w k bytes field rest n back fits field_is rest_is long n_is =
 pub IsBytes-behind : (xs ys : List ℕ) → IsBytes (xs ++ ys) → IsBytes ys
 IsBytes-behind [] ys fits i = fits i
 IsBytes-behind (x ∷ xs) ys fits i = IsBytes-behind xs ys (IsBytes-rest x (xs ++ ys) fits) i
+
+-- two numbers of two bytes, written as one of four
+pub counts_as_one : (count used : ℕ) → count < 2 ^ 16 → used < 2 ^ 16 → to_be_bytes w32 (count * 65536 + used) ≡ counts_bytes count used
+unfolding counts_bytes
+counts_as_one count used few small =
+    let a : (count * 65536 + used) / 16777216 % 256 ≡ count / 256 % 256 = omega arith in
+    let b : (count * 65536 + used) / 65536 % 256 ≡ count % 256 = omega arith in
+    let d : (count * 65536 + used) / 256 % 256 ≡ used / 256 % 256 = omega arith in
+    let e : (count * 65536 + used) % 256 ≡ used % 256 = omega arith in
+    λ i. a i ∷ b i ∷ d i ∷ e i ∷ []

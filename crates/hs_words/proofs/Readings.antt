@@ -88,7 +88,7 @@ none_left n bytes zero_is = (none, λ is. ([], tt, sym zero_is, is))
     none (p ∷ ps, fits, many, spelled) = absurd (omega (arith, many, zero_is))
 
 -- as many pieces with the same bytes are the same
-pieces_same : (ps qs : List Piece) → AllByRecursion FitsPiece ps → AllByRecursion FitsPiece qs → length ps ≡ length qs → pieces_bytes ps ≡ pieces_bytes qs → ps ≡ qs
+pub pieces_same : (ps qs : List Piece) → AllByRecursion FitsPiece ps → AllByRecursion FitsPiece qs → length ps ≡ length qs → pieces_bytes ps ≡ pieces_bytes qs → ps ≡ qs
 pieces_same [] [] fits fits' many same = refl
 pieces_same [] (q ∷ qs) fits fits' many same = absurd (omega (arith, many))
 pieces_same (p ∷ ps) [] fits fits' many same = absurd (omega (arith, many))

@@ -1,5 +1,5 @@
 -- How a page lies in the memory of its chunk: from the front, whatever is left behind it of earlier pages. That memory
--- is the chunk's size and the part of a header that the size leaves out.
+-- is the chunk's size and the part of a header that the size leaves out. The memory of a clear chunk shows nothing.
 use Rattle.std.specs.Prelude.{◌≡◌, ℕ, zero, suc, ◌+◌, ◌-◌, ◌≤◌, List, [], ◌∷◌, length, take, drop, MatchOption}
 use Rattle.std.specs.Option.{option_map}
 use Rattle.std.specs.List.{AllByRecursion}
@@ -9,6 +9,7 @@ use Rattle.hs_words.specs.declared.layout.Front.{Front}
 use Rattle.hs_words.specs.declared.chunk.Chunk.TheInside.{Inside}
 use Rattle.hs_words.specs.Pages.{Piece, Sheet, FitsHeader, FitsPiece, used_by, page_bytes}
 use Rattle.hs_words.specs.Chunks.{Contents}
+use Rattle.hs_words.specs.Shown.{ShowsNothing}
 
 -- the pieces that so many records are, from the front
 unfoldable pub pieces_in : ℕ → List ℕ → List Piece
@@ -36,4 +37,4 @@ pub record Holds (bytes : List ℕ) (page : Front) : Type 0 where
 pub record IsChunk (a : Inside) : Type 0 where
   pub least : MIN_SIZE + UNCOUNTED_BYTES ≤ length a.bytes.items
   pub most : length a.bytes.items ≤ MAX_SIZE + UNCOUNTED_BYTES
-  pub page : MatchOption a.page (Unit {0}) (Holds a.bytes.items)
+  pub page : MatchOption a.page (ShowsNothing a.bytes.items) (Holds a.bytes.items)

@@ -3,6 +3,7 @@ pub mod Chunks
 pub mod ChunkLayout
 pub mod Buffers
 pub mod Reading
+pub mod Shown
 pub mod Pools
 pub mod PoolHistory
 pub mod PoolAnswers

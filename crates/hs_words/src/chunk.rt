@@ -1,10 +1,12 @@
 //! Chunks: the recycled buffers that pages are written into.
 
-ghost use Rattle.std.specs.Prelude.{◌≡◌, ◌+◌, ◌<◌, ◌≤◌, [], length, IfOk, IfSome, IsSome};
-ghost use Rattle.hs_words.specs.Pages.{IsPage, page_bytes};
-ghost use Rattle.hs_words.specs.Chunks.{clear_chunks, header_in, used_in, with_page, Adds};
+ghost use Rattle.std.specs.Prelude.{◌≡◌, ◌+◌, ◌-◌, ◌<◌, ◌≤◌, [], length, replicate, IfOk, IfSome, IsSome, Some, None};
+ghost use Rattle.std.specs.Option.{option_map};
+ghost use Rattle.hs_words.specs.Pages.{IsPage, page_bytes, with_piece};
+ghost use Rattle.hs_words.specs.Shown.{Shows};
+ghost use Rattle.hs_words.specs.Chunks.{clear_chunk, clear_chunks, header_in, used_in, with_page, Adds};
 
-use crate::layout::{Front, extend_page, start_page};
+use crate::layout::{Front, clear_counts, extend_page, start_page};
 use crate::page::Header;
 use hs_base::limits::{MAX_BUFFERS, MAX_SIZE, MIN_SIZE, PIECE_COST, UNCOUNTED_BYTES};
 use hs_base::{List, Memory};
@@ -81,16 +83,25 @@ impl Chunk {
         requires { IsSome self.old.page }
         ensures { Adds self.old (record { moment = moment; payload = payload.now }) result self.new }
     {
-        let Some(page) = self.page else {
-            unreachable!()
-        };
-        if self.bytes.len() - UNCOUNTED_BYTES - usize::from(page.used)
-            < PIECE_COST + payload.len()
-        {
+        let used = self.used() as usize;
+        if self.bytes.len() - UNCOUNTED_BYTES - used < PIECE_COST + payload.len() {
             return Added::NoRoom;
         }
-        self.page = Some(extend_page(&mut self.bytes, page, moment, payload));
+        self.write(moment, payload);
         Added::Added
+    }
+
+    /// Adds a piece at the end of the page, which has room for it. Takes no memory, and copies the payload once.
+    #[inline(always)]
+    pub fn write(&mut self, moment: u64, payload: &[u8])
+        requires page { IsSome self.old.page }
+        requires room { used_in self.old + (PIECE_COST + length payload.now) ≤ self.old.size }
+        ensures { self.new ≡ with_page self.old (option_map (λ sheet. with_piece sheet (record { moment = moment; payload = payload.now })) self.old.page) }
+    {
+        let Some(page) = &mut self.page else {
+            unreachable!()
+        };
+        extend_page(&mut self.bytes, page, moment, payload);
     }
 
     /// The page's bytes: its header and the pieces that were added. Where none was added these are the header
@@ -107,11 +118,33 @@ impl Chunk {
         &self.bytes[..usize::from(page.used) + UNCOUNTED_BYTES]
     }
 
-    /// Clears the chunk. Its number and its size stay.
+    /// All bytes of the chunk, as they lie in memory. They show its page, or nothing where it is clear.
+    pub fn memory(&self) -> &[u8]
+        ensures { Shows result.now self.now.page }
+    {
+        &self.bytes
+    }
+
+    /// Clears the chunk, so that its memory shows nothing. Its number and its size stay.
     pub fn clear(&mut self)
         ensures { self.new ≡ with_page self.old None }
     {
         self.page = None;
+        clear_counts(&mut self.bytes);
+    }
+}
+
+/// A clear chunk in memory that was just taken, all zeros.
+fn new_chunk(number: u32, bytes: Vec<u8>) -> Chunk
+    requires least { MIN_SIZE + UNCOUNTED_BYTES ≤ length bytes.items }
+    requires most { length bytes.items ≤ MAX_SIZE + UNCOUNTED_BYTES }
+    requires zeros { bytes.items ≡ replicate (length bytes.items) 0 }
+    ensures { result ≡ clear_chunk (length bytes.items - UNCOUNTED_BYTES) number }
+{
+    Chunk {
+        number,
+        page: None,
+        bytes,
     }
 }
 
@@ -132,11 +165,7 @@ impl Stock {
             let Ok(bytes) = vec![in alloc; 0; size as usize + UNCOUNTED_BYTES] else {
                 return Err(Memory);
             };
-            chunks.push(Chunk {
-                number,
-                page: None,
-                bytes,
-            });
+            chunks.push(new_chunk(number, bytes));
         }
         Ok(chunks)
     }

@@ -43,3 +43,20 @@ pub enum PageFault {
     #[error("out of memory")]
     Memory,
 }
+
+/// Why bytes show no page to a reader who goes by their counts.
+#[derive(Clone, Copy, Debug, PartialEq, Eq, Error)]
+pub enum PrefixFault {
+    /// They end within the header.
+    #[error("the bytes end within the header")]
+    Short,
+    /// No byte is used: nothing was written yet, or the page was given back.
+    #[error("no byte is used")]
+    Empty,
+    /// They do not begin with a page of as many used bytes and pieces as they say.
+    #[error("the counts and the pieces do not go together")]
+    Torn,
+    /// Nothing: they show a page, and there was no memory to hold it.
+    #[error("out of memory")]
+    Memory,
+}

@@ -45,7 +45,7 @@ fn split_u128(bytes: &[u8]) -> Option<(u128, &[u8])>
 }
 
 /// The front of a page and the bytes behind it, or `None` where there are fewer bytes than a header has.
-fn read_front(bytes: &[u8]) -> Option<(Front, &[u8])>
+pub(crate) fn read_front(bytes: &[u8]) -> Option<(Front, &[u8])>
     ensures some { IfSome result (λ x. bytes.now ≡ header_bytes x.0.header ++ counts_bytes x.0.count x.0.used ++ x.1.now) }
     ensures fits { IfSome result (λ x. FitsHeader x.0.header × (x.0.count < 2 ^ 16) × (x.0.used < 2 ^ 16)) }
     ensures none { IfNone result (length bytes.now < HEADER_BYTES) }
@@ -87,7 +87,7 @@ fn split_piece(bytes: &[u8]) -> Option<(u64, &[u8], &[u8])>
 }
 
 /// Whether the bytes are so many pieces and no more. Takes no memory, and does not look into the payloads.
-fn has_pieces(count: u16, bytes: &[u8]) -> bool
+pub(crate) fn has_pieces(count: u16, bytes: &[u8]) -> bool
     ensures { IsTrue result ↔ HasPieces count bytes.now }
 {
     let mut rest = bytes;
@@ -101,7 +101,7 @@ fn has_pieces(count: u16, bytes: &[u8]) -> bool
 }
 
 /// The so many pieces that the bytes are.
-fn read_pieces(alloc: Global, count: u16, bytes: &[u8]) -> Result<List<Point>, Memory>
+pub(crate) fn read_pieces(alloc: Global, count: u16, bytes: &[u8]) -> Result<List<Point>, Memory>
     requires { HasPieces count bytes.now }
     ensures { IfOk result (λ points. AllByRecursion FitsPiece (map piece_of points.items) × (length points.items ≡ count) × (bytes.now ≡ pieces_bytes (map piece_of points.items))) }
 {

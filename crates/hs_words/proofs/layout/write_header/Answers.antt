@@ -2,6 +2,7 @@ use Rattle.std.specs.Int.{w16, w32, w128, to_be_bytes}
 use Rattle.std.proofs.Common.{◌++◌, refl}
 use Rattle.hs_words.specs.Pages.{header_bytes}
 use Rattle.hs_words.proofs.Parts.{put_next}
+use Rattle.hs_words.proofs.Layouts.{still_nothing}
 use Rattle.hs_words.proofs.layout.write_header.Goals as goal
 
 pub returns-clause-bytes : goal.returns-clause-bytes
@@ -18,3 +19,6 @@ returns-clause-bytes c =
     let b = put_next (trace ++ node) number old _ c.write_u16-2.new.buf 18 2 refl a c.write_u16-2.ensures in
     let d = put_next (trace ++ node ++ number) page old _ c.write_u32.new.buf 20 4 refl b c.write_u32.ensures in
     put_next (trace ++ node ++ number ++ page) first old _ c.write_u32-2.new.buf 24 4 refl d c.write_u32-2.ensures
+
+pub returns-clause-shows : goal.returns-clause-shows
+returns-clause-shows c = still_nothing c.args.header c.args.buffer.now _ (returns-clause-bytes c) c.requires
