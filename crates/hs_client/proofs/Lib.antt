@@ -1,3 +1,4 @@
 pub mod Runs
 pub mod Book
 pub mod AllSteps
+pub mod Rooms

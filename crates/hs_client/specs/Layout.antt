@@ -5,7 +5,7 @@ use Rattle.std.specs.Option.{option_map}
 use Rattle.hs_journal.specs.declared.books.PageNote.{PageNote}
 use Rattle.hs_words.specs.declared.token.Held.{Held}
 use Rattle.hs_words.specs.Chunks.{Contents, used_in}
-use Rattle.hs_base.specs.declared.limits.TheConstants.{MIN_SIZE, MAX_SIZE}
+use Rattle.hs_base.specs.declared.limits.TheConstants.{MIN_SIZE, MAX_SIZE, HEADER_COST}
 use Rattle.hs_client.specs.declared.client.ClientCore.TheInside.{Inside}
 use Rattle.hs_client.specs.Core.{Core, Current, is_null}
 use Rattle.hs_words.specs.Buffers.{buffer_in}
@@ -46,6 +46,11 @@ abbrev pub count_in : Option PageNote → ℕ
 count_in None = 0
 count_in (Some note) = note.count
 
+-- how many bytes the current page may use, 0 where there is none; a page uses those of its header
+abbrev pub IsLimit : Option PageNote → ℕ → ℕ → ℕ → Type 0
+IsLimit None size used limit = limit ≡ 0
+IsLimit (Some note) size used limit = (limit ≡ size) × (HEADER_COST ≤ used)
+
 pub record IsCore {L : Type 0} {g : _} (a : Inside L g) : Type 0 where
   pub least : MIN_SIZE ≤ a.size
   pub most : a.size ≤ MAX_SIZE
@@ -55,6 +60,7 @@ pub record IsCore {L : Type 0} {g : _} (a : Inside L g) : Type 0 where
   pub pages : number_with a.page (length a.pages.items) ≤ length a.draws.items
   pub pieces : count_in a.page ≤ a.counted
   pub used : a.used ≤ a.size
+  pub limit : IsLimit a.page a.size a.used a.limit
   pub draw_room : a.calls ≤ a.draws.room
   pub page_room : a.calls ≤ a.pages.room
   pub nulls : a.nulls ≡ count_by is_null a.draws.items

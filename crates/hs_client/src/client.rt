@@ -24,6 +24,7 @@ pub struct ClientCore<L: Token> {
     trace: Option<TraceId>,
     record: u32,
     used: u32,
+    limit: u32,
     page: Option<PageNote>,
     held: Option<Held<L>>,
     draws: List<Draw>,
@@ -65,6 +66,7 @@ impl<L: Token> ClientCore<L> {
             trace: None,
             record: 0,
             used: 0,
+            limit: 0,
             page: None,
             held: None,
             draws: List::with_room(alloc, calls as usize)?,
@@ -114,13 +116,17 @@ impl<L: Token> ClientCore<L> {
         Pointed::Written
     }
 
-    /// Whether a page is open that has room for a piece with so many bytes, which fit a page.
+    /// Whether a page is open that has room for a piece with so many bytes. It is one comparison, since the limit is 0 where
+    /// no page is open.
     pub fn has_room(&self, len: usize) -> bool
-        requires narrow { FRAME_COST + len ≤ self.now.size }
+        requires { len < 2 ^ 63 }
         ensures room { result ≡ true → Fits self.now len }
         ensures none { result ≡ false → NeedsPage self.now len }
+        ensures open { result ≡ true → IsSome self.now.trace }
+        ensures narrow { result ≡ true → FRAME_COST + len ≤ self.now.size }
+        ensures most { result ≡ true → len ≤ MAX_SIZE }
     {
-        self.page.is_some() && self.used as usize + (PIECE_COST + len) <= self.size as usize
+        self.used as usize + PIECE_COST + len <= self.limit as usize
     }
 
     /// Records a piece on the page that is open, which has room for it: the last of its record unless `more` is true.
@@ -128,16 +134,17 @@ impl<L: Token> ClientCore<L> {
         requires { May self.old (Wrote moment payload.now more) }
         ensures { self.new ≡ after_step self.old (Wrote moment payload.now more) }
     {
-        if let Some(held) = &mut self.held {
-            held.chunk.add(moment, payload);
-        }
-        if let Some(page) = &mut self.page {
-            page.count += 1;
-        }
+        let Some(page) = &mut self.page else {
+            unreachable!()
+        };
+        page.count += 1;
         self.used += (PIECE_COST + payload.len()) as u32;
         self.counted += 1;
         if !more {
             self.record += 1;
+        }
+        if let Some(held) = &mut self.held {
+            held.chunk.write(moment, payload);
         }
     }
 
@@ -183,6 +190,7 @@ impl<L: Token> ClientCore<L> {
             count: 1,
         });
         self.used = (FRAME_COST + payload.len()) as u32;
+        self.limit = self.size;
         self.counted += 1;
         if !more {
             self.record += 1;
@@ -194,10 +202,12 @@ impl<L: Token> ClientCore<L> {
         ensures handed { buffer_in result ≡ handed self.old }
         ensures after { self.new ≡ closed self.old }
     {
-        if let Some(page) = self.page {
-            self.pages.push(page);
-        }
+        let Some(page) = self.page else {
+            return None;
+        };
+        self.pages.push(page);
         self.page = None;
+        self.limit = 0;
         self.held.take()
     }
 
