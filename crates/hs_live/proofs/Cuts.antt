@@ -190,3 +190,10 @@ cut_all are limit moment payload rest old now new is limit_is short recorded =
           ap (map (piece_of old.core.number moment)) whole ∙ ap (λ number. piece_of number moment rest ∷ []) (sym is.number) in
           recorded.written made pieces later all (subst (λ these. IsWriting made (these ++ pieces) later all now) cut from);
     }
+
+-- a payload that is recorded as one piece
+pub cut_once : AreCut → (moment : ℕ) (payload : List ℕ) (old new : Writing) → IsSound old → length payload ≤ piece_limit old.core.size → IsRecorded moment payload (old.core.number + 1) old new → IsCut moment payload old new
+cut_once are moment payload old new sound short recorded =
+    let nothing : IsCutTo moment payload payload old old =
+    record { sound = sound; trace = refl; number = refl; used = 0; spends = spends_none old; counted = omega arith; written = λ made pieces later all h. h } in
+    cut_all are (piece_limit old.core.size) moment payload payload old old new nothing refl short recorded

@@ -1,10 +1,12 @@
 //! The client.
 
-ghost use Rattle.std.specs.Prelude.{◌≡◌, ◌+◌, ◌<◌, ◌≤◌, [], ◌∷◌, length, map, count_by, IsNone};
+ghost use Rattle.std.specs.Prelude.{◌≡◌, ◌+◌, ◌<◌, ◌≤◌, ◌^◌, true, false, [], ◌∷◌, length, map, count_by, IsSome, IsNone};
 ghost use Rattle.hs_auto.specs.Watching.{Watch};
 ghost use Rattle.hs_records.specs.Plain.{Begin, Point, Crumb as LeaveCrumb, End, Fire, Sample};
 ghost use Rattle.hs_records.specs.Records.{piece_count};
-ghost use Rattle.hs_client.specs.Core.{is_null};
+ghost use Rattle.hs_client.specs.Core.{is_null, Fits, Wrote};
+ghost use Rattle.hs_client.specs.Calls.{May};
+ghost use Rattle.hs_base.specs.declared.limits.TheConstants.{FRAME_COST};
 ghost use Rattle.hs_link.specs.Contents.{sent};
 ghost use Rattle.hs_live.specs.declared.called.Called.TheVariants.{Done};
 ghost use Rattle.hs_live.specs.Keys.{IsTriggerOf};
@@ -83,6 +85,53 @@ impl Client {
 
     /// Records a payload at a moment, in microseconds.
     pub fn point(&mut self, moment: u64, payload: &[u8]) -> Called
+        requires left { self.old.core.counted + piece_count self.old.core.size (length payload.now) ≤ self.old.core.calls }
+        requires draws { piece_count self.old.core.size (length payload.now) ≤ self.old.drawer.left }
+        requires room { length (sent self.old.chunks) + piece_count self.old.core.size (length payload.now) ≤ self.old.chunks.room }
+        ensures answer { PointsBy self.old.core (length payload.now) result }
+        ensures does { Does (Point moment payload.now) result self.old self.new }
+        ensures trace { self.new.core.trace ≡ self.old.core.trace }
+        ensures spends { Spends (counts (piece_count self.old.core.size (length payload.now)) result) (writing_of self.old) (writing_of self.new) }
+        ensures only { WritesOnly self.old self.new }
+    {
+        if self.has_room(payload.len()) {
+            self.point_here(moment, payload)
+        } else {
+            self.point_apart(moment, payload)
+        }
+    }
+
+    /// Whether a page is open that has room for a payload with so many bytes.
+    fn has_room(&self, len: usize) -> bool
+        requires { len < 2 ^ 63 }
+        ensures room { result ≡ true → Fits self.now.core len }
+        ensures open { result ≡ true → IsSome self.now.core.trace }
+        ensures narrow { result ≡ true → FRAME_COST + len ≤ self.now.core.size }
+        ensures most { result ≡ true → len ≤ MAX_PAYLOAD }
+    {
+        self.writer.core.has_room(len)
+    }
+
+    /// Records a payload that the open page has room for.
+    fn point_here(&mut self, moment: u64, payload: &[u8]) -> Called
+        requires may { May self.old.core (Wrote moment payload.now false) }
+        requires most { length payload.now ≤ MAX_PAYLOAD }
+        ensures answer { PointsBy self.old.core (length payload.now) result }
+        ensures does { Does (Point moment payload.now) result self.old self.new }
+        ensures trace { self.new.core.trace ≡ self.old.core.trace }
+        ensures spends { Spends (counts (piece_count self.old.core.size (length payload.now)) result) (writing_of self.old) (writing_of self.new) }
+        ensures only { WritesOnly self.old self.new }
+    {
+        one_operation_more();
+        self.writer.point_here(moment, payload);
+        Called::Done
+    }
+
+    /// Records a payload that the open page has no room for, or answers why none is recorded. It stands apart, since most
+    /// payloads fit the open page.
+    #[cold]
+    #[inline(never)]
+    fn point_apart(&mut self, moment: u64, payload: &[u8]) -> Called
         requires left { self.old.core.counted + piece_count self.old.core.size (length payload.now) ≤ self.old.core.calls }
         requires draws { piece_count self.old.core.size (length payload.now) ≤ self.old.drawer.left }
         requires room { length (sent self.old.chunks) + piece_count self.old.core.size (length payload.now) ≤ self.old.chunks.room }

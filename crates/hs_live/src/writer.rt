@@ -1,11 +1,12 @@
 //! The part of a client that writes pages.
 
-ghost use Rattle.std.specs.Prelude.{◌≡◌, ◌+◌, ◌<◌, ◌≤◌, [], ◌∷◌, ◌++◌, length, Some, None, IsSome, MatchOption};
+ghost use Rattle.std.specs.Prelude.{◌≡◌, ◌+◌, ◌<◌, ◌≤◌, [], ◌∷◌, ◌++◌, length, false, Some, None, IsSome, MatchOption};
 ghost use Rattle.std.specs.Option.{option_to_list};
 ghost use Rattle.hs_base.specs.declared.limits.TheConstants.{FRAME_COST, MIN_SIZE};
 ghost use Rattle.hs_records.specs.Records.{piece_count, record_pieces};
 ghost use Rattle.hs_words.specs.Buffers.{buffer_in};
-ghost use Rattle.hs_client.specs.Core.{number_after, NeedsPage};
+ghost use Rattle.hs_client.specs.Core.{number_after, NeedsPage, Wrote};
+ghost use Rattle.hs_client.specs.Calls.{May};
 ghost use Rattle.hs_link.specs.Contents.{sent};
 ghost use Rattle.hs_live.specs.declared.called.Called.TheVariants.{Done};
 ghost use Rattle.hs_live.specs.Keys.{IsChunkOf};
@@ -59,6 +60,36 @@ impl Writer {
             Begun::Spent => Called::Spent,
             Begun::AlreadyOpen => Called::AlreadyOpen,
         }
+    }
+
+    /// Records a payload that the open page has room for, as one piece.
+    pub(crate) fn point_here(&mut self, moment: u64, payload: &[u8])
+        requires sound { IsSoundIn self.old }
+        requires may { May self.old.core (Wrote moment payload.now false) }
+        ensures sound { IsSoundIn self.new }
+        ensures trace { self.new.core.trace ≡ self.old.core.trace }
+        ensures number { self.new.core.number ≡ self.old.core.number + 1 }
+        ensures page { IsSome self.new.core.current }
+        ensures spends { Spends (piece_count self.old.core.size (length payload.now)) (writing_in self.old) (writing_in self.new) }
+        ensures written { WritesPieces (record_pieces self.old.core.size self.old.core.number moment payload.now) (writing_in self.old) (writing_in self.new) }
+    {
+        payloads_are_cut_from_the_front();
+        pieces_are_counted();
+        self.put(moment, payload);
+    }
+
+    /// Records a piece on the open page, which has room for it: the last of its record.
+    fn put(&mut self, moment: u64, payload: &[u8])
+        requires sound { IsSoundIn self.old }
+        requires may { May self.old.core (Wrote moment payload.now false) }
+        ensures sound { IsSoundIn self.new }
+        ensures trace { self.new.core.trace ≡ self.old.core.trace }
+        ensures number { self.new.core.number ≡ self.old.core.number + 1 }
+        ensures page { IsSome self.new.core.current }
+        ensures spends { Spends 1 (writing_in self.old) (writing_in self.new) }
+        ensures written { WritesPieces (record { number = self.old.core.number; moment = moment; payload = payload.now } ∷ []) (writing_in self.old) (writing_in self.new) }
+    {
+        self.core.write(moment, payload, false);
     }
 
     /// Records a payload, in as few pieces as fit pages.

@@ -1,7 +1,7 @@
 use Rattle.std.proofs.Common.{IsSome, refl, subst, rules}
 use Rattle.hs_live.proofs.Prelude.{Point, Done, Writer, PlainClient, Does, live_of}
 use Rattle.hs_live.proofs.Doing.{point_done}
-use Rattle.hs_live.proofs.client.Client.point.Goals as goal
+use Rattle.hs_live.proofs.client.Client.point_apart.Goals as goal
 
 pub returns-clause-does : goal.returns-clause-does
 returns-clause-does c =
