@@ -2,7 +2,7 @@
 use Rattle.std.proofs.Common.{◌≡◌, ◌<◌, ◌≤◌, append-nil, ℕ, List, [], ◌∷◌, ◌++◌, length, slice_set, Some, None, IsSome, refl, sym, ap, subst, ◌∙◌}
 use Rattle.hs_agent.proofs.Prelude.{IfOk, IfSome, option_map_or, Step, PlainSettings, Schedule, IsSchedule, Buffer, buffer_of, IsInOnePlace, EventsGoOn, AgentState, Answered, Given, Missed, Unread, Took, Gave, note, step_of, take_input, step_of_answer, give_back, take_answer, after_gave, Kept, PlainAgent, Holds, Point, answered, Run, input_of, taken_in, Follows, StandsAt, point_of, state_of, after_offer, Input}
 use Rattle.hs_lists.proofs.Options.{some_item}
-use Rattle.hs_base.specs.declared.limits.TheConstants.{MAX_NODES}
+use Rattle.hs_base.specs.declared.limits.TheConstants.{MOST_NODES}
 use Rattle.hs_words.specs.declared.token.Given.{Given as Answer}
 use Rattle.hs_words.specs.declared.token.Given.TheVariants as given
 use Rattle.hs_law_agent.proofs.Bearing.{answer_shares}
@@ -113,7 +113,7 @@ stands-then old new schedule point next stands settings shares holds = record {
   chunks = holds;
   shares = stands.shares ∙ (λ i. record { shares = sym shares i; size = (sym settings i).size });
   is_schedule = stands.is_schedule;
-  nodes = subst (λ (s : PlainSettings). s.nodes ≤ MAX_NODES) (sym settings) stands.nodes;
+  nodes = subst (λ (s : PlainSettings). s.nodes ≤ MOST_NODES) (sym settings) stands.nodes;
 }
 
 -- no chunk came

@@ -3,7 +3,7 @@
 use Rattle.std.specs.Prelude.{◌≡◌, ℕ, ◌+◌, ◌<◌, ◌≤◌, ◌^◌, true, false, List, [], ◌∷◌, ◌++◌, slice_get, slice_set, Option, Some, None, IsSome}
 use Rattle.std.specs.Option.{option_map_or, option_and_then}
 use Rattle.hs_base.specs.Rules.{is_declared}
-use Rattle.hs_base.specs.declared.limits.TheConstants.{MAX_NODES}
+use Rattle.hs_base.specs.declared.limits.TheConstants.{MOST_NODES}
 use Rattle.hs_base.specs.declared.told.Told.{Told}
 use Rattle.hs_records.specs.Plain.{PlainSettings}
 use Rattle.hs_sched.specs.Turns.{Schedule, IsSchedule}
@@ -51,7 +51,7 @@ pub record StandsAt {L : Type 0} (kept : Kept L) (schedule : Schedule) (point : 
   pub chunks : Holds kept point
   pub shares : schedule ≡ schedule_of point
   pub is_schedule : IsSchedule schedule
-  pub nodes : point.settings.nodes ≤ MAX_NODES
+  pub nodes : point.settings.nodes ≤ MOST_NODES
 
 -- Memory never failed the agent, and what it keeps is what this run says.
 pub record Follows {L : Type 0} (agent : PlainAgent L) (run : Run L) : Type 0 where

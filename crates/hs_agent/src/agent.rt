@@ -16,7 +16,7 @@ ghost use Rattle.hs_agent.specs.Points.{buffers_left};
 
 use crate::holdings::Holdings;
 use crate::input::{Finished, Input};
-use hs_base::limits::MAX_NODES;
+use hs_base::limits::MOST_NODES;
 use hs_base::{List, Memory, NodeId, Settings, Told, Why};
 use hs_journal::Step;
 use hs_law_agent::laws::{events_go_on, lists_have_their_chunks, standings_partition};
@@ -53,7 +53,7 @@ impl<L: Token> Agent<L> {
     pub fn make(alloc: Global, node: NodeId, settings: &Settings) -> Result<Agent<L>, Memory>
         requires rules { AreRules settings.now.triggers.items }
         requires size { IsSize settings.now.size }
-        requires nodes { settings.now.nodes ≤ MAX_NODES }
+        requires nodes { settings.now.nodes ≤ MOST_NODES }
         ensures { IfOk result (λ agent. Follows agent (new_run (settings_of settings.now) node.0)) }
     {
         let scheduler = Scheduler::make(alloc, &settings.triggers, settings.size)?;

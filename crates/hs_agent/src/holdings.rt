@@ -29,7 +29,7 @@ ghost use Rattle.hs_agent.specs.Points.{chunk_taken, crumb_taken, trigger_taken,
 
 use crate::input::Finished;
 use crate::placed::{ArrivalPlace, Pledge};
-use hs_base::limits::MAX_NODES;
+use hs_base::limits::MOST_NODES;
 use hs_base::{
     Ask, Bytes, Crumb, Fate, Group, GroupId, List, Memory, NodeId, NodeSet, Settings, Told,
     TraceId, Trigger, TriggerId, Why, rank_of,
@@ -170,7 +170,7 @@ impl<L: Token> Holdings<L> {
 
     /// Takes a crumb. Answers what is to be told, if its trace is claimed and its node is new there.
     pub fn take_crumb(&mut self, crumb: Crumb) -> Result<Option<Told>, Memory>
-        requires node { crumb.node.0 < MAX_NODES }
+        requires node { crumb.node.0 < MOST_NODES }
         requires known { HoldsThat self.old (λ point. Unit {0}) }
         ensures told { (point : Point L) → Holds self.old point → IfOk result (λ told. told ≡ model.told_by point.settings point.node point.state (model.Crumbed 0 crumb)) }
         ensures after { (point : Point L) → Holds self.old point → OnOk result (Holds self.new (crumb_taken crumb point)) }

@@ -6,15 +6,15 @@ use Rattle.std.proofs.lemmas.Bool.{cases_eq}
 use Rattle.std.proofs.Math.Pow.{pow-lt}
 use Rattle.std.proofs.lemmas.Grind.{one_shifted}
 use borrow.Author.Tests.{ne_eqb}
-use Rattle.hs_base.specs.declared.limits.TheConstants.{MAX_NODES}
+use Rattle.hs_base.specs.declared.limits.TheConstants.{MOST_NODES}
 use Rattle.hs_base.specs.declared.ids.NodeId.{NodeId}
 use Rattle.hs_base.specs.declared.node_set.NodeSet.{NodeSet}
 use Rattle.hs_base.specs.NodeSets.{has_node, nodes_of, one_node, without}
 use Rattle.hs_base.specs.NodeSetLaws.{has-one_node, has-without}
 
 -- the set of one node, as it is shifted
-pub shifted : (node : NodeId) → node.0 < MAX_NODES → 1 * 2 ^ node.0 % 65536 ≡ 2 ^ node.0
-shifted node within = (one_shifted node.0 65535 refl within).0
+pub shifted : (node : NodeId) → node.0 < MOST_NODES → 1 * 2 ^ node.0 % 340282366920938463463374607431768211456 ≡ 2 ^ node.0
+shifted node within = (one_shifted node.0 340282366920938463463374607431768211455 refl within).0
 
 abbrev picked : ℕ → (ℕ → Bool) → ℕ → Bool → List ℕ
 picked m f a c = cond c (a ∷ filter f (range_with_len (a + 1) m)) (filter f (range_with_len (a + 1) m))
@@ -50,14 +50,14 @@ filter_first p q n a (suc m) is rest low high none = ⊎_elim (λ e. subst (λ b
         ap (picked m p a) before ∙ more
         ∙ sym (ap (λ xs. n ∷ xs) (ap (picked m q a) (rest a ∙ ap (λ b. b && not (nat_eq a n)) before)))
 
-pub nodes-first : (s : NodeSet) (node : NodeId) → s.0 < 2 ^ 16 → node.0 < MAX_NODES → has_node s node.0 ≡ true → ((k : ℕ) → k < node.0 → has_node s k ≡ false)
+pub nodes-first : (s : NodeSet) (node : NodeId) → s.0 < 2 ^ 128 → node.0 < MOST_NODES → has_node s node.0 ≡ true → ((k : ℕ) → k < node.0 → has_node s k ≡ false)
     → nodes_of s ≡ node.0 ∷ nodes_of (without s (one_node node))
 unfolding nodes_of
 nodes-first s node fits within is none =
-    filter_first (has_node s) (has_node (without s (one_node node))) node.0 0 MAX_NODES is
+    filter_first (has_node s) (has_node (without s (one_node node))) node.0 0 MOST_NODES is
     (λ k. has-without s (one_node node) k fits (pow-lt within) ∙ ap (λ b. has_node s k && not b) (has-one_node node k))
     (omega arith) (omega arith) none
 
-pub nodes-none : (s : NodeSet) → ((k : ℕ) → k < MAX_NODES → has_node s k ≡ false) → nodes_of s ≡ []
+pub nodes-none : (s : NodeSet) → ((k : ℕ) → k < MOST_NODES → has_node s k ≡ false) → nodes_of s ≡ []
 unfolding nodes_of
-nodes-none s none = filter_none (has_node s) 0 MAX_NODES (λ k below. none k (omega arith))
+nodes-none s none = filter_none (has_node s) 0 MOST_NODES (λ k below. none k (omega arith))

@@ -1,6 +1,6 @@
 -- What each operation on sets of nodes does to a node, and that sets with the same nodes are one.
 use Rattle.std.proofs.Common.{◌≡◌, ℕ, zero, suc, ◌-◌, ◌^◌, ◌<◌, ◌≤◌, min, max, false, not, ◌||◌, ◌&&◌, nat_eq, bit_and, eq-eqb, sym, ap, refl, ◌∙◌, arith, ⊎_elim}
-use Rattle.std.specs.Int.{bit_at, w16}
+use Rattle.std.specs.Int.{bit_at, w128}
 use Rattle.std.proofs.lemmas.Bool.{cases_eq, cases_lt}
 use Rattle.std.proofs.lemmas.Nat.Bits.{bit_at-lt, bit_at_above, bit_at_or, bit_at_and, bit_at_not, bit_at-pow_same, bit_at-pow_other, bit_at-zero, same_from_bits}
 use borrow.Author.Tests.{ne_eqb}
@@ -49,19 +49,19 @@ no_min zero p = refl
 no_min (suc zero) p = refl
 no_min (suc (suc a)) p = absurd (omega arith)
 
--- a set has no node from 16 on
-pub has-without : (a b : NodeSet) (n : ℕ) → a.0 < 2 ^ 16 → b.0 < 2 ^ 16 → has_node (without a b) n ≡ (has_node a n && not (has_node b n))
-has-without a b n fits-a fits-b = ⊎_elim below above (cases_lt n 16)
+-- a set has no node from 128 on
+pub has-without : (a b : NodeSet) (n : ℕ) → a.0 < 2 ^ 128 → b.0 < 2 ^ 128 → has_node (without a b) n ≡ (has_node a n && not (has_node b n))
+has-without a b n fits-a fits-b = ⊎_elim below above (cases_lt n 128)
   where
-    below : n < 16 → has_node (without a b) n ≡ (has_node a n && not (has_node b n))
+    below : n < 128 → has_node (without a b) n ≡ (has_node a n && not (has_node b n))
     below within =
-        ap (λ m. nat_eq m 1) (bit_at_and a.0 (65535 - b.0) n ∙ ap (min (bit_at a.0 n)) (bit_at_not w16 b.0 n fits-b within))
+        ap (λ m. nat_eq m 1) (bit_at_and a.0 (340282366920938463463374607431768211455 - b.0) n ∙ ap (min (bit_at a.0 n)) (bit_at_not w128 b.0 n fits-b within))
         ∙ min_bits (bit_at a.0 n) (bit_at b.0 n) (bit_at-lt a.0 n) (bit_at-lt b.0 n)
 
-    above : 16 ≤ n → has_node (without a b) n ≡ (has_node a n && not (has_node b n))
+    above : 128 ≤ n → has_node (without a b) n ≡ (has_node a n && not (has_node b n))
     above out =
-        let none : bit_at a.0 n ≡ 0 = bit_at_above a.0 16 n fits-a out in
-        let zero_bit : bit_at (bit_and a.0 (65535 - b.0)) n ≡ 0 = bit_at_and a.0 (65535 - b.0) n ∙ ap (λ m. min m (bit_at (65535 - b.0) n)) none ∙ no_min (bit_at (65535 - b.0) n) (bit_at-lt (65535 - b.0) n) in
+        let none : bit_at a.0 n ≡ 0 = bit_at_above a.0 128 n fits-a out in
+        let zero_bit : bit_at (bit_and a.0 (340282366920938463463374607431768211455 - b.0)) n ≡ 0 = bit_at_and a.0 (340282366920938463463374607431768211455 - b.0) n ∙ ap (λ m. min m (bit_at (340282366920938463463374607431768211455 - b.0) n)) none ∙ no_min (bit_at (340282366920938463463374607431768211455 - b.0) n) (bit_at-lt (340282366920938463463374607431768211455 - b.0) n) in
         ap (λ m. nat_eq m 1) zero_bit ∙ sym (ap (λ m. nat_eq m 1 && not (has_node b n)) none)
 
 -- a bit is known from whether it is 1

@@ -5,7 +5,7 @@ use Rattle.std.specs.Int.{bit_at}
 use Rattle.std.specs.List.{range_with_len}
 use Rattle.hs_base.specs.declared.ids.NodeId.{NodeId}
 use Rattle.hs_base.specs.declared.node_set.NodeSet.{NodeSet}
-use Rattle.hs_base.specs.declared.limits.TheConstants.{MAX_NODES}
+use Rattle.hs_base.specs.declared.limits.TheConstants.{MOST_NODES}
 
 -- whether a node is in the set
 abbrev pub has_node : NodeSet → ℕ → Bool
@@ -13,7 +13,7 @@ has_node s n = bit_at s.0 n == 1
 
 -- the nodes of a set, rising
 unfoldable pub nodes_of : NodeSet → List ℕ
-nodes_of s = filter (has_node s) (range_with_len 0 MAX_NODES)
+nodes_of s = filter (has_node s) (range_with_len 0 MOST_NODES)
 
 abbrev pub no_nodes : NodeSet
 no_nodes = record { 0 = 0 }
@@ -27,7 +27,7 @@ either a b = record { 0 = bit_or a.0 b.0 }
 
 -- the nodes of a set that are not in another
 abbrev pub without : NodeSet → NodeSet → NodeSet
-without a b = record { 0 = bit_and a.0 (2 ^ 16 - 1 - b.0) }
+without a b = record { 0 = bit_and a.0 (2 ^ 128 - 1 - b.0) }
 
 -- a set with a node added
 abbrev pub with_node : NodeSet → NodeId → NodeSet

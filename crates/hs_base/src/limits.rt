@@ -1,5 +1,5 @@
-//! How large a workload may be, and how many bytes a page and its pieces take. Clauses name these
-//! numbers as the code does (`docs/RULES.md`, "Limits").
+//! How large a workload may be, what the parts themselves take, and how many bytes a page and its pieces take. Clauses name
+//! these numbers as the code does (`docs/RULES.md`, "Limits").
 
 /// The most nodes. There is at least one.
 pub const MAX_NODES: u16 = 16;
@@ -60,6 +60,18 @@ pub const MAX_PAYLOAD: usize = 65_535;
 
 /// The most operations of a workload, where a record counts once for each of its pieces.
 pub const MAX_OPERATIONS: u32 = 262_144;
+
+/// The most nodes of a set, of a coordinator and of an agent.
+pub const MOST_NODES: u16 = 128;
+
+/// The most clients of an agent's port.
+pub const MOST_CLIENTS: u16 = 256;
+
+/// The most buffers of a pool.
+pub const MOST_BUFFERS: u32 = 65_536;
+
+/// The most draws of a pool between threads in its whole life: 2^31, less twice the most buffers.
+pub const MOST_DRAWS: u32 = 2_147_352_576;
 
 /// The most requests of a made workload. There is at least one.
 pub const MAX_REQUESTS: u32 = 10_000;

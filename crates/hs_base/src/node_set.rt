@@ -4,13 +4,13 @@ ghost use Rattle.std.specs.Prelude.{◌≡◌, ℕ, ◌<◌, ◌||◌, ◌&&◌,
 ghost use Rattle.hs_base.specs.NodeSets.{has_node, nodes_of, no_nodes, one_node, either, without, with_node};
 
 use crate::ids::NodeId;
-use crate::limits::MAX_NODES;
+use crate::limits::MOST_NODES;
 
-/// A set of nodes below 16: bit n stands for node n.
+/// A set of nodes below 128: bit n stands for node n.
 ///
 /// Contracts say of each call which set it makes, and beside it which nodes are in that set.
 #[derive(Clone, Copy, Debug, PartialEq, Eq)]
-pub struct NodeSet(pub u16);
+pub struct NodeSet(pub u128);
 
 impl NodeSet {
     /// No node.
@@ -23,7 +23,7 @@ impl NodeSet {
 
     /// One node.
     pub fn only(node: NodeId) -> NodeSet
-        requires { node.0 < MAX_NODES }
+        requires { node.0 < MOST_NODES }
         ensures value { result ≡ one_node node }
         ensures nodes { (n : ℕ) → has_node result n ≡ (n == node.0) }
     {
@@ -32,7 +32,7 @@ impl NodeSet {
 
     /// Whether a node is in the set.
     pub fn contains(self, node: NodeId) -> bool
-        requires { node.0 < MAX_NODES }
+        requires { node.0 < MOST_NODES }
         ensures { result ≡ has_node self node.0 }
     {
         (self.0 >> node.0) & 1 == 1
@@ -40,7 +40,7 @@ impl NodeSet {
 
     /// The set with a node added.
     pub fn with(self, node: NodeId) -> NodeSet
-        requires { node.0 < MAX_NODES }
+        requires { node.0 < MOST_NODES }
         ensures value { result ≡ with_node self node }
         ensures nodes { (n : ℕ) → has_node result n ≡ (has_node self n || n == node.0) }
     {
@@ -76,10 +76,10 @@ impl NodeSet {
     pub fn first(self) -> Option<NodeId>
         ensures some { IfSome result (λ node. nodes_of self
             ≡ node.0 ∷ nodes_of (without self (one_node node))) }
-        ensures below { IfSome result (λ node. node.0 < MAX_NODES) }
+        ensures below { IfSome result (λ node. node.0 < MOST_NODES) }
         ensures none { IfNone result (nodes_of self ≡ []) }
     {
-        for number in 0..MAX_NODES {
+        for number in 0..MOST_NODES {
             if self.contains(NodeId(number)) {
                 return Some(NodeId(number));
             }
@@ -92,7 +92,7 @@ impl NodeSet {
     pub fn take_first(&mut self) -> Option<NodeId>
         ensures some { IfSome result (λ node. nodes_of self.old ≡ node.0 ∷ nodes_of self.new) }
         ensures value { IfSome result (λ node. self.new ≡ without self.old (one_node node)) }
-        ensures below { IfSome result (λ node. node.0 < MAX_NODES) }
+        ensures below { IfSome result (λ node. node.0 < MOST_NODES) }
         ensures none { IfNone result ((nodes_of self.old ≡ []) × (self.new ≡ self.old)) }
     {
         let node = self.first()?;

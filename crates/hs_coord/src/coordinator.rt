@@ -9,7 +9,7 @@ ghost use Rattle.hs_coord.specs.Answers.{IsAskedSet};
 
 use crate::asks::{Asks, Led};
 use crate::followed::Followed;
-use hs_base::limits::MAX_NODES;
+use hs_base::limits::MOST_NODES;
 use hs_base::{GroupId, List, Memory, NodeId, NodeSet, Told};
 use indexmap::IndexMap;
 use std::alloc::Global;
@@ -28,20 +28,20 @@ pub struct Coordinator {
 
 impl Model for Coordinator {
     ghost use Rattle.std.specs.Prelude.{◌≤◌};
-    ghost use Rattle.hs_base.specs.declared.limits.TheConstants.{MAX_NODES};
+    ghost use Rattle.hs_base.specs.declared.limits.TheConstants.{MOST_NODES};
     ghost use Rattle.hs_coord.specs.Kept.{PlainCoordinator, IsCounted};
 
     ghost Value = { PlainCoordinator };
 
     ghost view = { λ a. record { nodes = a.nodes; log = a.log.items; groups = a.groups.entries } };
 
-    ghost invariant = { λ a. (a.nodes ≤ MAX_NODES) × IsCounted a.waiting a.groups.entries };
+    ghost invariant = { λ a. (a.nodes ≤ MOST_NODES) × IsCounted a.waiting a.groups.entries };
 }
 
 impl Coordinator {
     /// A coordinator of nodes 0 to `nodes` - 1 that has taken no message. Takes no memory.
     pub fn make(alloc: Global, nodes: u16) -> Result<Coordinator, Memory>
-        requires { nodes ≤ MAX_NODES }
+        requires { nodes ≤ MOST_NODES }
         ensures ok { IsOk result }
         ensures taken { IfOk result (λ coordinator. HasTaken coordinator []) }
         ensures nodes { IfOk result (λ coordinator. coordinator.nodes ≡ nodes) }
@@ -114,7 +114,7 @@ fn follow(
     node: NodeId,
     told: &Told,
 ) -> Result<Led, Memory>
-    requires { node.0 < MAX_NODES }
+    requires { node.0 < MOST_NODES }
     ensures led { IfOk result
         (Leads groups.old.entries groups.new.entries (message node told.now)) }
     ensures memory { OnErr result (groups.new.entries ≡ groups.old.entries) }

@@ -5,7 +5,7 @@ ghost use Rattle.hs_base.specs.NodeSets.{has_node};
 ghost use Rattle.hs_coord.specs.Following.{is_answer};
 ghost use Rattle.hs_coord.specs.Kept.{is_open};
 
-use hs_base::limits::MAX_NODES;
+use hs_base::limits::MOST_NODES;
 use hs_base::{Ask, NodeId, NodeSet, Told, Why};
 
 /// A group with its first message's ask, its asked set, and the nodes whose ask has no answer yet.
@@ -19,7 +19,7 @@ pub struct Followed {
 impl Followed {
     /// A group whose first message a node is about to tell. The node counts as asked.
     pub fn begin(node: NodeId, told: &Told) -> Followed
-        requires { node.0 < MAX_NODES }
+        requires { node.0 < MOST_NODES }
         ensures group { result.ask.group ≡ told.now.group }
         ensures laterals { result.ask.laterals ≡ told.now.laterals }
         ensures asked { (n : ℕ) → has_node result.asked n ≡ (n == node.0) }
@@ -37,7 +37,7 @@ impl Followed {
 
     /// Takes a message of the group from a node, and answers the nodes that it leads to first.
     pub fn take(&mut self, node: NodeId, told: &Told) -> NodeSet
-        requires { node.0 < MAX_NODES }
+        requires { node.0 < MOST_NODES }
         ensures fresh { (n : ℕ) → has_node result n
             ≡ (has_node told.now.crumbs n && not (has_node self.old.asked n)) }
         ensures asked { (n : ℕ) → has_node self.new.asked n

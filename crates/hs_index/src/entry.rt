@@ -6,7 +6,7 @@ ghost use Rattle.hs_words.specs.Buffers.{buffer_of};
 ghost use Rattle.hs_index.specs.Touched.{IsLast};
 
 use crate::answers::{Gone, Taken};
-use hs_base::limits::MAX_NODES;
+use hs_base::limits::MOST_NODES;
 use hs_base::{List, NodeId, NodeSet};
 use hs_words::{Held, Token};
 use std::alloc::Global;
@@ -63,7 +63,7 @@ impl<L: Token> IndexedTrace<L> {
 
     /// Adds a node to which a crumb leads.
     pub fn add_crumb(&mut self, node: NodeId)
-        requires { node.0 < MAX_NODES }
+        requires { node.0 < MOST_NODES }
         ensures { self.new ≡ with_crumb self.old node }
     {
         self.crumbs = self.crumbs.with(node);

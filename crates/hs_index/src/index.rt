@@ -7,7 +7,7 @@ ghost use Rattle.hs_index.specs.Calls.{after_call, Arrived, Crumbed, Claimed};
 
 use crate::answers::{Gone, Taken};
 use crate::recent::Recent;
-use hs_base::limits::MAX_NODES;
+use hs_base::limits::MOST_NODES;
 use hs_base::{Crumb, List, Memory, NodeSet, TraceId};
 use hs_words::{Held, Token};
 use std::alloc::Global;
@@ -66,7 +66,7 @@ impl<L: Token> TraceIndex<L> {
     /// Indexes a crumb, which touches its trace. Answers what goes, in order. Takes memory only where the trace
     /// is not indexed.
     pub fn crumb(&mut self, crumb: Crumb) -> Result<List<Gone<L>>, Memory>
-        requires node { crumb.node.0 < MAX_NODES }
+        requires node { crumb.node.0 < MOST_NODES }
         ensures gone { IfOk result (λ gone. map leaving_of gone.items ≡ going (crumbed self.old crumb.trace crumb.node)) }
         ensures after { OnOk result (self.new ≡ after_call self.old (Crumbed crumb.trace crumb.node)) }
         ensures count { IfOk result (λ gone. count_chunks self.new.touched + length gone.items ≡ count_chunks self.old.touched) }

@@ -7,7 +7,7 @@ ghost use Rattle.hs_index.specs.Touched.{indexed};
 
 use crate::answers::Gone;
 use crate::entry::IndexedTrace;
-use hs_base::limits::MAX_NODES;
+use hs_base::limits::MOST_NODES;
 use hs_base::{Crumb, List, Memory, NodeSet, TraceId};
 use hs_words::{Held, Token};
 use lru::LruCache;
@@ -96,7 +96,7 @@ impl<L: Token> Recent<L> {
     /// Adds a crumb to its trace and touches the trace. Takes memory only for a trace that is not there.
     pub fn add_crumb(&mut self, crumb: Crumb) -> Result<(), Memory>
         requires room { length self.old.traces < self.old.room }
-        requires node { crumb.node.0 < MAX_NODES }
+        requires node { crumb.node.0 < MOST_NODES }
         ensures ok { OnOk result (self.new.traces
             ≡ touch crumb.trace (with_crumb (noted_of crumb.trace self.old.traces) crumb.node) self.old.traces) }
         ensures count { OnOk result (count_chunks self.new.traces ≡ count_chunks self.old.traces) }

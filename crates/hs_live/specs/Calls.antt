@@ -3,7 +3,7 @@ use Rattle.std.specs.Prelude.{◌≡◌, ℕ, ◌+◌, ◌^◌, ◌<◌, ◌≤�
 use Rattle.std.specs.List.{AllByRecursion}
 use Rattle.hs_base.specs.declared.ids.TraceId.{TraceId}
 use Rattle.hs_base.specs.declared.ids.TriggerId.{TriggerId}
-use Rattle.hs_base.specs.declared.limits.TheConstants.{MAX_PAYLOAD, MAX_CLIENTS}
+use Rattle.hs_base.specs.declared.limits.TheConstants.{MAX_PAYLOAD, MOST_CLIENTS}
 use Rattle.hs_base.specs.Rules.{fired_by, is_declared}
 use Rattle.hs_auto.specs.Watching.{Watch, HasSampled}
 use Rattle.hs_client.specs.Core.{Core, Began, after_step, new_core, IsLeft}
@@ -116,7 +116,7 @@ AreOf giver receivers = (number : ℕ) (r : _) → IsEnd number receivers r → 
 -- the client.
 pub record IsPort (port : Port) : Type 0 where
   pub some : 1 ≤ length port.chunks
-  pub few : length port.chunks ≤ MAX_CLIENTS
+  pub few : length port.chunks ≤ MOST_CLIENTS
   pub crumbs : length port.crumbs ≡ length port.chunks
   pub triggers : length port.triggers ≡ length port.chunks
   pub of_chunks : AreOf port.giver port.chunks

@@ -1,7 +1,7 @@
 -- The table of a new locked pool is as the rule wants it, and so are its drawers.
 use Rattle.std.proofs.Common.{◌≡◌, ℕ, suc, ◌+◌, ◌≤◌, List, [], ◌∷◌, ◌++◌, length, map, refl, sym, ap, ap₂, ◌∙◌, subst, arith, add-one}
-use Rattle.hs_locked.proofs.Prelude.{sum, AllByRecursion, range_with_len, opening, Splits, TableId, MAX_OPERATIONS, Contents, clear_chunks, PoolName, Tally, Plan, Within, IsAfter, Drawing, new_drawers, name_of, IsSameSeat, Store, GiverSeat, bare, away, giving, drawer_seat_of, giver_seat_of, new_drawer, StoreOk, LockedRule, first_giver_seat, first_view, PoolSeat, IsFree, drawing_of, IsMaking}
-use Rattle.hs_base.specs.declared.limits.TheConstants.{MAX_BUFFERS}
+use Rattle.hs_locked.proofs.Prelude.{sum, AllByRecursion, range_with_len, opening, Splits, TableId, MOST_DRAWS, Contents, clear_chunks, PoolName, Tally, Plan, Within, IsAfter, Drawing, new_drawers, name_of, IsSameSeat, Store, GiverSeat, bare, away, giving, drawer_seat_of, giver_seat_of, new_drawer, StoreOk, LockedRule, first_giver_seat, first_view, PoolSeat, IsFree, drawing_of, IsMaking}
+use Rattle.hs_base.specs.declared.limits.TheConstants.{MOST_BUFFERS}
 use Rattle.hs_words.specs.Chunks.{clear_chunk}
 use Rattle.hs_words.proofs.Plans.{total_is_sum}
 use Rattle.hs_locked.specs.Views.{with_drawer}
@@ -36,7 +36,7 @@ pub record IsNew (chunks : List Contents) (store : Store) : Type 0 where
   pub tally : store.tally ≡ no_tally
 
 -- A new table keeps the rule.
-pub new_locked : (plan : Plan) (words : List ℕ) (slots : List Store) (store : Store) (chunks : List Contents) → 1 ≤ length chunks → length chunks ≤ MAX_BUFFERS → plan.buffers ≡ length chunks → sum plan.allowances ≤ MAX_OPERATIONS
+pub new_locked : (plan : Plan) (words : List ℕ) (slots : List Store) (store : Store) (chunks : List Contents) → 1 ≤ length chunks → length chunks ≤ MOST_BUFFERS → plan.buffers ≡ length chunks → sum plan.allowances ≤ MOST_DRAWS
     → chunks ≡ clear_chunks (length chunks) plan.size → IsNew chunks store → words ≡ 0 ∷ 0 ∷ [] → slots ≡ store ∷ [] → LockedRule plan (opening words slots (first_view plan))
 new_locked plan words slots store chunks some_there few buffers draws clear new words_are slots_are =
     let within : Within plan = record { some_there = omega arith; few = omega arith; draws = (let t = total_is_sum plan.allowances in omega arith) } in

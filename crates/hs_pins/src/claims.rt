@@ -5,7 +5,7 @@ ghost use Rattle.std.specs.Bool.{OnTrue};
 ghost use Rattle.hs_pins.specs.Remembered.{claim_of, has_crumb, with_crumb};
 ghost use Rattle.hs_pins.specs.ClaimsLayout.{party_at, claim_by};
 
-use hs_base::limits::MAX_NODES;
+use hs_base::limits::MOST_NODES;
 use hs_base::{Crumb, Group, Laterals, List, Memory, NodeSet, TraceId};
 use indexmap::IndexMap;
 use std::alloc::Global;
@@ -114,7 +114,7 @@ impl Claims {
     /// Adds a crumb to the set of its claimed trace, and answers whether the node is new there.
     pub fn add_crumb(&mut self, crumb: Crumb) -> bool
         requires claimed { IsSome (claim_of self.old.claims crumb.trace) }
-        requires node { crumb.node.0 < MAX_NODES }
+        requires node { crumb.node.0 < MOST_NODES }
         ensures fresh { result ≡ not (has_crumb self.old.claims crumb.trace crumb.node.0) }
         ensures adds { self.new.claims ≡ with_crumb self.old.claims crumb.trace crumb.node }
     {

@@ -14,7 +14,7 @@ use crate::claim::{Admitted, Dropped, Taken2};
 use crate::claims::{Claims, Party};
 use crate::priority::{Mark, Priority};
 use crate::queues::TriggerQueues;
-use hs_base::limits::MAX_NODES;
+use hs_base::limits::MOST_NODES;
 use hs_base::{
     Crumb, Group, Laterals, List, Memory, NodeId, NodeSet, Settings, TraceId, TriggerId,
     TriggerRule,
@@ -173,7 +173,7 @@ impl<L: Token> Pins<L> {
     /// Adds a crumb to the set of its claimed trace, and answers whether the node is new there.
     pub fn crumb(&mut self, crumb: Crumb) -> bool
         requires claimed { KnowsThat self.old (λ memory. IsSome (claim_of memory.claims crumb.trace)) }
-        requires node { crumb.node.0 < MAX_NODES }
+        requires node { crumb.node.0 < MOST_NODES }
         ensures fresh { (memory : Remembered L) → Remembers self.old memory
             → result ≡ not (has_crumb memory.claims crumb.trace crumb.node.0) }
         ensures after { (memory : Remembered L) → Remembers self.old memory

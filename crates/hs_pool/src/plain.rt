@@ -7,7 +7,7 @@ ghost use Rattle.hs_words.specs.PoolHistory.{Given as GivenBack};
 ghost use Rattle.hs_words.specs.PoolAnswers.{event_drawn, stamp_drawn};
 ghost use Rattle.hs_pool.specs.Pool.{IsAfter, Extends, IsOut, HasSize, Draws, HasDrawnSize, IsGiven};
 
-use hs_base::limits::MAX_BUFFERS;
+use hs_base::limits::MOST_BUFFERS;
 use hs_base::{List, Memory};
 use hs_words::{Chunk, Drawn, Given, Held};
 use std::alloc::Global;
@@ -38,7 +38,7 @@ impl PlainPool {
     /// A pool of these chunks, which wait in their order. It takes memory for the queue; no other call does.
     pub fn make(alloc: Global, chunks: List<Chunk>) -> Result<PlainPool, Memory>
         requires some { 1 ≤ length chunks.items }
-        requires few { length chunks.items ≤ MAX_BUFFERS }
+        requires few { length chunks.items ≤ MOST_BUFFERS }
         // They are clear, of one size and numbered from 0.
         requires clear { (size : ℕ) × (chunks.items ≡ clear_chunks (length chunks.items) size) }
         ensures queue { IfOk result (λ pool. pool.queue ≡ chunks.items) }

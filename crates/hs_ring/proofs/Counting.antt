@@ -1,6 +1,6 @@
 -- What the rule says of the counts, and of the words and slots that a step changes.
 use Rattle.std.proofs.Common.{◌≡◌, ◌≢◌, ℕ, zero, suc, ◌+◌, ◌-◌, ◌*◌, ◌/◌, ◌%◌, ◌<◌, ◌≤◌, List, [], ◌∷◌, ◌++◌, length, drop, set, get_or, Some, refl, sym, ap, ◌∙◌, subst, ⊎_elim, mod-eq_of_lt, mod-lt, arith}
-use Rattle.hs_ring.proofs.Prelude.{some, some-injective, some-ne-none, get_elem?, Option, slice_get, count_by, State, Me, Act, stepped, at_set, elem_push_cases, PUBLISHED, MAX_BUFFERS, MAX_OPERATIONS, Contents, is_missed, is_empty, events_of, drawn_in, given_in, is_any_got, is_any_given, queue_of, drawn_kinds, given_kinds, Plan, View, Facts, published, Knows, Kept, RingRule, drawn_of, published_of}
+use Rattle.hs_ring.proofs.Prelude.{some, some-injective, some-ne-none, get_elem?, Option, slice_get, count_by, State, Me, Act, stepped, at_set, elem_push_cases, PUBLISHED, MOST_BUFFERS, MOST_DRAWS, Contents, is_missed, is_empty, events_of, drawn_in, given_in, is_any_got, is_any_given, queue_of, drawn_kinds, given_kinds, Plan, View, Facts, published, Knows, Kept, RingRule, drawn_of, published_of}
 use Rattle.atomic_table.specs.Table.{Valid, carried_after}
 use Rattle.hs_words.proofs.Deeds.{stamp_is}
 use Rattle.hs_words.proofs.Waiting.{few, waiting_length}
@@ -62,10 +62,10 @@ module _ (plan : Plan) (s : State (Option Contents) View) (f : Facts) (k : Kept 
   pub lap : published n f.log ≤ drawn_in f.log + n
   lap = let l = line in let most = few n (events_of f.log) k.lawful in omega arith
 
-  pub few_drawn : drawn_in f.log ≤ MAX_OPERATIONS
+  pub few_drawn : drawn_in f.log ≤ MOST_DRAWS
   few_drawn = let most = k.left in let total = k.within.draws in omega arith
 
-  pub few_published : published n f.log ≤ MAX_BUFFERS + MAX_OPERATIONS
+  pub few_published : published n f.log ≤ MOST_BUFFERS + MOST_DRAWS
   few_published = let l = lap in let d = few_drawn in let most = k.within.few in omega arith
 
   pub found_drawn : drawn_of (get_or s.words 0 0) ≡ drawn_in f.log

@@ -3,7 +3,7 @@ pub use Rattle.atomic_table.proofs.Lists.{at_set, set_else, set_here}
 pub use Rattle.atomic_table.specs.Seated.{TableId}
 pub use Rattle.atomic_table.specs.Table.{Act, Allows, gives, Joins, keeps, Me, opening, Splits, State, step, stepped, takes}
 pub use Rattle.hs_base.proofs.Updates.{put, put_cases, put_else, put_here}
-pub use Rattle.hs_base.specs.declared.limits.TheConstants.{MAX_BUFFERS, MAX_OPERATIONS}
+pub use Rattle.hs_base.specs.declared.limits.TheConstants.{MOST_BUFFERS, MOST_DRAWS}
 pub use Rattle.hs_lists.proofs.Counts.{count_cons}
 pub use Rattle.hs_lists.proofs.Places.{elem_push_cases}
 pub use Rattle.hs_ring.specs.Making.{closed_giver_seat, IsMaking}

@@ -2,7 +2,7 @@
 use Rattle.std.specs.Prelude.{◌≡◌, ℕ, suc, ◌+◌, ◌*◌, ◌%◌, ◌<◌, ◌≤◌, [], ◌∷◌, length, Option, None}
 use Rattle.atomic_table.specs.Seated.{TableId}
 use Rattle.atomic_table.specs.declared.shared.Seat.{Seat}
-use Rattle.hs_base.specs.declared.limits.TheConstants.{MAX_BUFFERS}
+use Rattle.hs_base.specs.declared.limits.TheConstants.{MOST_BUFFERS}
 use Rattle.hs_words.specs.Chunks.{Contents, clear_chunk}
 use Rattle.hs_words.specs.Pools.{PoolName}
 use Rattle.hs_words.specs.PoolHistory.{Given, Missed}
@@ -22,7 +22,7 @@ IsSameSeat s t = (t.table_id ≡ s.table_id) × (t.id ≡ s.id)
 
 -- the seat is at this table, which has a word for the counts and a word and a slot for each entry
 abbrev pub IsSeatAt : TableId → PoolSeat → Type 0
-IsSeatAt table s = (s.table_id ≡ table) × (table.words ≡ table.slots + 1) × (0 < table.slots) × (table.slots ≤ 2 * MAX_BUFFERS)
+IsSeatAt table s = (s.table_id ≡ table) × (table.words ≡ table.slots + 1) × (0 < table.slots) × (table.slots ≤ 2 * MOST_BUFFERS)
 
 -- the name of a pool is that of its table
 abbrev pub name_of : TableId → PoolName

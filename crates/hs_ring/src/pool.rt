@@ -1,7 +1,7 @@
 //! How a ring is made.
 ghost use Rattle.std.specs.Prelude.{◌≡◌, ℕ, ◌+◌, ◌*◌, ◌^◌, ◌≤◌, ◌<◌, [], length, sum, IfOk};
 ghost use Rattle.std.specs.Arc.{arc_value};
-ghost use Rattle.hs_base.specs.declared.limits.TheConstants.{MAX_BUFFERS, MAX_OPERATIONS};
+ghost use Rattle.hs_base.specs.declared.limits.TheConstants.{MOST_BUFFERS, MOST_DRAWS};
 ghost use Rattle.hs_words.specs.Chunks.{clear_chunks};
 ghost use Rattle.hs_ring.specs.Views.{giver_seat_of};
 ghost use Rattle.hs_ring.specs.Parts.{AreNewEnds, new_drawers};
@@ -24,7 +24,7 @@ pub struct RingPool;
 
 /// The words of a new table: all buffers are published, each under its own number.
 fn words_of(alloc: Global, buffers: u32) -> Result<Vec<u64>, Memory>
-    requires { buffers ≤ MAX_BUFFERS }
+    requires { buffers ≤ MOST_BUFFERS }
     ensures { IfOk result (λ words. words.items ≡ first_words buffers) }
 {
     let mut words = Vec::with_capacity(alloc, 2 * buffers as usize + 1)?;
@@ -40,7 +40,7 @@ fn words_of(alloc: Global, buffers: u32) -> Result<Vec<u64>, Memory>
 
 /// The slots of a new table: the chunks, and as many that are empty.
 fn slots_of(alloc: Global, chunks: List<Chunk>) -> Result<Vec<Option<Chunk>>, Memory>
-    requires { length chunks.items ≤ MAX_BUFFERS }
+    requires { length chunks.items ≤ MOST_BUFFERS }
     ensures { IfOk result (λ slots. slots.items ≡ first_slots chunks.items) }
 {
     let buffers = chunks.len();
@@ -61,9 +61,9 @@ fn table_of(
     allowances: &[u32],
 ) -> Result<(Board, Place), Memory>
     requires some { 1 ≤ length chunks.items }
-    requires few { length chunks.items ≤ MAX_BUFFERS }
+    requires few { length chunks.items ≤ MOST_BUFFERS }
     requires clear { (size : ℕ) × (chunks.items ≡ clear_chunks (length chunks.items) size) }
-    requires draws { sum allowances.now ≤ MAX_OPERATIONS }
+    requires draws { sum allowances.now ≤ MOST_DRAWS }
     ensures { (size : ℕ) → chunks.items ≡ clear_chunks (length chunks.items) size
         → IfOk result (λ made. IsMaking made.0.shared.table_id made.1 size 0 allowances.now × (made.0.shared.table_id.slots ≡ 2 * length chunks.items)) }
 {
@@ -121,10 +121,10 @@ impl RingPool {
         allowances: &[u32],
     ) -> Result<(Giver, List<Drawer>), Memory>
         requires some { 1 ≤ length chunks.items }
-        requires few { length chunks.items ≤ MAX_BUFFERS }
+        requires few { length chunks.items ≤ MOST_BUFFERS }
         requires clear { (size : ℕ) × (chunks.items ≡ clear_chunks (length chunks.items) size) }
         requires drawers { 1 ≤ length allowances.now }
-        requires draws { sum allowances.now ≤ MAX_OPERATIONS }
+        requires draws { sum allowances.now ≤ MOST_DRAWS }
         ensures { (size : ℕ) → chunks.items ≡ clear_chunks (length chunks.items) size
             → IfOk result (λ made. AreNewEnds (length chunks.items) size allowances.now made.0 made.1.items) }
     {

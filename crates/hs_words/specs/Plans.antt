@@ -1,6 +1,6 @@
 -- What a pool between threads is made with: its buffers, and for each drawer how often it may draw.
 use Rattle.std.specs.Prelude.{ℕ, ◌+◌, ◌≤◌, List, [], ◌∷◌}
-use Rattle.hs_base.specs.declared.limits.TheConstants.{MAX_BUFFERS, MAX_OPERATIONS}
+use Rattle.hs_base.specs.declared.limits.TheConstants.{MOST_BUFFERS, MOST_DRAWS}
 
 -- how many buffers there are, their size, and the allowances of the drawers
 pub record Plan : Type 0 where
@@ -26,5 +26,5 @@ total (x ∷ xs) = x + total xs
 
 pub record Within (plan : Plan) : Type 0 where
   pub some_there : 1 ≤ plan.buffers
-  pub few : plan.buffers ≤ MAX_BUFFERS
-  pub draws : total plan.allowances ≤ MAX_OPERATIONS
+  pub few : plan.buffers ≤ MOST_BUFFERS
+  pub draws : total plan.allowances ≤ MOST_DRAWS

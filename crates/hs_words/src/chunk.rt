@@ -8,7 +8,7 @@ ghost use Rattle.hs_words.specs.Chunks.{clear_chunk, clear_chunks, header_in, us
 
 use crate::layout::{Front, clear_counts, extend_page, start_page};
 use crate::page::Header;
-use hs_base::limits::{MAX_BUFFERS, MAX_SIZE, MIN_SIZE, PIECE_COST, UNCOUNTED_BYTES};
+use hs_base::limits::{MAX_SIZE, MIN_SIZE, MOST_BUFFERS, PIECE_COST, UNCOUNTED_BYTES};
 use hs_base::{List, Memory};
 use std::alloc::Global;
 use std::marker::Model;
@@ -155,7 +155,7 @@ impl Stock {
     /// So many clear chunks of one size, numbered from 0. The memory of each is taken here, once and for all.
     pub fn make(alloc: Global, count: u32, size: u32) -> Result<List<Chunk>, Memory>
         requires some { 1 ≤ count }
-        requires few { count ≤ MAX_BUFFERS }
+        requires few { count ≤ MOST_BUFFERS }
         requires least { MIN_SIZE ≤ size }
         requires most { size ≤ MAX_SIZE }
         ensures { IfOk result (λ chunks. chunks.items ≡ clear_chunks count size) }

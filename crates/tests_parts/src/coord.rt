@@ -3,7 +3,7 @@
 ghost use Rattle.std.specs.Prelude.{◌≡◌, ◌<◌, ◌≤◌, OnOk};
 
 use crate::rows::row;
-use hs_base::limits::MAX_NODES;
+use hs_base::limits::MOST_NODES;
 use hs_base::{Group, GroupId, Laterals, Memory, NodeId, NodeSet, Told, TraceId, TriggerId, Why};
 use hs_coord::Coordinator;
 use std::alloc::Global;
@@ -20,42 +20,42 @@ fn group_of(number: u32, node: u16) -> Group {
     }
 }
 
-/// A node tells of a group, with a crumb to node 15. Answers who is asked, and whether the ask has the lead that node 0 named.
+/// A node tells of a group, with a crumb to node 127. Answers who is asked, and whether the ask has the lead that node 0 named.
 fn tell(
     coordinator: &mut Coordinator,
     number: u32,
     node: u16,
     why: Why,
 ) -> Result<(NodeSet, bool), Memory>
-    requires nodes { coordinator.old.nodes ≡ MAX_NODES }
-    requires node { node < MAX_NODES }
-    ensures { OnOk result (coordinator.new.nodes ≡ MAX_NODES) }
+    requires nodes { coordinator.old.nodes ≡ MOST_NODES }
+    requires node { node < MOST_NODES }
+    ensures { OnOk result (coordinator.new.nodes ≡ MOST_NODES) }
 {
     let told = Told {
         group: group_of(number, node),
         laterals: Laterals::none(),
-        crumbs: NodeSet::only(NodeId(15)),
+        crumbs: NodeSet::only(NodeId(127)),
         why,
     };
     let asks = coordinator.step(NodeId(node), told)?;
     Ok((asks.to, asks.ask.group.lead == TraceId(100)))
 }
 
-/// Node 0 tells of a group, so node 15 is asked and its answer is waited for; then that one does, so nobody is asked. The ask is as
+/// Node 0 tells of a group, so node 127 is asked and its answer is waited for; then that one does, so nobody is asked. The ask is as
 /// node 0 made it.
 fn tell_twice(coordinator: &mut Coordinator, number: u32) -> Result<bool, Memory>
-    requires { coordinator.old.nodes ≡ MAX_NODES }
-    ensures { OnOk result (coordinator.new.nodes ≡ MAX_NODES) }
+    requires { coordinator.old.nodes ≡ MOST_NODES }
+    ensures { OnOk result (coordinator.new.nodes ≡ MOST_NODES) }
 {
     let fired = tell(coordinator, number, 0, Why::Fired)?;
     let is_settled = coordinator.settled();
-    let answer = tell(coordinator, number, 15, Why::Answer)?;
-    Ok(fired == (NodeSet(1 << 15), true) && !is_settled && answer == (NodeSet::none(), true))
+    let answer = tell(coordinator, number, 127, Why::Answer)?;
+    Ok(fired == (NodeSet(1 << 127), true) && !is_settled && answer == (NodeSet::none(), true))
 }
 
 /// Tells so of all groups. Answers whether each is asked for so.
 fn tell_all(coordinator: &mut Coordinator) -> Result<bool, Memory>
-    requires { coordinator.old.nodes ≡ MAX_NODES }
+    requires { coordinator.old.nodes ≡ MOST_NODES }
 {
     let mut right = true;
     for number in 0..GROUPS {
@@ -69,13 +69,13 @@ fn knows_all(coordinator: &Coordinator) -> bool {
     let last = group_of(GROUPS - 1, 0).id;
     coordinator.settled()
         && coordinator.log().len() == 2 * GROUPS as usize
-        && coordinator.asked(last) == Some(NodeSet(0x8001))
+        && coordinator.asked(last) == Some(NodeSet(1 << 127 | 1))
         && coordinator.asked(group_of(GROUPS, 0).id).is_none()
 }
 
 /// 50,000 groups, each told of by the first node and answered by the last.
 fn many_groups(alloc: Global) -> Result<bool, Memory> {
-    let mut coordinator = Coordinator::make(alloc, MAX_NODES)?;
+    let mut coordinator = Coordinator::make(alloc, MOST_NODES)?;
     let right = tell_all(&mut coordinator)?;
     Ok(right && knows_all(&coordinator))
 }

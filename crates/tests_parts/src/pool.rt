@@ -1,11 +1,11 @@
-//! A pool of one buffer, and one of as many as may be.
+//! A pool of one buffer, and those of as many as may be.
 
-ghost use Rattle.std.specs.Prelude.{◌≡◌};
+ghost use Rattle.std.specs.Prelude.{◌≡◌, ◌≤◌};
 ghost use Rattle.hs_words.specs.Chunks.{clear_chunks};
 
 use crate::rows::row;
 use hs_base::Memory;
-use hs_base::limits::{MAX_BUFFERS, MAX_SIZE, MIN_SIZE};
+use hs_base::limits::{MAX_BUFFERS, MAX_SIZE, MIN_SIZE, MOST_BUFFERS};
 use hs_pool::PlainPool;
 use hs_words::{Drawn, Given, Stock};
 use std::alloc::Global;
@@ -18,15 +18,18 @@ fn answer_of(drawn: &Drawn<()>) -> (Option<u32>, u64) {
     }
 }
 
-/// 1,024 buffers wait in their order, and then none.
-fn all_buffers_are_got(alloc: Global) -> Result<bool, Memory> {
-    let chunks = Stock::make(alloc, MAX_BUFFERS, MAX_SIZE)?;
+/// So many buffers wait in their order, and then none.
+fn all_buffers_are_got(alloc: Global, buffers: u32, size: u32) -> Result<bool, Memory>
+    requires buffers { (1 ≤ buffers) × (buffers ≤ MOST_BUFFERS) }
+    requires size { (MIN_SIZE ≤ size) × (size ≤ MAX_SIZE) }
+{
+    let chunks = Stock::make(alloc, buffers, size)?;
     let mut pool = PlainPool::make(alloc, chunks)?;
     let mut right = true;
-    for number in 0..MAX_BUFFERS {
+    for number in 0..buffers {
         right &= answer_of(&pool.draw()) == (Some(number), u64::from(number));
     }
-    Ok(right && answer_of(&pool.draw()) == (None, u64::from(MAX_BUFFERS)))
+    Ok(right && answer_of(&pool.draw()) == (None, u64::from(buffers)))
 }
 
 /// Whether a pool of one buffer gets it, is empty, is given it, and gets it again, with a stamp for each.
@@ -51,6 +54,15 @@ fn a_buffer_goes_round(alloc: Global) -> Result<bool, Memory> {
 
 #[test]
 fn pools(rt: HostRuntime) {
-    row(&rt, "all buffers are got", all_buffers_are_got(rt.alloc()));
+    row(
+        &rt,
+        "the largest buffers of a workload",
+        all_buffers_are_got(rt.alloc(), MAX_BUFFERS, MAX_SIZE),
+    );
+    row(
+        &rt,
+        "the most buffers of a service",
+        all_buffers_are_got(rt.alloc(), MOST_BUFFERS, MIN_SIZE),
+    );
     row(&rt, "a buffer goes round", a_buffer_goes_round(rt.alloc()));
 }

@@ -6,7 +6,7 @@ ghost use Rattle.tests_threads.specs.Seats.{HaveSeats};
 
 use crate::marks::{are_set, mark, marks_of};
 use crate::rows::row;
-use hs_base::limits::MAX_BUFFERS;
+use hs_base::limits::MOST_BUFFERS;
 use hs_base::{List, Memory};
 use hs_locked::{LockedDrawer, LockedGiver, LockedLease, close};
 use hs_words::{Drawn, Given, Held, Tally};
@@ -232,7 +232,7 @@ fn five_drawers_are_closed<R: Threads + Wait + Sync>(
     let marks = marks_of(alloc, 4000)?;
     let (mut giver, mut drawers) = locked_of(
         alloc,
-        MAX_BUFFERS,
+        MOST_BUFFERS,
         &[DRAWS, DRAWS, DRAWS, DRAWS, DRAWS],
     )?;
     let Some(mut last) = drawers.pop() else {

@@ -3,7 +3,7 @@
 ghost use Rattle.std.specs.Prelude.{◌≡◌, ◌≤◌, length, sum, IfOk};
 ghost use Rattle.hs_ring.specs.Parts.{AreNewEnds};
 
-use hs_base::limits::{MAX_BUFFERS, MAX_OPERATIONS, MIN_SIZE};
+use hs_base::limits::{MAX_OPERATIONS, MIN_SIZE, MOST_BUFFERS};
 use hs_base::{List, Memory};
 use hs_locked::{LockedDrawer, LockedGiver, LockedPool};
 use hs_words::Stock;
@@ -15,7 +15,7 @@ pub fn locked_of(
     chunks: u32,
     allowances: &[u32],
 ) -> Result<(LockedGiver, List<LockedDrawer>), Memory>
-    requires chunks { (1 ≤ chunks) × (chunks ≤ MAX_BUFFERS) }
+    requires chunks { (1 ≤ chunks) × (chunks ≤ MOST_BUFFERS) }
     requires allowances { (1 ≤ length allowances.now) × (sum allowances.now ≤ MAX_OPERATIONS) }
     ensures { IfOk result (λ ends. AreNewEnds chunks MIN_SIZE allowances.now ends.0 ends.1.items) }
 {

@@ -6,7 +6,7 @@ ghost use Rattle.hs_link.specs.Contents.{sent};
 ghost use Rattle.hs_ring.specs.Parts.{AreNewEnds};
 
 use crate::spent::{Pace, Seen, add_up, now, rest, since};
-use hs_base::limits::{MAX_BUFFERS, MAX_OPERATIONS, MIN_SIZE};
+use hs_base::limits::{MAX_OPERATIONS, MIN_SIZE, MOST_BUFFERS};
 use hs_base::{List, Memory};
 use hs_link::{Fact, Receiver, Sender, link};
 use hs_ring::{Drawer, Giver, Lease, RingPool};
@@ -25,7 +25,7 @@ pub fn ring_of(
     chunks: u32,
     allowances: &[u32],
 ) -> Result<(Giver, List<Drawer>), Memory>
-    requires chunks { (1 ≤ chunks) × (chunks ≤ MAX_BUFFERS) }
+    requires chunks { (1 ≤ chunks) × (chunks ≤ MOST_BUFFERS) }
     requires allowances { (1 ≤ length allowances.now) × (sum allowances.now ≤ MAX_OPERATIONS) }
     ensures { IfOk result (λ ends. AreNewEnds chunks MIN_SIZE allowances.now ends.0 ends.1.items) }
 {

@@ -8,7 +8,7 @@ pub make-requires-clause-size : goal.make-requires-clause-size
 make-requires-clause-size c = c.requires.may.valid.head settings.Size
 
 pub make-requires-clause-nodes : goal.make-requires-clause-nodes
-make-requires-clause-nodes c = (c.requires.may.valid.head settings.Nodes).1
+make-requires-clause-nodes c = let most = (c.requires.may.valid.head settings.Nodes).1 in omega (arith, most)
 
 pub loop-number-init : goal.loop-number-init
 loop-number-init c =

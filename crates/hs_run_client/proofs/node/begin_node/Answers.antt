@@ -19,7 +19,7 @@ pub make-requires-clause-some : goal.make-requires-clause-some
 make-requires-clause-some c = (is_sized (workload_of c.args.workload.now) c.requires.valid).some
 
 pub make-requires-clause-few : goal.make-requires-clause-few
-make-requires-clause-few c = (is_sized (workload_of c.args.workload.now) c.requires.valid).few
+make-requires-clause-few c = let sized = is_sized (workload_of c.args.workload.now) c.requires.valid in omega (arith, sized.few)
 
 pub make-requires-clause-least : goal.make-requires-clause-least
 make-requires-clause-least c = (is_sized (workload_of c.args.workload.now) c.requires.valid).least

@@ -4,7 +4,7 @@ use Rattle.hs_base.proofs.node_set.NodeSet.first.Goals as goal
 
 pub returns-then-contains-clause-some : goal.returns-then-contains-clause-some
 returns-then-contains-clause-some c =
-    let fits : c.args.self.0 < 2 ^ 16 = omega arith in
+    let fits : c.args.self.0 < 2 ^ 128 = omega arith in
     nodes-first c.args.self (record { 0 = c.loop-number.number }) fits c.loop-number-test.true (sym c.contains.ensures ∙ c.if-contains.true) c.loop-number.invariant
 
 pub returns-clause-none : goal.returns-clause-none
