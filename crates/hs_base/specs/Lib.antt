@@ -1,5 +1,6 @@
 pub mod Ids
 pub mod Listing
+pub mod Notes
 pub mod Changing
 pub mod Lending
 pub mod Laterals

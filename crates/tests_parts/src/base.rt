@@ -1,11 +1,13 @@
-//! The ground: ranks, and lists and streams in memory of great sizes and of none. How nodes, laterals and lists are read and changed is
+//! The ground: ranks, and lists, notes and streams in memory of great sizes and of none. How nodes, laterals and lists are read and changed is
 //! proved, and each outcome in `examples/` and `cases/` rests on it.
 
-ghost use Rattle.std.specs.Prelude.{◌≤◌, length};
+ghost use Rattle.std.specs.Prelude.{◌≡◌, ◌≤◌, length};
 
 use crate::rows::row;
 use hs_base::limits::MAX_INPUT;
-use hs_base::{Failed, List, Memory, MemorySink, MemorySource, Sink, Source, TraceId, rank_of};
+use hs_base::{
+    Failed, List, Memory, MemorySink, MemorySource, Notes, Sink, Source, TraceId, rank_of,
+};
 use std::alloc::Global;
 
 /// Traces and the first words of SplitMix64 from their seeds. The last id is wide: its halves' exclusive-or is
@@ -74,6 +76,50 @@ fn nothing_is_appended(alloc: Global) -> Result<bool, Memory> {
     Ok(empty.is_empty() && empty.pop().is_none())
 }
 
+/// Notes each number below `LONG`.
+fn note_all(notes: &mut Notes<u64>) -> Result<(), Memory>
+    ensures { notes.new.keeps ≡ notes.old.keeps }
+{
+    for item in 0..LONG {
+        notes.append(u64::from(item))?;
+    }
+    Ok(())
+}
+
+/// Whether so many items were kept, the last of which is this one.
+fn are_kept(list: Option<&List<u64>>, count: usize, last: u64) -> bool {
+    match list {
+        Some(list) => list.len() == count && list.as_slice().last() == Some(&last),
+        None => false,
+    }
+}
+
+/// Notes that are kept can be had, from no room on.
+fn notes_are_kept(alloc: Global) -> Result<bool, Memory> {
+    let mut notes = Notes::new(alloc);
+    note_all(&mut notes)?;
+    let while_noted = are_kept(notes.list(), LONG as usize, 999_999);
+    let list = notes.into_list();
+    Ok(while_noted && are_kept(list.as_ref(), LONG as usize, 999_999))
+}
+
+/// Notes for which room was taken need no more.
+fn notes_have_room(alloc: Global) -> Result<bool, Memory> {
+    let mut notes = Notes::with_room(alloc, 2)?;
+    notes.push(7u64);
+    notes.push(8);
+    Ok(are_kept(notes.list(), 2, 8))
+}
+
+/// A bare one takes whatever is noted, and has nothing.
+fn bare_notes_have_nothing() -> Result<bool, Memory> {
+    let mut notes = Notes::bare();
+    note_all(&mut notes)?;
+    notes.reserve(usize::MAX)?;
+    notes.push(7);
+    Ok(notes.list().is_none() && notes.into_list().is_none())
+}
+
 /// Reads the source to its end, and says how many bytes came.
 fn count_read(source: &mut MemorySource) -> Result<usize, Failed> {
     let mut piece = [0; 4096];
@@ -115,6 +161,13 @@ fn ranks_and_lists(rt: HostRuntime) {
     row(&rt, "items are appended", items_are_appended(rt.alloc()));
     row(&rt, "slices are appended", slices_are_appended(rt.alloc()));
     row(&rt, "nothing is appended", nothing_is_appended(rt.alloc()));
+}
+
+#[test]
+fn notes(rt: HostRuntime) {
+    row(&rt, "notes are kept", notes_are_kept(rt.alloc()));
+    row(&rt, "notes have room", notes_have_room(rt.alloc()));
+    row(&rt, "bare notes have nothing", bare_notes_have_nothing());
 }
 
 #[test]
