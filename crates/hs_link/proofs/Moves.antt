@@ -90,7 +90,7 @@ module _ {T F : Type 0} (holds : F → T → Type 0) (key : F) where
   pub looks_to_put : (slots id i : ℕ) (me : M) (k : F) (put : List T) (h : ℕ) → me ≡ (Sending k put h, []) → i ≡ length put % slots → Allows Rule slots id me (16 * i) (λ n. n) (looked_to_put (step slots (16 * i) 0 0 none) me)
   looks_to_put slots id i me k put h is next = subst (λ (m : M). Allows Rule slots id m (16 * i) (λ n. n) (looked_to_put (step slots (16 * i) 0 0 none) m)) (sym is) (looks_at_free slots id i k put h next)
 
-  gives_full : (slots id i : ℕ) (k : F) (put : List T) (h : ℕ) (x : T) → i ≡ length put % slots → length put + 1 < 2 ^ 32 → (k ≡ key → holds key x)
+  gives_full : (slots id i : ℕ) (k : F) (put : List T) (h : ℕ) (x : T) → i ≡ length put % slots → length put + 1 < 2 ^ 64 → (k ≡ key → holds key x)
       → Allows Rule slots id (Laying k put h, (i, Some x) ∷ []) (16 * i) (λ _. 1) (λ _. did_put (step slots (16 * i) 1 0 none) (Laying k put h, (i, Some x) ∷ []) 1)
   gives_full slots id i k put h x next few ok_item s r deep at small =
       let kn = r.each_seat id (Laying k put h) at in let n : ℕ = length s.homes in let a : ℕ = length r.log in let t : ℕ = r.taken in let is : length put ≡ a = ap length kn.2 in
@@ -136,7 +136,7 @@ module _ {T F : Type 0} (holds : F → T → Type 0) (key : F) where
         refl,
       )
 
-  pub puts : (slots id i : ℕ) (me : M) (k : F) (put : List T) (h : ℕ) (x : T) → me ≡ (Laying k put h, (i, Some x) ∷ []) → i ≡ length put % slots → length put + 1 < 2 ^ 32 → (k ≡ key → holds key x)
+  pub puts : (slots id i : ℕ) (me : M) (k : F) (put : List T) (h : ℕ) (x : T) → me ≡ (Laying k put h, (i, Some x) ∷ []) → i ≡ length put % slots → length put + 1 < 2 ^ 64 → (k ≡ key → holds key x)
       → Allows Rule slots id me (16 * i) (λ _. 1) (λ _. did_put (step slots (16 * i) 1 0 none) me 1)
   puts slots id i me k put h x is next few ok_item = subst (λ (m : M). Allows Rule slots id m (16 * i) (λ _. 1) (λ _. did_put (step slots (16 * i) 1 0 none) m 1)) (sym is) (gives_full slots id i k put h x next few ok_item)
 
@@ -189,7 +189,7 @@ module _ {T F : Type 0} (holds : F → T → Type 0) (key : F) where
   looks_at_full slots id i k got told same_key next s r deep at small =
       let kn = r.each_seat id (Receiving k got told) at in let found : ℕ = get_or s.words (16 * i) 0 in let n : ℕ = length s.homes in let a : ℕ = length r.log in let t : ℕ = r.taken in let is : length got ≡ t = kn.3 in
       let next' : i ≡ length got % n = next ∙ ap (λ (z : ℕ). length got % z) (sym deep) in let at_t : i ≡ t % n = next' ∙ ap (λ (z : ℕ). z % n) is in let behind : t + r.taking ≤ a = r.behind in let within : a + r.laying ≤ t + n = r.within in let pos : 0 < n = r.some_entry in
-      let few : a < 2 ^ 32 = r.few in let ok = r.each_entry t (omega arith) (omega arith) in
+      let few : a < 2 ^ 64 = r.few in let ok = r.each_entry t (omega arith) (omega arith) in
       dite (ℕ_discrete found 0)
       (λ hit. let all : a ≤ t = dite (dec_le a t) (λ le. le) (λ not. let gt = lt_of_not-le not in let one : get_or s.words (16 * i) 0 ≡ 1 = ap (λ (z : ℕ). get_or s.words (16 * z) 0) at_t ∙ ok.full (omega arith) in absurd (omega arith)) in
       let told_short = begins_length told r.log kn.4 in

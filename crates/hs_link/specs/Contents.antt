@@ -1,10 +1,10 @@
 -- What a link contains, as its two ends see it.
 -- Each item that was sent is in one of three places, in this order: received, in the ring, in the sender's outbox.
 -- The ends learn of each other only when they are brought together: the receiver is told what was put into the ring, the sender how many items were taken.
-use Rattle.std.specs.Prelude.{◌≡◌, ◌⊎◌, ℕ, ◌+◌, ◌≤◌, List, [], ◌∷◌, ◌++◌, length, take, refl}
+use Rattle.std.specs.Prelude.{◌≡◌, ◌⊎◌, ℕ, ◌+◌, ◌^◌, ◌≤◌, List, [], ◌∷◌, ◌++◌, length, take, refl}
 use Rattle.atomic_table.specs.Seated.{TableId}
 
--- what a sender is: its link and key, the entries of the ring, how many items it may send in all, what it put into the ring, what waits in its outbox, and how many it was told were taken
+-- what a sender is: its link and key, the entries of the ring, the places of its outbox, what it put into the ring, what waits in its outbox, and how many it was told were taken
 pub record Outgoing (T F : Type 0) : Type 0 where
   pub link : TableId
   pub key : F
@@ -51,6 +51,14 @@ module _ {T F : Type 0} where
   -- the two are the ends of one link
   abbrev pub AreEnds : Outgoing T F → Incoming T F → Type 0
   AreEnds s r = r.link ≡ s.link
+
+  -- So many items more may be sent: the outbox has a place for each, and a link takes 2 ^ 62 items in its life.
+  abbrev pub HasPlaces : ℕ → Outgoing T F → Type 0
+  HasPlaces more s = (length s.outbox + more ≤ s.room) × (length s.put + length s.outbox + more ≤ 2 ^ 62)
+
+  -- It takes at most so many places.
+  abbrev pub TakesPlaces : ℕ → Outgoing T F → Outgoing T F → Type 0
+  TakesPlaces most s t = (t.room ≡ s.room) × (length t.outbox ≤ length s.outbox + most) × (length t.put + length t.outbox ≤ length s.put + length s.outbox + most)
 
   -- some items lie in the ring between the two ends
   abbrev pub Contains : Outgoing T F → Incoming T F → Type 0

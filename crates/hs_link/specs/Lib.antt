@@ -1,3 +1,4 @@
 pub mod Contents
 pub mod Ring
 pub mod Moments
+pub mod Trying

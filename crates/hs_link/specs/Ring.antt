@@ -66,7 +66,7 @@ pub record LinkRule {T F : Type 0} (holds : F → T → Type 0) (key : F) (s : S
   pub wide : length s.words ≡ 16 * length s.homes
   pub behind : taken + taking ≤ length log
   pub within : length log + laying ≤ taken + length s.homes
-  pub few : length log < 2 ^ 32
+  pub few : length log < 2 ^ 64
   pub all_hold : AllHold (holds key) log
   pub each_entry : (p : ℕ) → taken ≤ p → p < taken + length s.homes → EntryOk (length s.homes) log taken laying taking s.words s.homes p
   pub each_seat : (j : ℕ) (v : View T F) → get_elem? s.views j ≡ some v → Knows key log taken laying taking sender receiver j v
@@ -166,7 +166,7 @@ module _ {T F : Type 0} where
 
   abbrev pub looked_to_take : (F → T → Type 0) → Step (Option T) → Seated T F → ℕ → Seated T F → Type 0
   looked_to_take holds st m found m' =
-      (found ≢ 0 → (x : T) × (m' ≡ (holding m.0 x, (length (received_by m.0) % st.slots, Some x) ∷ m.1)) × AtKey (λ k. holds k x) m.0 × OneBegins (received_by m.0 ++ x ∷ []) (told_by m.0) × (length (received_by m.0) + 1 < 2 ^ 32))
+      (found ≢ 0 → (x : T) × (m' ≡ (holding m.0 x, (length (received_by m.0) % st.slots, Some x) ∷ m.1)) × AtKey (λ k. holds k x) m.0 × OneBegins (received_by m.0 ++ x ∷ []) (told_by m.0) × (length (received_by m.0) + 1 < 2 ^ 64))
       × (found ≡ 0 → (m' ≡ m) × IsBeginning (told_by m.0) (received_by m.0))
 
   abbrev pub did_take : Step (Option T) → Seated T F → ℕ → Seated T F → Type 0

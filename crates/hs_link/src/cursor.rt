@@ -4,7 +4,7 @@ ghost use Rattle.std.specs.Prelude.{◌≡◌, ◌+◌, ◌%◌, ◌<◌, ◌^�
 /// How many items went by, and the entry that comes next.
 #[derive(Drop)]
 pub struct Cursor {
-    pub count: u32,
+    pub count: u64,
     pub entry: usize,
     pub capacity: usize,
     ghost lies: { (entry ≡ count % capacity) × (0 < capacity) },
@@ -24,7 +24,7 @@ impl Cursor {
 
     /// Goes on by one item.
     pub fn advance(&mut self)
-        requires { self.old.count + 1 < 2 ^ 32 }
+        requires { self.old.count + 1 < 2 ^ 64 }
         ensures { (self.new.count ≡ self.old.count + 1) × (self.new.capacity ≡ self.old.capacity) }
     {
         self.count += 1;

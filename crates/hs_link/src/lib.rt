@@ -19,4 +19,4 @@ pub use ends::link;
 pub use laws::put_items_are_taken_or_lie_in_the_ring;
 pub use receiver::Receiver;
 pub use rest::{Rest, close_both};
-pub use sender::{Sender, Sent};
+pub use sender::{Sender, Sent, Tried};

@@ -113,7 +113,7 @@ impl<T, F: Fact<T>> Receiver<T, F> {
     }
 
     /// The number of items that were received.
-    pub(crate) fn count(&self) -> u32
+    pub(crate) fn count(&self) -> u64
         ensures { result ≡ length self.now.received }
     {
         self.cursor.count

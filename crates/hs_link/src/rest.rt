@@ -42,10 +42,10 @@ pub fn close_both<T, F: Fact<T>>(
 
 impl<T, F: Fact<T>> Rest<T, F> {
     /// How many items `next` still has to give: what was sent, less what the receiver and `next` handed out.
-    pub fn left(&self) -> u32
+    pub fn left(&self) -> u64
         ensures { result ≡ length self.now.items }
     {
-        self.sender.put_count() - self.receiver.count() + self.sender.waiting()
+        self.sender.put_count() - self.receiver.count() + u64::from(self.sender.waiting())
     }
 
     /// Gives the next item, of which the link's condition is true: what the ring holds, and then what waited in the

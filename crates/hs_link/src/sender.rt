@@ -1,8 +1,9 @@
 //! The end that sends.
-ghost use Rattle.std.specs.Prelude.{◌≡◌, ◌+◌, ◌<◌, ◌≤◌, ◌^◌, [], ◌∷◌, ◌++◌, length, IfSome, IfNone};
+ghost use Rattle.std.specs.Prelude.{◌≡◌, ℕ, ◌+◌, ◌<◌, ◌≤◌, ◌^◌, [], ◌∷◌, ◌++◌, length, IfSome, IfNone};
 ghost use Rattle.std.specs.Arc.{arc_value};
 ghost use Rattle.std.specs.VecDeque.{deque_capacity};
-ghost use Rattle.hs_link.specs.Contents.{sent, IsBeginning, EndsWith, IsSameSender, SeemsFull, AreEnds, Contains};
+ghost use Rattle.hs_link.specs.Contents.{sent, IsBeginning, EndsWith, IsSameSender, SeemsFull, HasPlaces, AreEnds, Contains};
+ghost use Rattle.hs_link.specs.Trying.{Tries};
 ghost use Rattle.hs_link.specs.Ring.{AllHold, IsSender, IsReceiver, IsSameSeat, IsCounted, put_of, heard_of, received_of, told_of};
 ghost use Rattle.hs_link.specs.declared.sender.Sent.TheVariants.{Through, Kept};
 
@@ -22,6 +23,20 @@ pub enum Sent {
     /// It waits in the outbox, behind all others.
     Kept,
 }
+
+/// What became of an item that was offered.
+#[derive(Drop)]
+pub enum Tried<T> {
+    /// It lies in the ring, and nothing waits.
+    Through,
+    /// It waits in the outbox, behind all others.
+    Kept,
+    /// The outbox has no place. The item comes back.
+    Full(T),
+}
+
+/// The most items that a link takes in its life.
+const MOST_ITEMS: u64 = 1 << 62;
 
 /// The end of a link that sends. It can move to another thread.
 ///
@@ -52,7 +67,8 @@ impl<T, F: Fact<T>> Model for Sender<T, F> {
         IsSender (arc_value s.board).shared.table_id (arc_value s.board).shared.key s.place (put_of s.place) (heard_of s.place)
         × (s.cursor.capacity ≡ s.place.table_id.slots)
         × (s.cursor.count ≡ length (put_of s.place))
-        × (s.cursor.count + length s.outbox.items ≤ s.room)
+        × (s.cursor.count + length s.outbox.items ≤ 2 ^ 62)
+        × (length s.outbox.items ≤ s.room)
         × (s.room ≤ deque_capacity s.outbox)
         × (s.room < 2 ^ 32)
         × AllHold (F.holds (arc_value s.board).shared.key) s.outbox.items };
@@ -67,7 +83,7 @@ fn put_outbox<T, F: Fact<T>>(
 )
     requires seat { IsSender entries.now.table_id entries.now.key place.old (put_of place.old) (heard_of place.old) }
     requires cursor { IsCounted entries.now.table_id cursor.old.capacity cursor.old.count (put_of place.old) }
-    requires few { length (put_of place.old) + length outbox.old.items < 2 ^ 32 }
+    requires few { length (put_of place.old) + length outbox.old.items < 2 ^ 64 }
     requires fact { AllHold (F.holds entries.now.key) outbox.old.items }
     ensures seat { IsSameSeat place.old place.new }
     ensures sender { IsSender entries.now.table_id entries.now.key place.new (put_of place.new) (heard_of place.old) }
@@ -98,7 +114,7 @@ fn put_or_keep<T, F: Fact<T>>(
 ) -> Sent
     requires seat { IsSender entries.now.table_id entries.now.key place.old (put_of place.old) (heard_of place.old) }
     requires cursor { IsCounted entries.now.table_id cursor.old.capacity cursor.old.count (put_of place.old) }
-    requires few { length (put_of place.old) + length outbox.old.items + 1 < 2 ^ 32 }
+    requires few { length (put_of place.old) + length outbox.old.items + 1 < 2 ^ 64 }
     requires room { length outbox.old.items < deque_capacity outbox.old }
     requires fact { F.holds entries.now.key item × AllHold (F.holds entries.now.key) outbox.old.items }
     ensures seat { IsSameSeat place.old place.new }
@@ -156,6 +172,21 @@ impl<T, F: Fact<T>> Sender<T, F> {
         ensures through { result ≡ Through → self.new.outbox ≡ [] }
         ensures kept { result ≡ Kept → EndsWith item self.new.outbox × SeemsFull self.new }
     {
+        // That the room has 32 bits is known where it is read.
+        let _room = self.room;
+        self.send_within(item)
+    }
+
+    /// Sends an item as `send` does, where the outbox has a place for it.
+    pub fn send_within(&mut self, item: T) -> Sent
+        requires place { HasPlaces 1 self.old }
+        requires fact { F.holds self.old.key item }
+        ensures same { IsSameSender self.old self.new }
+        ensures sent { sent self.new ≡ sent self.old ++ item ∷ [] }
+        ensures put { IsBeginning self.old.put self.new.put }
+        ensures through { result ≡ Through → self.new.outbox ≡ [] }
+        ensures kept { result ≡ Kept → EndsWith item self.new.outbox × SeemsFull self.new }
+    {
         let board = &self.board;
         let entries = &board.shared;
         put_or_keep(
@@ -167,6 +198,40 @@ impl<T, F: Fact<T>> Sender<T, F> {
         )
     }
 
+    /// Sends an item behind all that waits, or hands it back where the outbox has no place for it.
+    ///
+    /// What waits goes into the ring first, as far as entries are free. So `Full` is seen only while, by what the sender was
+    /// told, the receiver is a whole ring behind, unless the outbox has no place at all. It takes no memory.
+    pub fn try_send(&mut self, item: T) -> Tried<T>
+        requires fact { F.holds self.old.key item }
+        ensures same { IsSameSender self.old self.new }
+        ensures put { IsBeginning self.old.put self.new.put }
+        ensures tried { Tries item self.old result self.new }
+    {
+        self.flush();
+        if self.places() == 0 {
+            return Tried::Full(item);
+        }
+        match self.send_within(item) {
+            Sent::Through => Tried::Through,
+            Sent::Kept => Tried::Kept,
+        }
+    }
+
+    /// How many items more may be sent, whatever the receiver does.
+    pub fn places(&self) -> u32
+        ensures enough { HasPlaces result self.now }
+        ensures most { (more : ℕ) → HasPlaces more self.now → more ≤ result }
+    {
+        let free = self.room - self.waiting();
+        let left = MOST_ITEMS - self.cursor.count - u64::from(self.waiting());
+        if u64::from(free) <= left {
+            free
+        } else {
+            left as u32
+        }
+    }
+
     /// Moves waiting items from the outbox into free entries of the ring, the first one first, and answers how many still
     /// wait. Some wait only while, by what the sender was told, the receiver is a whole ring behind. It takes no memory.
     pub fn flush(&mut self) -> u32
@@ -174,6 +239,7 @@ impl<T, F: Fact<T>> Sender<T, F> {
         ensures sent { sent self.new ≡ sent self.old }
         ensures put { IsBeginning self.old.put self.new.put }
         ensures left { result ≡ length self.new.outbox }
+        ensures places { length self.new.outbox ≤ self.new.room }
         ensures kept { 0 < result → SeemsFull self.new }
     {
         let board = &self.board;
@@ -209,9 +275,9 @@ impl<T, F: Fact<T>> Sender<T, F> {
     }
 
     /// The number of items that were put into the ring.
-    pub(crate) fn put_count(&self) -> u32
+    pub(crate) fn put_count(&self) -> u64
         ensures count { result ≡ length self.now.put }
-        ensures few { length self.now.put + length self.now.outbox < 2 ^ 32 }
+        ensures few { length self.now.put + length self.now.outbox ≤ 2 ^ 62 }
     {
         self.cursor.count
     }

@@ -28,7 +28,7 @@ pub fn look_to_put<T, F: Fact<T>>(
 pub fn put<T, F: Fact<T>>(entries: &Entries<T, F>, place: &mut Place<T, F>, entry: usize, item: T)
     requires seat { IsLaying entries.now.table_id entries.now.key place.old entry (put_of place.old) (heard_of place.old) }
     requires next { IsNextEntry entries.now.table_id (put_of place.old) entry }
-    requires few { length (put_of place.old) + 1 < 2 ^ 32 }
+    requires few { length (put_of place.old) + 1 < 2 ^ 64 }
     requires fact { F.holds entries.now.key item }
     ensures seat { IsSameSeat place.old place.new }
     ensures sender { IsSender entries.now.table_id entries.now.key place.new (put_of place.old ++ item ∷ []) (heard_of place.old) }
@@ -51,7 +51,7 @@ pub fn take<T, F: Fact<T>>(
     ensures seat { IsSameSeat place.old place.new }
     ensures taken { MatchOption result
         ((place.new.me ≡ place.old.me) × IsBeginning (told_of place.old) (received_of place.old))
-        (λ item. IsReceiver entries.now.table_id entries.now.key place.new (received_of place.old ++ item ∷ []) (told_of place.old) × F.holds entries.now.key item × OneBegins (received_of place.old ++ item ∷ []) (told_of place.old) × (length (received_of place.old) + 1 < 2 ^ 32)) }
+        (λ item. IsReceiver entries.now.table_id entries.now.key place.new (received_of place.old ++ item ∷ []) (told_of place.old) × F.holds entries.now.key item × OneBegins (received_of place.old ++ item ∷ []) (told_of place.old) × (length (received_of place.old) + 1 < 2 ^ 64)) }
 {
     if entries.load::<LookToTake>(place, STRIDE * entry) == 0 {
         return None;

@@ -5,7 +5,7 @@ ghost use Rattle.hs_link.specs.Contents.{sent};
 
 use crate::rows::row;
 use hs_base::Memory;
-use hs_link::{Fact, Receiver, Rest, Sender, Sent, close_both, link};
+use hs_link::{Fact, Receiver, Rest, Sender, Sent, Tried, close_both, link};
 use std::alloc::{AllocError, Global};
 use std::sync::Wait;
 use std::thread;
@@ -126,7 +126,7 @@ fn close_link<T: Numbered>(
     sender: Sender<T, Anything>,
     receiver: Receiver<T, Anything>,
     mut numbers: Vec<u32>,
-) -> Result<(Vec<u32>, u32), AllocError>
+) -> Result<(Vec<u32>, u64), AllocError>
     requires { sender.link ≡ receiver.link }
 {
     let rest = close_both(sender, receiver);
@@ -143,7 +143,7 @@ fn exchange<T: Numbered, R: Threads + Wait + Sync>(
     capacity: u32,
     count: u32,
     stop: u32,
-) -> Result<(Vec<u32>, u32), Memory>
+) -> Result<(Vec<u32>, u64), Memory>
     requires { (0 < capacity) × (stop ≤ count) }
 {
     let (sender, receiver) = link::<T, Anything>(alloc, capacity, count, &Anything)?;
@@ -183,7 +183,7 @@ fn tell(sender: &mut Sender<u8, Anything>, receiver: &mut Receiver<u8, Anything>
 }
 
 /// The next two items that are left, between how many there are before and after.
-fn tell_rest(mut rest: Rest<u8, Anything>) -> (u32, Option<u8>, Option<u8>, u32) {
+fn tell_rest(mut rest: Rest<u8, Anything>) -> (u64, Option<u8>, Option<u8>, u64) {
     (rest.left(), rest.next(), rest.next(), rest.left())
 }
 
@@ -234,6 +234,51 @@ fn no_box_is_lost_or_doubled<R: Threads + Wait + Sync>(
     Ok(left == 300 && are_all(&numbers, 1_000))
 }
 
+/// The ring takes the first item and the outbox the second; the third comes back.
+fn fills(sender: &mut Sender<u8, Anything>) -> bool
+    ensures { sender.new.link ≡ sender.old.link }
+{
+    let through = matches!(sender.try_send(b'a'), Tried::Through);
+    let kept = matches!(sender.try_send(b'b'), Tried::Kept);
+    let full = matches!(sender.try_send(b'c'), Tried::Full(b'c'));
+    through && kept && full && sender.places() == 0
+}
+
+/// The first item is received; then the second goes into the ring, and its place takes the next.
+fn takes_again(sender: &mut Sender<u8, Anything>, receiver: &mut Receiver<u8, Anything>) -> bool
+    ensures { (sender.new.link ≡ sender.old.link) × (receiver.new.link ≡ receiver.old.link) }
+{
+    let first = receiver.receive();
+    let kept = matches!(sender.try_send(b'd'), Tried::Kept);
+    let second = receiver.receive();
+    first == Some(b'a') && kept && second == Some(b'b')
+}
+
+fn a_full_outbox_gives_the_item_back(alloc: Global) -> Result<bool, Memory> {
+    let (mut sender, mut receiver) = link::<u8, Anything>(alloc, 1, 1, &Anything)?;
+    let fills = fills(&mut sender);
+    let again = takes_again(&mut sender, &mut receiver);
+    let left = tell_rest(close_both(sender, receiver));
+    Ok(fills && again && left == (1, Some(b'd'), None, 0))
+}
+
+/// A link whose outbox has one place takes far more items than that, one after another.
+fn one_place_is_enough(alloc: Global) -> Result<bool, Memory> {
+    let (mut sender, mut receiver) = link::<u32, Anything>(alloc, 64, 1, &Anything)?;
+    let mut right = sender.places() == 1;
+    for number in 0..1_000_000 {
+        right &= matches!(sender.try_send(number), Tried::Through);
+        right &= receiver.receive() == Some(number);
+    }
+    Ok(right && sender.places() == 1)
+}
+
+/// A link without a place takes nothing.
+fn no_place_takes_nothing(alloc: Global) -> Result<bool, Memory> {
+    let (mut sender, _receiver) = link::<u8, Anything>(alloc, 1, 0, &Anything)?;
+    Ok(matches!(sender.try_send(b'a'), Tried::Full(b'a')))
+}
+
 /// A link of one entry is closed unused.
 fn close_least(alloc: Global) -> Result<bool, Memory> {
     let (sender, receiver) = link::<u32, Anything>(alloc, 1, 0, &Anything)?;
@@ -257,6 +302,13 @@ fn links(rt: HostRuntime) {
         "one entry",
         a_ring_of_one_entry_keeps_the_order(rt.alloc()),
     );
+    row(
+        &rt,
+        "a full outbox",
+        a_full_outbox_gives_the_item_back(rt.alloc()),
+    );
+    row(&rt, "one place", one_place_is_enough(rt.alloc()));
+    row(&rt, "no place", no_place_takes_nothing(rt.alloc()));
     row(
         &rt,
         "numbers",

@@ -238,7 +238,7 @@ fn refuses(client: &mut Client, port: &mut AgentPort) -> (u32, u32, u32, bool)
 struct Ending {
     draws: &'static [Draw],
     pages: &'static [PageNote],
-    chunks: u32,
+    chunks: u64,
     tally: Tally,
 }
 

@@ -205,7 +205,7 @@ pub fn client_and_port(alloc: Global, making: Making) -> Result<(Client, AgentPo
 }
 
 /// How many items of a link were not received, of which these are the ends.
-fn left_of<T: Drop, F: Fact<T>>(sender: Sender<T, F>, receivers: List<Receiver<T, F>>) -> u32
+fn left_of<T: Drop, F: Fact<T>>(sender: Sender<T, F>, receivers: List<Receiver<T, F>>) -> u64
     requires { links receivers.items ≡ sender.link ∷ [] }
 {
     let mut receivers = receivers;
@@ -220,9 +220,9 @@ fn left_of<T: Drop, F: Fact<T>>(sender: Sender<T, F>, receivers: List<Receiver<T
 #[derive(Drop)]
 pub struct PairEnding {
     pub book: ClientBook,
-    pub chunks: u32,
-    pub crumbs: u32,
-    pub triggers: u32,
+    pub chunks: u64,
+    pub crumbs: u64,
+    pub triggers: u64,
     pub tally: Tally,
 }
 
