@@ -39,10 +39,16 @@ pub record Core (L : Type 0) : Type 0 where
   pub current : Option (Current L)
   pub draws : List Draw
   pub pages : List PageNote
+  -- whether the draws and the pages are kept, to be had at the end
+  pub keeps : Bool
 
 abbrev pub new_core : {L : Type 0} → ClientId → ℕ → ℕ → Core L
 new_core client size calls =
-    record { client = client; size = size; calls = calls; counted = 0; trace = None; number = 0; used = 0; current = None; draws = []; pages = [] }
+    record { client = client; size = size; calls = calls; counted = 0; trace = None; number = 0; used = 0; current = None; draws = []; pages = []; keeps = true }
+
+-- a core that keeps no book
+abbrev pub bare_core : {L : Type 0} → ClientId → ℕ → ℕ → Core L
+bare_core client size calls = record (new_core client size calls) { keeps = false }
 
 -- ---- what may happen
 

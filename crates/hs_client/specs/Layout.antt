@@ -1,6 +1,6 @@
 -- How a core lies in its fields. A chunk is kept for the current page alone, and its page has the used bytes that are
 -- counted beside it.
-use Rattle.std.specs.Prelude.{◌≡◌, ℕ, ◌+◌, ◌≤◌, length, Option, Some, None, IsSome, MatchOption, count_by}
+use Rattle.std.specs.Prelude.{◌≡◌, ℕ, ◌+◌, ◌≤◌, length, Option, Some, None, IsSome, MatchOption, count_by, true}
 use Rattle.std.specs.Option.{option_map}
 use Rattle.hs_journal.specs.declared.books.PageNote.{PageNote}
 use Rattle.hs_words.specs.declared.token.Held.{Held}
@@ -26,6 +26,7 @@ core_of a =
       current = option_map (current_of a.held) a.page;
       draws = a.draws.items;
       pages = a.pages.items;
+      keeps = a.draws.keeps;
     }
 
 -- The chunk has a page with so many used bytes.
@@ -61,8 +62,10 @@ pub record IsCore {L : Type 0} {g : _} (a : Inside L g) : Type 0 where
   pub pieces : count_in a.page ≤ a.counted
   pub used : a.used ≤ a.size
   pub limit : IsLimit a.page a.size a.used a.limit
-  pub draw_room : a.calls ≤ a.draws.room
-  pub page_room : a.calls ≤ a.pages.room
+  pub ended : a.ended ≡ length a.pages.items
+  pub both : a.pages.keeps ≡ a.draws.keeps
+  pub draw_room : a.draws.keeps ≡ true → a.calls ≤ a.draws.room
+  pub page_room : a.draws.keeps ≡ true → a.calls ≤ a.pages.room
   pub nulls : a.nulls ≡ count_by is_null a.draws.items
   pub written : IsWritten a.held a.size a.used
   pub none : a.page ≡ None → a.held ≡ None

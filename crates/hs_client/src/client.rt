@@ -3,18 +3,19 @@
 ghost use Rattle.std.specs.Prelude.{◌≡◌, ◌+◌, ◌-◌, ◌≤◌, ◌<◌, ◌^◌, length, IfOk, OnErr, true, false, None, IsSome, IsNone, count_by};
 ghost use Rattle.hs_base.specs.declared.limits.TheConstants.{FRAME_COST};
 ghost use Rattle.hs_client.specs.Calls.{May};
-ghost use Rattle.hs_client.specs.Core.{new_core, after_step, Wrote, Fits, NeedsPage, began, ended_step, pointed_step, supplied, closed, handed, started, piece, BeginsBy, PointsBy, EndsBy, MaySupply, HasClearChunk, is_null};
+ghost use Rattle.hs_client.specs.Core.{new_core, bare_core, after_step, Wrote, Fits, NeedsPage, began, ended_step, pointed_step, supplied, closed, handed, started, piece, BeginsBy, PointsBy, EndsBy, MaySupply, HasClearChunk, is_null};
 ghost use Rattle.hs_words.specs.Buffers.{buffer_in, buffer_of};
 
 use crate::answers::{Begun, Ended, Pointed};
 use hs_base::limits::{FRAME_COST, MAX_SIZE, MIN_SIZE, PIECE_COST};
-use hs_base::{ClientId, List, Memory, TraceId};
+use hs_base::{ClientId, Memory, Notes, TraceId};
 use hs_journal::{ClientBook, Draw, PageNote};
 use hs_words::{Drawn, Header, Held, Token};
 use std::alloc::Global;
 use std::marker::Model;
 
-/// A client's core. It has at most one page at a time, and takes all its memory when it is made.
+/// A client's core. It has at most one page at a time. One that keeps its book, the notes of its draws and pages, takes all its
+/// memory when it is made; a bare one takes none.
 #[derive(Drop)]
 pub struct ClientCore<L: Token> {
     client: ClientId,
@@ -27,8 +28,9 @@ pub struct ClientCore<L: Token> {
     limit: u32,
     page: Option<PageNote>,
     held: Option<Held<L>>,
-    draws: List<Draw>,
-    pages: List<PageNote>,
+    draws: Notes<Draw>,
+    pages: Notes<PageNote>,
+    ended: u32,
     nulls: u32,
 }
 
@@ -69,10 +71,35 @@ impl<L: Token> ClientCore<L> {
             limit: 0,
             page: None,
             held: None,
-            draws: List::with_room(alloc, calls as usize)?,
-            pages: List::with_room(alloc, calls as usize)?,
+            draws: Notes::with_room(alloc, calls as usize)?,
+            pages: Notes::with_room(alloc, calls as usize)?,
+            ended: 0,
             nulls: 0,
         })
+    }
+
+    /// The same, but bare: only clauses see its draws and pages. It takes no memory.
+    pub fn bare(client: ClientId, size: u32, calls: u32) -> ClientCore<L>
+        requires least { MIN_SIZE ≤ size }
+        requires most { size ≤ MAX_SIZE }
+        ensures core { result ≡ bare_core client size calls }
+    {
+        ClientCore {
+            client,
+            size,
+            calls,
+            counted: 0,
+            trace: None,
+            record: 0,
+            used: 0,
+            limit: 0,
+            page: None,
+            held: None,
+            draws: Notes::bare(),
+            pages: Notes::bare(),
+            ended: 0,
+            nulls: 0,
+        }
     }
 
     /// Opens a trace.
@@ -170,7 +197,7 @@ impl<L: Token> ClientCore<L> {
         let header = Header {
             trace,
             client: self.client,
-            page: self.pages.len() as u32,
+            page: self.ended,
             first: self.record,
         };
         match drawn {
@@ -206,6 +233,7 @@ impl<L: Token> ClientCore<L> {
             return None;
         };
         self.pages.push(page);
+        self.ended += 1;
         self.page = None;
         self.limit = 0;
         self.held.take()
@@ -245,6 +273,13 @@ impl<L: Token> ClientCore<L> {
         self.size
     }
 
+    /// The calls that may still be counted.
+    pub fn left(&self) -> u32
+        ensures { self.now.counted + result ≡ self.now.calls }
+    {
+        self.calls - self.counted
+    }
+
     /// The number of draws so far that found the pool empty.
     pub fn nulls(&self) -> u32
         ensures { result ≡ count_by is_null self.now.draws }
@@ -252,17 +287,27 @@ impl<L: Token> ClientCore<L> {
         self.nulls
     }
 
-    /// What the client noted.
+    /// What the client noted, of a core that keeps its book.
     pub fn finish(self) -> ClientBook
-        requires { IsNone self.trace }
+        requires closed { IsNone self.trace }
+        requires keeps { self.keeps ≡ true }
         ensures client { result.client ≡ self.client }
         ensures draws { result.draws.items ≡ self.draws }
         ensures pages { result.pages.items ≡ self.pages }
     {
+        let ClientCore {
+            client,
+            draws,
+            pages,
+            ..
+        } = self;
+        let (Some(draws), Some(pages)) = (draws.into_list(), pages.into_list()) else {
+            unreachable!()
+        };
         ClientBook {
-            client: self.client,
-            draws: self.draws,
-            pages: self.pages,
+            client,
+            draws,
+            pages,
         }
     }
 }

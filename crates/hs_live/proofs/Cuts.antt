@@ -2,11 +2,12 @@
 use Rattle.std.proofs.Common.{◌≡◌, ℕ, suc, ◌+◌, ◌-◌, ◌<◌, ◌≤◌, List, [], ◌∷◌, ◌++◌, length, map, take, drop, Bool, Option, IsSome, refl, sym, ap, ap₂, ◌∙◌, arith, subst, append_assoc, length-append}
 use Rattle.hs_live.proofs.Prelude.{option_to_list_short, AllByRecursion, option_to_list, Piece, Segment, piece_limit, record_pieces, Drawn, PoolEvent, Got, Empty, Answer, Buffer, Core, after_step, closed, supplied, Outgoing, sent, Leased, Drawing, Draws, after_draw, Key, GoesOn, Made, Writing, IsSound, IsWriting, WritesPieces}
 use Rattle.hs_base.specs.declared.limits.TheConstants.{MIN_SIZE}
-use Rattle.hs_records.specs.Records.{payload_pieces, piece_count}
+use Rattle.hs_records.specs.Records.{payload_pieces, piece_count, count_cuts}
 use Rattle.hs_records.proofs.Payloads.{AreCut}
 use Rattle.hs_words.specs.declared.token.Drawn.TheVariants as drawn
+use Rattle.hs_link.specs.Contents.{HasPlaces}
 use Rattle.hs_live.specs.Writing.{DrawsOn, IsDraw, IsDrawn, Spends}
-use Rattle.hs_live.proofs.Senders.{goes_trans, goes_same}
+use Rattle.hs_live.proofs.Senders.{goes_trans, goes_same, places_left}
 use Rattle.hs_live.proofs.Steps.{piece_of}
 
 -- answers above a floor are above a lower one, too
@@ -39,6 +40,7 @@ spends_trans m n k a b c sum h l =
       owner = l.owner ∙ h.owner;
       size = l.size ∙ h.size;
       calls_are = l.calls_are ∙ h.calls_are;
+      keeps = l.keeps ∙ h.keeps;
       counted = omega (arith, l.counted, h.counted, sum);
       drawer = draws_trans a.drawer b.drawer c.drawer h.drawer l.drawer;
       left = omega (arith, l.left, h.left, sum);
@@ -76,6 +78,7 @@ spends_none a =
       owner = refl;
       size = refl;
       calls_are = refl;
+      keeps = refl;
       counted = omega arith;
       drawer = draws_none a.drawer;
       left = omega arith;
@@ -88,11 +91,12 @@ record IsSupplied (old new : Core Leased) : Type 0 where
   owner : new.client ≡ old.client
   size : new.size ≡ old.size
   calls_are : new.calls ≡ old.calls
+  keeps : new.keeps ≡ old.keeps
   counted : new.counted ≡ old.counted + 1
 
 is_supplied : {g : _} (core : Core Leased) (draw : Drawn Leased g) (moment : ℕ) (payload : List ℕ) (more : Bool) → IsSupplied core (after_step core (supplied draw moment payload more))
-is_supplied core (drawn.Got held stamp) moment payload more = record { owner = refl; size = refl; calls_are = refl; counted = refl }
-is_supplied core (drawn.Empty stamp) moment payload more = record { owner = refl; size = refl; calls_are = refl; counted = refl }
+is_supplied core (drawn.Got held stamp) moment payload more = record { owner = refl; size = refl; calls_are = refl; keeps = refl; counted = refl }
+is_supplied core (drawn.Empty stamp) moment payload more = record { owner = refl; size = refl; calls_are = refl; keeps = refl; counted = refl }
 
 left_drawn : {g : _} (old new : Drawing) (draw : Drawn Leased g) → Draws old draw new → new.left ≡ old.left - 1
 left_drawn old new (drawn.Got held stamp) draws = ap (λ (d : Drawing). d.left) draws.0
@@ -109,6 +113,7 @@ spends_page old core drawer chunks handed draw moment payload more is draws goes
       owner = by.owner;
       size = by.size;
       calls_are = by.calls_are;
+      keeps = by.keeps;
       counted = by.counted;
       drawer = draws_one old.drawer drawer draw draws;
       left = omega (arith, left);
@@ -136,6 +141,14 @@ pub record IsRecorded (moment : ℕ) (payload : List ℕ) (number : ℕ) (now ne
   pub page : IsSome new.core.current
   pub spends : Spends 1 now new
   pub written : WritesPieces (piece_of now.core.number moment payload ∷ []) now new
+
+-- a piece that is still to be recorded has its place
+pub places_now : (moment : ℕ) (payload rest : List ℕ) (old now : Writing) → IsCutTo moment payload rest old now → HasPlaces (piece_count old.core.size (length payload)) old.chunks → HasPlaces 1 now.chunks
+places_now moment payload rest old now is places =
+    let more = piece_count old.core.size (length rest) in
+    let all = places_left is.used more old.chunks now.chunks is.spends.chunks is.spends.items (subst (λ (n : ℕ). HasPlaces n old.chunks) (sym is.counted) places) in
+    let some : more ≡ count_cuts (length rest) (piece_limit old.core.size) (length rest) + 1 = refl in
+    (omega (arith, all.0, some), omega (arith, all.1, some))
 
 pub cut_further : AreCut → (limit moment : ℕ) (payload rest full behind : List ℕ) (old now new : Writing) → IsCutTo moment payload rest old now → limit ≡ piece_limit old.core.size → limit < length rest
     → full ≡ take limit rest → behind ≡ drop limit rest → IsRecorded moment full now.core.number now new → IsCutTo moment payload behind old new

@@ -1,10 +1,11 @@
 -- A client that has done some operations does one more.
 use Rattle.std.proofs.Common.{◌≡◌, ℕ, ◌+◌, Bool, false, List, [], ◌∷◌, ◌++◌, reverse, Option, Some, None, IsSome, refl, sym, ap, ap₂, ◌∙◌, subst, append_assoc}
-use Rattle.hs_live.proofs.Prelude.{append-nil, reverse-append, is_some, ClientId, TraceId, Crumb, Trigger, Operation, Begin, Point, End, Fire, Piece, Segment, numbered_of, record_pieces, segments_from, segments_of, Watch, HasSampled, Core, Current, Step, Began, after_step, AreSteps, IsBook, May, with_all, Outgoing, sent, Leased, trigger_in, Key, PlainClient, Made, Writing, IsWriting, WritesPieces, writing_of, HasDone, AreWatching, OneMore, Does, DoesNothing, made_of}
+use Rattle.hs_live.proofs.Prelude.{append-nil, reverse-append, is_some, ClientId, TraceId, Crumb, Trigger, Operation, Begin, Point, End, Fire, Piece, Segment, numbered_of, record_pieces, segments_from, segments_of, Watch, HasSampled, Core, Current, Step, Began, after_step, AreSteps, IsBook, May, with_all, Outgoing, sent, Leased, trigger_in, Key, PlainClient, Made, new_of, Writing, IsWriting, WritesPieces, writing_of, HasDone, AreWatching, OneMore, Does, DoesNothing, made_of}
 use Rattle.hs_base.specs.declared.ids.NodeId.{NodeId}
 use Rattle.hs_records.specs.Plain as plain
 use Rattle.hs_records.specs.Records.{NumberedOperation, open_behind, pieces_until_end, coming}
 use Rattle.hs_client.specs.Core.{new_core}
+use Rattle.hs_client.proofs.Bare.{book_bare}
 use Rattle.hs_law_sends.specs.SoFar.{has_open_page}
 use Rattle.hs_law_sends.specs.Sending.{crumb_in}
 use Rattle.hs_live.specs.Writing.{WritesEnd}
@@ -50,11 +51,15 @@ done_now laws made ops op old new h d =
 abbrev pub Books : Type 0
 Books = (client : ClientId) (size calls : ℕ) (steps : List (Step Leased)) → AreSteps (new_core client size calls) steps → IsBook (new_core client size calls) steps
 
+-- what the steps of a client's core make of it, whether it keeps its book or not
+pub book_of : Books → (made : Made) (steps : List (Step Leased)) → AreSteps (new_of made) steps → IsBook (new_of made) steps
+book_of books made steps may = book_bare made.keeps (new_core made.client made.size made.calls) steps (books made.client made.size made.calls steps) may
+
 -- where no trace is open, the core has no page
 no_page : Books → (made : Made) (pieces : List Piece) (later all : List Segment) (w : Writing) → IsWriting made pieces later all w → w.core.trace ≡ None → w.core.current ≡ None
 no_page books made pieces later all w is none =
     let s = is.comes in
-    let book = books made.client made.size made.calls is.steps s.may in
+    let book = book_of books made is.steps s.may in
     ap (λ (c : Core Leased). c.current) s.core ∙ book.closed (sym book.trace ∙ ap (λ (c : Core Leased). c.trace) (sym s.core) ∙ none)
 
 pub begin_done : OneMore → Books → (made : Made) (ops : List Operation) (trace : TraceId) (old new : PlainClient) → May old.core (Began trace) → new ≡ record old { core = after_step old.core (Began trace) } → HasDone made ops old → HasDone made (ops ++ Begin trace ∷ []) new

@@ -24,9 +24,9 @@ some_page core buffer p used None some none = absurd cc
 some_page core buffer p used (Some trace) some none = absurd cc
 
 pub sound_supplied : {g : _} (old : Writing) (drawer : Drawing) (chunks : Outgoing (Buffer Leased) Key) (draw : Drawn Leased g) (moment : ℕ) (payload : List ℕ) (more : Bool)
-    → IsSound old → GoesOn old.chunks chunks → length (sent chunks) ≤ chunks.room → Draws old.drawer draw drawer
+    → IsSound old → GoesOn old.chunks chunks → Draws old.drawer draw drawer
     → IsSound (record { core = after_step (closed old.core) (supplied draw moment payload more); drawer = drawer; chunks = chunks })
-sound_supplied old drawer chunks (drawn.Got held stamp) moment payload more s goes room draws =
+sound_supplied old drawer chunks (drawn.Got held stamp) moment payload more s goes draws =
     let key : chunks.key ≡ old.chunks.key = goes.same.1 in
     let size : drawer.size ≡ old.drawer.size = ap (λ (d : Drawing). d.size) draws.0 in
     let pool : drawer.pool ≡ old.drawer.pool = ap (λ (d : Drawing). d.pool) draws.0 in
@@ -41,9 +41,8 @@ sound_supplied old drawer chunks (drawn.Got held stamp) moment payload more s go
       named = record { owner = owner; pool = name; size = wide };
       ready = λ some none. some_page (closed old.core) (Some (buffer_of held)) (piece moment payload) _ old.core.trace some none;
       held = next_held chunks.key (closed old.core) (Some (buffer_of held)) (piece moment payload) old.core.trace (lease ∙ sym pool ∙ sym name, chunk ∙ s.drawn ∙ sym wide) owner;
-      room = room;
     }
-sound_supplied old drawer chunks (drawn.Empty stamp) moment payload more s goes room draws =
+sound_supplied old drawer chunks (drawn.Empty stamp) moment payload more s goes draws =
     let key : chunks.key ≡ old.chunks.key = goes.same.1 in
     let size : drawer.size ≡ old.drawer.size = ap (λ (d : Drawing). d.size) draws.0 in
     let pool : drawer.pool ≡ old.drawer.pool = ap (λ (d : Drawing). d.pool) draws.0 in
@@ -54,12 +53,11 @@ sound_supplied old drawer chunks (drawn.Empty stamp) moment payload more s goes 
       named = record { owner = owner; pool = ap (λ (k : Key). k.pool) key ∙ s.named.pool ∙ sym pool; size = ap (λ (k : Key). k.size) key ∙ s.named.size };
       ready = λ some none. some_page (closed old.core) None (piece moment payload) _ old.core.trace some none;
       held = next_held chunks.key (closed old.core) None (piece moment payload) old.core.trace tt owner;
-      room = room;
     }
 
--- as long as the sender is the same, and was given nothing
-pub sound_kept : (old : Writing) (chunks : Outgoing (Buffer Leased) Key) → IsSound old → IsSameSender old.chunks chunks → sent chunks ≡ sent old.chunks → IsSound (record { core = old.core; drawer = old.drawer; chunks = chunks })
-sound_kept old chunks s same items =
+-- as long as the sender is the same
+pub sound_kept : (old : Writing) (chunks : Outgoing (Buffer Leased) Key) → IsSound old → IsSameSender old.chunks chunks → IsSound (record { core = old.core; drawer = old.drawer; chunks = chunks })
+sound_kept old chunks s same =
     let key : chunks.key ≡ old.chunks.key = same.1 in
     record {
       least = s.least;
@@ -67,7 +65,6 @@ sound_kept old chunks s same items =
       named = subst (λ (k : Key). IsNamed k old.core old.drawer) (sym key) s.named;
       ready = s.ready;
       held = subst (λ (k : Key). MatchOption (handed old.core) (Unit {0}) (IsChunkOf k)) (sym key) s.held;
-      room = omega (arith, s.room, ap length items, same.3);
     }
 
 -- after the ends were brought together
@@ -76,5 +73,5 @@ pub sound_met : (old : Writing) (drawer : Drawing) (chunks : Outgoing (Buffer Le
 sound_met old drawer chunks floor taken s drawer_is chunks_are =
     let heard : Outgoing (Buffer Leased) Key = record old.chunks { taken = taken } in
     let is : IsSound (record { core = old.core; drawer = with_floor old.drawer floor; chunks = heard }) =
-    record { least = s.least; drawn = s.drawn; named = record { owner = s.named.owner; pool = s.named.pool; size = s.named.size }; ready = s.ready; held = s.held; room = s.room } in
+    record { least = s.least; drawn = s.drawn; named = record { owner = s.named.owner; pool = s.named.pool; size = s.named.size }; ready = s.ready; held = s.held } in
     subst₂ (λ (d : Drawing) (c : Outgoing (Buffer Leased) Key). IsSound (record { core = old.core; drawer = d; chunks = c })) (sym drawer_is) (sym chunks_are) is

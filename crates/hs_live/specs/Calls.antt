@@ -27,7 +27,7 @@ pub record IsUnused {T : Type 0} (client : PlainClient) (s : Outgoing T Key) : T
 -- Nothing was done with its parts, and the keys of its links name its client, its pool, the size of the pool's chunks, one
 -- number of nodes, and declared ids with those of the autotriggers among them.
 pub record IsNew (client : PlainClient) : Type 0 where
-  pub core : client.core ≡ new_core client.core.client client.core.size client.core.calls
+  pub core : client.core ≡ record (new_core client.core.client client.core.size client.core.calls) { keeps = client.core.keeps }
   pub autos : AllByRecursion (λ (watch : Watch). HasSampled watch []) client.autos
   pub declared : AllByRecursion (λ (watch : Watch). is_declared client.triggers.key.rules (fired_by watch.rule) ≡ true) client.autos
   pub drawer : client.drawer.size ≡ client.core.size
@@ -40,7 +40,7 @@ pub record IsNew (client : PlainClient) : Type 0 where
 -- what it was made with
 abbrev pub made_of : PlainClient → Made
 made_of client =
-    record { client = client.core.client; size = client.core.size; calls = client.core.calls; autos = map (λ (watch : Watch). watch.rule) client.autos; answers = client.drawer.answers }
+    record { client = client.core.client; size = client.core.size; calls = client.core.calls; autos = map (λ (watch : Watch). watch.rule) client.autos; answers = client.drawer.answers; keeps = client.core.keeps }
 
 -- ---- answers
 

@@ -7,7 +7,7 @@ use Rattle.hs_words.specs.declared.token.Held.{Held}
 use Rattle.hs_words.specs.Buffers.{Buffer, buffer_of}
 use Rattle.hs_client.specs.Core.{Core}
 use Rattle.hs_auto.specs.Watching.{Watch}
-use Rattle.hs_link.specs.Contents.{Outgoing, Incoming, sent, IsBeginning, OneBegins, IsSameSender, IsSameReceiver, SeemsFull, AreEnds, Contains}
+use Rattle.hs_link.specs.Contents.{Outgoing, Incoming, sent, IsBeginning, OneBegins, IsSameSender, IsSameReceiver, SeemsFull, TakesPlaces, AreEnds, Contains}
 use Rattle.hs_ring.specs.Parts.{Leased, Drawing, Giving}
 use Rattle.hs_live.specs.Keys.{Key}
 
@@ -48,6 +48,7 @@ module _ {T F : Type 0} where
   pub record Flushes (s t : Outgoing T F) : Type 0 where
     pub goes : GoesOn s t
     pub items : sent t ≡ sent s
+    pub places : TakesPlaces 0 s t
     pub kept : 0 < length t.outbox → SeemsFull t
 
   -- the sender after it heard how many items the receiver took

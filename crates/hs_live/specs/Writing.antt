@@ -1,6 +1,6 @@
 -- How a client's pages come about: by steps of its core, whose draws are those that its drawer answered, and whose full
 -- chunks were sent. What its operations are to record follows from the operations alone, and the steps have recorded it.
-use Rattle.std.specs.Prelude.{◌≡◌, ℕ, ◌+◌, ◌≤◌, List, [], ◌∷◌, ◌++◌, length, reverse, Option, Some, None, IsSome, MatchOption, refl}
+use Rattle.std.specs.Prelude.{◌≡◌, ℕ, ◌+◌, ◌≤◌, Bool, List, [], ◌∷◌, ◌++◌, length, reverse, Option, Some, None, IsSome, MatchOption, refl}
 use Rattle.std.specs.List.{AllByRecursion}
 use Rattle.hs_base.specs.declared.ids.ClientId.{ClientId}
 use Rattle.hs_base.specs.declared.settings.AutoRule.{AutoRule}
@@ -27,6 +27,8 @@ pub record Made : Type 0 where
   pub calls : ℕ
   pub autos : List AutoRule
   pub answers : List Answer
+  -- whether its core keeps its book
+  pub keeps : Bool
 
 -- a client without its crumbs and triggers
 pub record Writing : Type 0 where
@@ -39,7 +41,7 @@ writing_of client = record { core = client.core; drawer = client.drawer; chunks 
 
 -- the core as it was made
 abbrev pub new_of : Made → Core Leased
-new_of made = new_core made.client made.size made.calls
+new_of made = record (new_core made.client made.size made.calls) { keeps = made.keeps }
 
 -- ---- what was drawn
 
@@ -127,6 +129,7 @@ pub record Spends (calls : ℕ) (old new : Writing) : Type 0 where
   pub owner : new.core.client ≡ old.core.client
   pub size : new.core.size ≡ old.core.size
   pub calls_are : new.core.calls ≡ old.core.calls
+  pub keeps : new.core.keeps ≡ old.core.keeps
   pub counted : new.core.counted ≡ old.core.counted + calls
   pub drawer : DrawsOn old.drawer new.drawer
   pub left : old.drawer.left ≤ new.drawer.left + calls
@@ -149,7 +152,6 @@ pub record IsSound (w : Writing) : Type 0 where
   pub named : IsNamed w.chunks.key w.core w.drawer
   pub ready : IsSome w.core.trace → w.core.current ≡ None → w.core.used ≡ 0
   pub held : MatchOption (handed w.core) (Unit {0}) (IsChunkOf w.chunks.key)
-  pub room : length (sent w.chunks) ≤ w.chunks.room
 
 -- ---- examples
 

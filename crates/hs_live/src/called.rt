@@ -22,10 +22,29 @@ pub enum Called {
     TooWide,
 }
 
+/// What a client has left: calls that its core may count, draws, and items that each link takes whatever the agent does.
+#[derive(Clone, Copy)]
+pub struct Left {
+    pub calls: u32,
+    pub draws: u32,
+    pub chunks: u32,
+    pub crumbs: u32,
+    pub triggers: u32,
+}
+
 /// What a client gives back: what it noted, and its ends.
 #[derive(Drop)]
 pub struct Closed {
     pub book: ClientBook,
+    pub drawer: Drawer,
+    pub chunks: Sender<Held<Lease>, ClientKey>,
+    pub crumbs: Sender<Crumb, ClientKey>,
+    pub triggers: Sender<Trigger, ClientKey>,
+}
+
+/// The ends that a client gives back.
+#[derive(Drop)]
+pub struct Parted {
     pub drawer: Drawer,
     pub chunks: Sender<Held<Lease>, ClientKey>,
     pub crumbs: Sender<Crumb, ClientKey>,

@@ -7,7 +7,7 @@ ghost use Rattle.hs_records.specs.Records.{piece_count};
 ghost use Rattle.hs_client.specs.Core.{is_null, Fits, Wrote};
 ghost use Rattle.hs_client.specs.Calls.{May};
 ghost use Rattle.hs_base.specs.declared.limits.TheConstants.{FRAME_COST};
-ghost use Rattle.hs_link.specs.Contents.{sent};
+ghost use Rattle.hs_link.specs.Contents.{sent, HasPlaces, TakesPlaces};
 ghost use Rattle.hs_live.specs.declared.called.Called.TheVariants.{Done};
 ghost use Rattle.hs_live.specs.Keys.{IsTriggerOf};
 ghost use Rattle.hs_live.specs.Live.{outgoing, incoming, GoesOn, Sends, Flushes};
@@ -15,7 +15,7 @@ ghost use Rattle.hs_live.specs.Writing.{Spends, writing_of};
 ghost use Rattle.hs_live.specs.Done.{HasDone, Does, DoesNothing};
 ghost use Rattle.hs_live.specs.Calls.{IsNew, made_of, BeginsBy, PointsBy, NotesBy, EndsBy, begun, counts, IsAutoOf, WritesOnly, AreMates, MeetsAt};
 
-use crate::called::{Called, Closed};
+use crate::called::{Called, Closed, Left, Parted};
 use crate::key::ClientKey;
 use crate::links::meet_at;
 use crate::writer::Writer;
@@ -87,11 +87,12 @@ impl Client {
     pub fn point(&mut self, moment: u64, payload: &[u8]) -> Called
         requires left { self.old.core.counted + piece_count self.old.core.size (length payload.now) ≤ self.old.core.calls }
         requires draws { piece_count self.old.core.size (length payload.now) ≤ self.old.drawer.left }
-        requires room { length (sent self.old.chunks) + piece_count self.old.core.size (length payload.now) ≤ self.old.chunks.room }
+        requires places { HasPlaces (piece_count self.old.core.size (length payload.now)) self.old.chunks }
         ensures answer { PointsBy self.old.core (length payload.now) result }
         ensures does { Does (Point moment payload.now) result self.old self.new }
         ensures trace { self.new.core.trace ≡ self.old.core.trace }
         ensures spends { Spends (counts (piece_count self.old.core.size (length payload.now)) result) (writing_of self.old) (writing_of self.new) }
+        ensures places { TakesPlaces (piece_count self.old.core.size (length payload.now)) self.old.chunks self.new.chunks }
         ensures only { WritesOnly self.old self.new }
     {
         if self.has_room(payload.len()) {
@@ -120,6 +121,7 @@ impl Client {
         ensures does { Does (Point moment payload.now) result self.old self.new }
         ensures trace { self.new.core.trace ≡ self.old.core.trace }
         ensures spends { Spends (counts (piece_count self.old.core.size (length payload.now)) result) (writing_of self.old) (writing_of self.new) }
+        ensures places { TakesPlaces (piece_count self.old.core.size (length payload.now)) self.old.chunks self.new.chunks }
         ensures only { WritesOnly self.old self.new }
     {
         one_operation_more();
@@ -134,11 +136,12 @@ impl Client {
     fn point_apart(&mut self, moment: u64, payload: &[u8]) -> Called
         requires left { self.old.core.counted + piece_count self.old.core.size (length payload.now) ≤ self.old.core.calls }
         requires draws { piece_count self.old.core.size (length payload.now) ≤ self.old.drawer.left }
-        requires room { length (sent self.old.chunks) + piece_count self.old.core.size (length payload.now) ≤ self.old.chunks.room }
+        requires places { HasPlaces (piece_count self.old.core.size (length payload.now)) self.old.chunks }
         ensures answer { PointsBy self.old.core (length payload.now) result }
         ensures does { Does (Point moment payload.now) result self.old self.new }
         ensures trace { self.new.core.trace ≡ self.old.core.trace }
         ensures spends { Spends (counts (piece_count self.old.core.size (length payload.now)) result) (writing_of self.old) (writing_of self.new) }
+        ensures places { TakesPlaces (piece_count self.old.core.size (length payload.now)) self.old.chunks self.new.chunks }
         ensures only { WritesOnly self.old self.new }
     {
         one_operation_more();
@@ -154,40 +157,42 @@ impl Client {
 
     /// Leaves a crumb: the open trace goes on to this node.
     pub fn crumb(&mut self, node: NodeId) -> Called
-        requires room { length (sent self.old.crumbs) < self.old.crumbs.room }
+        requires place { HasPlaces 1 self.old.crumbs }
         requires node { node.0 < self.old.crumbs.key.nodes }
         ensures answer { NotesBy self.old.core result }
         ensures does { Does (LeaveCrumb node) result self.old self.new }
         ensures only { self.new ≡ record self.old { crumbs = self.new.crumbs } }
         ensures crumbs { GoesOn self.old.crumbs self.new.crumbs }
         ensures most { length (sent self.new.crumbs) ≤ length (sent self.old.crumbs) + 1 }
+        ensures places { TakesPlaces 1 self.old.crumbs self.new.crumbs }
     {
         one_operation_more();
         let Some(trace) = self.writer.core.trace() else {
             return Called::NoTrace;
         };
-        self.crumbs.send(Crumb { trace, node });
+        self.crumbs.send_within(Crumb { trace, node });
         Called::Done
     }
 
     /// Fires a trigger. It needs no open trace.
     pub fn trigger(&mut self, trigger: Trigger) -> Called
-        requires room { length (sent self.old.triggers) < self.old.triggers.room }
+        requires place { HasPlaces 1 self.old.triggers }
         requires declared { IsTriggerOf self.old.triggers.key trigger }
         ensures answer { result ≡ Done }
         ensures does { Does (Fire trigger) result self.old self.new }
         ensures only { self.new ≡ record self.old { triggers = self.new.triggers } }
         ensures triggers { Sends trigger self.old.triggers self.new.triggers }
+        ensures places { TakesPlaces 1 self.old.triggers self.new.triggers }
     {
         one_operation_more();
-        self.triggers.send(trigger);
+        self.triggers.send_within(trigger);
         Called::Done
     }
 
     /// Gives an autotrigger, by its number, a value of the open trace. Where it fires, a trigger of its id goes to the
     /// agent.
     pub fn sample(&mut self, moment: u64, auto: u32, value: u64, trigger: TriggerId) -> Called
-        requires room { length (sent self.old.triggers) < self.old.triggers.room }
+        requires place { HasPlaces 1 self.old.triggers }
         requires auto { IsAutoOf self.old auto trigger }
         ensures answer { NotesBy self.old.core result }
         ensures does { Does (Sample moment auto value) result self.old self.new }
@@ -195,6 +200,7 @@ impl Client {
         ensures rules { map (λ (watch : Watch). watch.rule) self.new.autos ≡ map (λ (watch : Watch). watch.rule) self.old.autos }
         ensures triggers { GoesOn self.old.triggers self.new.triggers }
         ensures most { length (sent self.new.triggers) ≤ length (sent self.old.triggers) + 1 }
+        ensures places { TakesPlaces 1 self.old.triggers self.new.triggers }
     {
         one_operation_more();
         let Some(lead) = self.writer.core.trace() else {
@@ -204,7 +210,7 @@ impl Client {
         match autos[auto as usize].sample(value, lead) {
             Sampled::Quiet => {}
             Sampled::Fired { laterals } => {
-                self.triggers.send(Trigger {
+                self.triggers.send_within(Trigger {
                     moment,
                     trigger,
                     lead,
@@ -217,11 +223,12 @@ impl Client {
 
     /// Closes the open trace.
     pub fn end(&mut self) -> Called
-        requires { length (sent self.old.chunks) < self.old.chunks.room }
+        requires { HasPlaces 1 self.old.chunks }
         ensures answer { EndsBy self.old.core result }
         ensures does { Does End result self.old self.new }
         ensures trace { result ≡ Done → self.new.core.trace ≡ None }
         ensures spends { Spends (counts 1 result) (writing_of self.old) (writing_of self.new) }
+        ensures places { TakesPlaces 1 self.old.chunks self.new.chunks }
         ensures only { WritesOnly self.old self.new }
     {
         one_operation_more();
@@ -241,6 +248,26 @@ impl Client {
         let crumbs = self.crumbs.flush();
         let triggers = self.triggers.flush();
         chunks + crumbs + triggers
+    }
+
+    /// What the client has left. Each call asks for some of it.
+    pub fn left(&self) -> Left
+        ensures calls { self.now.core.counted + result.calls ≡ self.now.core.calls }
+        ensures draws { result.draws ≡ self.now.drawer.left }
+        ensures chunks { HasPlaces result.chunks self.now.chunks }
+        ensures crumbs { HasPlaces result.crumbs self.now.crumbs }
+        ensures triggers { HasPlaces result.triggers self.now.triggers }
+    {
+        let chunks = self.writer.chunks.places();
+        let crumbs = self.crumbs.places();
+        let triggers = self.triggers.places();
+        Left {
+            calls: self.writer.core.left(),
+            draws: self.writer.drawer.left(),
+            chunks,
+            crumbs,
+            triggers,
+        }
     }
 
     /// The number of draws so far that found the pool empty.
@@ -271,9 +298,10 @@ impl Client {
         giver.meet(&mut writer.drawer);
     }
 
-    /// Gives back what the client noted, and its ends.
+    /// Gives back what the client noted, which it has to keep, and its ends.
     pub fn close(self) -> Closed
-        requires { IsNone self.core.trace }
+        requires closed { IsNone self.core.trace }
+        requires keeps { self.core.keeps ≡ true }
         ensures book { (result.book.client ≡ self.core.client) × (result.book.draws.items ≡ self.core.draws) × (result.book.pages.items ≡ self.core.pages) }
         ensures drawer { result.drawer ≡ self.drawer }
         ensures chunks { outgoing result.chunks ≡ self.chunks }
@@ -293,6 +321,33 @@ impl Client {
         } = writer;
         Closed {
             book: core.finish(),
+            drawer,
+            chunks,
+            crumbs,
+            triggers,
+        }
+    }
+
+    /// Gives back its ends alone. It may keep no book.
+    pub fn part(self) -> Parted
+        requires { IsNone self.core.trace }
+        ensures drawer { result.drawer ≡ self.drawer }
+        ensures chunks { outgoing result.chunks ≡ self.chunks }
+        ensures crumbs { result.crumbs ≡ self.crumbs }
+        ensures triggers { result.triggers ≡ self.triggers }
+    {
+        let Client {
+            writer,
+            autos: _,
+            crumbs,
+            triggers,
+        } = self;
+        let Writer {
+            core: _,
+            drawer,
+            chunks,
+        } = writer;
+        Parted {
             drawer,
             chunks,
             crumbs,

@@ -10,7 +10,7 @@ mod links;
 mod port;
 mod writer;
 
-pub use called::{Called, Closed};
+pub use called::{Called, Closed, Left, Parted};
 pub use client::Client;
 pub use key::ClientKey;
 pub use laws::{all_was_sent, ends_go_on, what_was_done_was_sent};

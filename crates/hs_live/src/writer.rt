@@ -7,7 +7,7 @@ ghost use Rattle.hs_records.specs.Records.{piece_count, record_pieces};
 ghost use Rattle.hs_words.specs.Buffers.{buffer_in};
 ghost use Rattle.hs_client.specs.Core.{number_after, NeedsPage, Wrote};
 ghost use Rattle.hs_client.specs.Calls.{May};
-ghost use Rattle.hs_link.specs.Contents.{sent};
+ghost use Rattle.hs_link.specs.Contents.{sent, HasPlaces};
 ghost use Rattle.hs_live.specs.declared.called.Called.TheVariants.{Done};
 ghost use Rattle.hs_live.specs.Keys.{IsChunkOf};
 ghost use Rattle.hs_live.specs.Live.{outgoing, GoesOn};
@@ -98,7 +98,7 @@ impl Writer {
         requires open { IsSome self.old.core.trace }
         requires left { self.old.core.counted + piece_count self.old.core.size (length payload.now) ≤ self.old.core.calls }
         requires draws { piece_count self.old.core.size (length payload.now) ≤ self.old.drawer.left }
-        requires room { length (sent (outgoing self.old.chunks)) + piece_count self.old.core.size (length payload.now) ≤ self.old.chunks.room }
+        requires places { HasPlaces (piece_count self.old.core.size (length payload.now)) (outgoing self.old.chunks) }
         ensures sound { IsSoundIn self.new }
         ensures trace { self.new.core.trace ≡ self.old.core.trace }
         ensures number { self.new.core.number ≡ self.old.core.number + 1 }
@@ -124,7 +124,7 @@ impl Writer {
         requires open { IsSome self.old.core.trace }
         requires left { self.old.core.counted < self.old.core.calls }
         requires draws { 1 ≤ self.old.drawer.left }
-        requires room { length (sent (outgoing self.old.chunks)) < self.old.chunks.room }
+        requires place { HasPlaces 1 (outgoing self.old.chunks) }
         requires narrow { FRAME_COST + length payload.now ≤ self.old.core.size }
         ensures sound { IsSoundIn self.new }
         ensures trace { self.new.core.trace ≡ self.old.core.trace }
@@ -149,7 +149,7 @@ impl Writer {
         requires open { IsSome self.old.core.trace }
         requires left { self.old.core.counted < self.old.core.calls }
         requires draws { 1 ≤ self.old.drawer.left }
-        requires room { length (sent (outgoing self.old.chunks)) < self.old.chunks.room }
+        requires place { HasPlaces 1 (outgoing self.old.chunks) }
         requires narrow { FRAME_COST + length payload.now ≤ self.old.core.size }
         requires needs { NeedsPage self.old.core (length payload.now) }
         ensures sound { IsSoundIn self.new }
@@ -173,7 +173,7 @@ impl Writer {
     /// Ends the open trace, and sends its last chunk.
     pub(crate) fn end(&mut self) -> Called
         requires sound { IsSoundIn self.old }
-        requires room { length (sent (outgoing self.old.chunks)) < self.old.chunks.room }
+        requires place { HasPlaces 1 (outgoing self.old.chunks) }
         ensures sound { IsSoundIn self.new }
         ensures answer { EndsBy self.old.core result }
         ensures refused { (result ≡ Done → ⊥) → self.new ≡ self.old }
@@ -196,12 +196,12 @@ impl Writer {
 
 /// Sends a chunk that was handed out, if one was.
 fn send_chunk(chunks: &mut Sender<Held<Lease>, ClientKey>, handed: Option<Held<Lease>>)
-    requires room { length (sent (outgoing chunks.old)) < chunks.old.room }
+    requires place { HasPlaces 1 (outgoing chunks.old) }
     requires fact { MatchOption (buffer_in handed) (Unit {0}) (IsChunkOf chunks.old.key) }
     ensures goes { GoesOn (outgoing chunks.old) (outgoing chunks.new) }
     ensures sent { sent (outgoing chunks.new) ≡ sent (outgoing chunks.old) ++ option_to_list (buffer_in handed) }
 {
     if let Some(held) = handed {
-        chunks.send(held);
+        chunks.send_within(held);
     }
 }

@@ -1,8 +1,9 @@
 -- The book of a client that has done all its operations.
-use Rattle.std.proofs.Common.{◌≡◌, ℕ, List, [], ◌∷◌, length, map, take, Option, None, IsNone, refl, sym, ap, ◌∙◌, subst, arith}
+use Rattle.std.proofs.Common.{◌≡◌, ℕ, true, List, [], ◌∷◌, length, map, take, Option, None, IsNone, refl, sym, ap, ◌∙◌, subst, arith}
 use Rattle.hs_replay_client.proofs.Prelude.{append-nil, take_all, is_some, flat_map, is_some_false, ClientId, TraceId, Core, Step, Began, Wrote, Needed, Supplied, Ended_, Refused, new_core, AreSteps, IsBook, after, Draw, Operation, PlainSettings, PlainReplayClient, new_of, Gone, HasDone, ReplayClientIsAt, IsDone, gone_of, made_for}
 use Rattle.hs_client.specs.Core.{all_pages}
 use Rattle.hs_client.specs.Calls.{note_of}
+use Rattle.hs_client.proofs.Bare.{after_keeps}
 use Rattle.hs_journal.specs.Books.{PlainClientBook}
 use Rattle.hs_records.specs.Pages.{pages_of, segment_pages}
 use Rattle.hs_law_sends.proofs.OneMore.{none_open}
@@ -28,6 +29,12 @@ pub is_closed : (player : PlainReplayClient) → IsDone player → IsNone player
 is_closed player is =
     let has = all_done is.settings is.client is.ops is.drawn is.k is.l is.m player is.at in
     ap (λ (t : Option TraceId). is_some t) has.1.trace ∙ none_open is.ops is.at.playable.client.bracketed
+
+pub keeps_book : (player : PlainReplayClient) → IsDone player → player.works.core.keeps ≡ true
+keeps_book player is =
+    let has = all_done is.settings is.client is.ops is.drawn is.k is.l is.m player is.at in
+    let writing = has.1.writes [] in
+    ap (λ (c : Core (Unit {0})). c.keeps) writing.comes.core ∙ after_keeps (new_of (made_for is.settings is.client is.ops)) writing.steps
 
 -- the notes of all pages, where there is no current one
 closed_pages : (core : Core (Unit {0})) → core.current ≡ None → core.pages ≡ all_pages core

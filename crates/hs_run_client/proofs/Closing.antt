@@ -1,9 +1,11 @@
 -- A client that has done all its operations.
-use Rattle.std.proofs.Common.{◌≡◌, List, length, map, take, Option, None, IsNone, sym, ap, ◌∙◌, subst, arith}
+use Rattle.std.proofs.Common.{◌≡◌, true, List, [], length, map, take, Option, None, IsNone, sym, ap, ◌∙◌, subst, arith}
 use Rattle.hs_run_client.proofs.Prelude.{append-nil, is_some, is_some_false, ClientId, TraceId, Core, PlainClientBook, PlainClient, Made, HasDone, HasSent, pages_of, Operation, PlainSettings, Leased, open_after, PlainClientActor, ClientActorIsAt, IsDone, Notes, made_for}
 use Rattle.std.proofs.lemmas.List.{take_all}
 use Rattle.hs_client.specs.Core.{all_pages}
 use Rattle.hs_client.specs.Calls.{note_of}
+use Rattle.hs_client.proofs.Bare.{after_keeps}
+use Rattle.hs_live.specs.Writing.{new_of}
 use Rattle.hs_law_sends.proofs.OneMore.{none_open}
 
 all_done : (settings : PlainSettings) (id : ClientId) (ops : List Operation) (caller : PlainClientActor) → ClientActorIsAt settings id ops caller → caller.done ≡ length ops → HasDone (made_for settings id ops) ops caller.client
@@ -15,6 +17,11 @@ pub is_closed : (caller : PlainClientActor) → IsDone caller → IsNone caller.
 is_closed caller is =
     let has = all_done is.settings is.client is.ops caller is.at is.all in
     ap (λ (t : Option TraceId). is_some t) has.trace ∙ none_open is.ops is.at.playable.client.bracketed
+
+pub keeps_book : (caller : PlainClientActor) → IsDone caller → caller.client.core.keeps ≡ true
+keeps_book caller is =
+    let writing = is.at.inside.writes [] in
+    ap (λ (c : Core Leased). c.keeps) writing.comes.core ∙ after_keeps (new_of (made_for is.settings is.client is.ops)) writing.steps
 
 -- the notes of all pages, where there is no current one
 closed_pages : (core : Core Leased) → core.current ≡ None → core.pages ≡ all_pages core

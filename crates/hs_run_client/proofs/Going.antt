@@ -1,8 +1,9 @@
 -- The next operation of a client may be done, and then the client stands behind it.
-use Rattle.std.proofs.Common.{◌≡◌, ℕ, ◌+◌, ◌<◌, true, List, ◌∷◌, length, map, take, drop, Option, None, inl, inr, sym, ap, ◌∙◌, subst, arith}
+use Rattle.std.proofs.Common.{◌≡◌, ℕ, ◌+◌, ◌^◌, ◌<◌, ◌≤◌, true, length-append, List, ◌∷◌, length, map, take, drop, Option, None, inl, inr, sym, ap, ◌∙◌, subst, arith}
 use Rattle.hs_run_client.proofs.Prelude.{length-map, is_some, slice_get, AllByRecursion, is_some_false, Watch, ClientId, TraceId, AutoRule, TriggerRule, is_declared, Outgoing, sent, Done, HasDone, Does, DoesNothing, Key, PlainClient, IsDrawn, Answer, Operation, Begin, Point, End, Fire, Sample, PlainSettings, AreBracketed, open_after, PlainClientActor, Uses, MayDo, ClientActorIsAt, made_for}
 use Rattle.std.proofs.lemmas.Option.{slice_get-map, slice_get_cases}
 use Rattle.std.specs.Option.{option_map}
+use Rattle.hs_link.specs.Contents.{HasPlaces}
 use Rattle.hs_live.proofs.Cuts.{all_drawn}
 use Rattle.hs_records.specs.Plain as plain
 use Rattle.hs_records.specs.Records.{piece_count}
@@ -23,6 +24,12 @@ rule_at rules auto client same within =
       | inr past ↦ absurd (omega (arith, past.0, within, ap length same, length-map client.autos (λ (w : Watch). w.rule)))
     ]
 
+-- a link that has room for all that is sent has places
+has_places : {T : Type 0} (more : ℕ) (s : Outgoing T Key) → length (sent s) + more ≤ s.room → s.room < 2 ^ 32 → HasPlaces more s
+has_places more s room few =
+    let items = length-append s.put s.outbox in
+    (omega (arith, items, room), omega (arith, items, room, few))
+
 may_do_so : (settings : PlainSettings) (version : ℕ) (id : ClientId) (rest : List Operation) (op : Operation) (client : PlainClient) → map (λ (w : Watch). w.rule) client.autos ≡ settings.autos → IsClientOf settings id client
     → HasEnough settings.size (op ∷ rest) client → AreBracketed (is_some client.core.trace) (op ∷ rest) → IsOperation version settings op → MayDo settings.autos op client
 may_do_so settings version id rest (Begin trace) client same is_of enough bracketed word = (omega (arith, enough.calls), is_some_false client.core.trace bracketed.0)
@@ -33,15 +40,15 @@ may_do_so settings version id rest (Point moment payload) client same is_of enou
       few = word.1;
       calls = omega (arith, enough.calls);
       draws = omega (arith, enough.draws);
-      room = omega (arith, enough.chunks);
+      places = has_places _ client.chunks (omega (arith, enough.chunks)) (omega (arith, enough.rooms));
     })
 may_do_so settings version id rest (plain.Crumb node) client same is_of enough bracketed word =
-    (bracketed.0, omega (arith, enough.crumbs), omega (arith, word, is_of.nodes))
-may_do_so settings version id rest End client same is_of enough bracketed word = (omega (arith, enough.calls), bracketed.0, omega (arith, enough.chunks))
+    (bracketed.0, has_places _ client.crumbs (omega (arith, enough.crumbs)) (omega (arith, enough.rooms)), omega (arith, word, is_of.nodes))
+may_do_so settings version id rest End client same is_of enough bracketed word = (omega (arith, enough.calls), bracketed.0, has_places _ client.chunks (omega (arith, enough.chunks)) (omega (arith, enough.rooms)))
 may_do_so settings version id rest (Fire trigger) client same is_of enough bracketed word =
-    (omega (arith, enough.triggers), subst (λ (rules : List TriggerRule). is_declared rules trigger.trigger ≡ true) (sym is_of.rules) word.1)
+    (has_places _ client.triggers (omega (arith, enough.triggers)) (omega (arith, enough.rooms)), subst (λ (rules : List TriggerRule). is_declared rules trigger.trigger ≡ true) (sym is_of.rules) word.1)
 may_do_so settings version id rest (Sample moment auto value) client same is_of enough bracketed word =
-    (bracketed.0, omega (arith, enough.triggers), rule_at settings.autos auto client same word.1)
+    (bracketed.0, has_places _ client.triggers (omega (arith, enough.triggers)) (omega (arith, enough.rooms)), rule_at settings.autos auto client same word.1)
 
 abbrev calling : ℕ → PlainClient → PlainClientActor
 calling place client = record { done = place; client = client }
@@ -81,6 +88,7 @@ at_next settings id ops place op old new a is does uses =
             chunks = omega (arith, enough.chunks, uses.chunks.few, uses.chunks.goes.same.3, pieces);
             crumbs = omega (arith, enough.crumbs, uses.crumbs_are.few, uses.crumbs_are.goes.same.3);
             triggers = omega (arith, enough.triggers, uses.triggers_are.few, uses.triggers_are.goes.same.3);
+            rooms = omega (arith, enough.rooms, uses.chunks.goes.same.3, uses.crumbs_are.goes.same.3, uses.triggers_are.goes.same.3);
           };
       answered = subst (λ (answers : List Answer). AllByRecursion IsDrawn answers) (sym uses.draws.since) (all_drawn uses.draws.added old.drawer.answers uses.draws.drawn a.answered);
       few = omega (arith, a.few, uses.triggers_are.goes.same.3);
@@ -124,6 +132,7 @@ at_same settings id ops place old new a stays =
             chunks = omega (arith, enough.chunks, ap length stays.chunks.items, stays.chunks.room);
             crumbs = omega (arith, enough.crumbs, ap length stays.crumbs.items, stays.crumbs.room);
             triggers = omega (arith, enough.triggers, ap length stays.triggers.items, stays.triggers.room);
+            rooms = omega (arith, enough.rooms, stays.chunks.room, stays.crumbs.room, stays.triggers.room);
           };
       answered = subst (λ (answers : List Answer). AllByRecursion IsDrawn answers) (sym stays.answers) a.answered;
       few = omega (arith, a.few, stays.triggers.room);

@@ -1,5 +1,5 @@
 -- What a client sent, from the steps of its client's core.
-use Rattle.std.proofs.Common.{◌≡◌, ℕ, suc, ◌+◌, ◌≤◌, false, List, [], ◌∷◌, ◌++◌, length, map, take, drop, reverse, Option, Some, None, refl, sym, ap, ap₂, ◌∙◌, subst, arith}
+use Rattle.std.proofs.Common.{◌≡◌, ℕ, suc, ◌+◌, ◌≤◌, true, false, List, [], ◌∷◌, ◌++◌, length, map, take, drop, reverse, Option, Some, None, refl, sym, ap, ap₂, ◌∙◌, subst, arith}
 use Rattle.hs_run_client.proofs.Prelude.{append-nil, take-append-drop, is_some, slice_get, AllByRecursion, ClientId, Core, new_core, sent, PlainClient, Made, HasDone, HasSent, IsPlayable, Operation, PlainSettings, pages_of, Leased, Buffer, Answer, PoolName, client_pieces, PlainClientActor, ClientActorIsAt, made_for}
 use Rattle.std.proofs.lemmas.List.{length-take-le}
 use Rattle.hs_lists.proofs.Alls.{all_front}
@@ -103,10 +103,10 @@ abbrev calling : ℕ → PlainClient → PlainClientActor
 calling place client = record { done = place; client = client }
 
 so_far_of : Laws → (settings : PlainSettings) (id : ClientId) (front rest : List Operation) (calls : ℕ) (client : PlainClient) → IsPlayable settings (front ++ rest)
-    → HasDone (record { client = id; size = settings.size; calls = calls; autos = settings.autos; answers = [] }) front client
+    → HasDone (record { client = id; size = settings.size; calls = calls; autos = settings.autos; answers = []; keeps = true }) front client
     → length (sent client.triggers) ≤ client_pieces settings.size (front ++ rest) → HasSentSoFar settings id (front ++ rest) (calling (length front) client)
 so_far_of laws settings id front rest calls client playable h few =
-    let made : Made = record { client = id; size = settings.size; calls = calls; autos = settings.autos; answers = [] } in
+    let made : Made = record { client = id; size = settings.size; calls = calls; autos = settings.autos; answers = []; keeps = true } in
     let size = settings.size in
     let ops = front ++ rest in
     let n = length front in

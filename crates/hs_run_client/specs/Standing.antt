@@ -1,5 +1,5 @@
 -- Where a client stands between rounds, what a round does to it, and what it has sent by then.
-use Rattle.std.specs.Prelude.{◌≡◌, ◌↔◌, ℕ, ◌+◌, ◌<◌, ◌≤◌, Bool, IsTrue, List, [], ◌++◌, length, map, take, drop, slice_get, Option, Some}
+use Rattle.std.specs.Prelude.{◌≡◌, ◌↔◌, ℕ, ◌+◌, ◌^◌, ◌<◌, ◌≤◌, Bool, true, IsTrue, List, [], ◌++◌, length, map, take, drop, slice_get, Option, Some}
 use Rattle.std.specs.List.{AllByRecursion}
 use Rattle.hs_base.specs.declared.ids.ClientId.{ClientId}
 use Rattle.hs_client.specs.Calls.{note_of}
@@ -29,7 +29,7 @@ use Rattle.hs_run_client.specs.Counting.{crumbs_of, triggers_of}
 
 -- what a client is made with; its drawer has drawn nothing
 abbrev pub made_for : PlainSettings → ClientId → List Operation → Made
-made_for settings client ops = record { client = client; size = settings.size; calls = client_pieces settings.size ops; autos = settings.autos; answers = [] }
+made_for settings client ops = record { client = client; size = settings.size; calls = client_pieces settings.size ops; autos = settings.autos; answers = []; keeps = true }
 
 -- the key of the three links of a client of this giver's pool
 abbrev pub key_for : PlainSettings → ClientId → Giving → Key
@@ -42,6 +42,7 @@ pub record HasEnough (size : ℕ) (ops : List Operation) (client : PlainClient) 
   pub chunks : length (sent client.chunks) + client_pieces size ops ≤ client.chunks.room
   pub crumbs : length (sent client.crumbs) + crumbs_of ops ≤ client.crumbs.room
   pub triggers : length (sent client.triggers) + triggers_of ops ≤ client.triggers.room
+  pub rooms : client.chunks.room + client.crumbs.room + client.triggers.room < 2 ^ 32
 
 -- The client is this one, and the keys of its links name the settings' nodes and rules.
 pub record IsClientOf (settings : PlainSettings) (client : ClientId) (live : PlainClient) : Type 0 where

@@ -1,4 +1,4 @@
-//! A core that counts as many calls as may be, and one that counts none. What a client writes is shown by `examples/` and `cases/pages`.
+//! A core that counts as many calls as may be, one that counts none, and a bare one. What a client writes is shown by `examples/` and `cases/pages`.
 
 use crate::rows::row;
 use hs_base::limits::{MAX_OPERATIONS, MAX_SIZE, MIN_SIZE};
@@ -33,8 +33,16 @@ fn no_call(alloc: Global) -> Result<bool, Memory> {
     Ok(spent && book.draws.is_empty() && book.pages.is_empty())
 }
 
+/// A bare core counts as many calls as there are numbers, and takes no memory for them.
+fn bare_calls() -> bool {
+    let mut core = ClientCore::<()>::bare(OWNER, MIN_SIZE, u32::MAX);
+    let taken = opens_and_closes(&mut core, MAX_OPERATIONS);
+    taken && core.left() == u32::MAX - 2 * MAX_OPERATIONS
+}
+
 #[test]
 fn cores(rt: HostRuntime) {
     row(&rt, "most calls", most_calls(rt.alloc()));
     row(&rt, "no call", no_call(rt.alloc()));
+    row(&rt, "bare calls", Ok(bare_calls()));
 }

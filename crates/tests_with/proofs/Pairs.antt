@@ -5,6 +5,7 @@ use Rattle.std.specs.Prelude.{slice_get}
 use Rattle.atomic_table.specs.Seated.{TableId}
 use Rattle.hs_words.specs.declared.token.Held.{Held}
 use Rattle.hs_link.specs.Contents.{Outgoing, Incoming}
+use Rattle.hs_client.specs.Core.{Core}
 use Rattle.hs_ring.specs.Parts.{Leased, Giving, Drawing}
 use Rattle.hs_live.specs.Keys.{Key}
 use Rattle.hs_live.specs.Live.{PlainClient, Port, outgoing, incoming, is_told, ReceivesAt, MeetAt}
@@ -76,6 +77,7 @@ port_met port client port' client' met =
 pub client_met : (port : Port) (client : PlainClient) (port' : Port) (client' : PlainClient) → MeetsAt 0 port client port' client' → KeepsClient client client'
 client_met port client port' client' met =
     record {
+      keeps = ap (λ (core : Core Leased). core.keeps) met.core;
       chunks = link_met port.chunks port'.chunks client.chunks client'.chunks met.chunks;
       crumbs = link_met port.crumbs port'.crumbs client.crumbs client'.crumbs met.crumbs;
       triggers = link_met port.triggers port'.triggers client.triggers client'.triggers met.triggers;

@@ -20,9 +20,9 @@ can_fewer size m n client fewer can =
       size_is = can.size_is;
       calls = omega (arith, fewer, can.calls);
       draws = omega (arith, fewer, can.draws);
-      chunks = omega (arith, fewer, can.chunks);
-      crumbs = omega (arith, fewer, can.crumbs);
-      triggers = omega (arith, fewer, can.triggers);
+      chunks = (omega (arith, fewer, can.chunks.0), omega (arith, fewer, can.chunks.1));
+      crumbs = (omega (arith, fewer, can.crumbs.0), omega (arith, fewer, can.crumbs.1));
+      triggers = (omega (arith, fewer, can.triggers.0), omega (arith, fewer, can.triggers.1));
       nodes = can.nodes;
       declared = can.declared;
       autos = can.autos;
@@ -31,6 +31,7 @@ can_fewer size m n client fewer can =
 pub keeps_both : (a b c : PlainClient) → KeepsClient a b → KeepsClient b c → KeepsClient a c
 keeps_both a b c k l =
     record {
+      keeps = l.keeps ∙ k.keeps;
       chunks = l.chunks ∙ k.chunks;
       crumbs = l.crumbs ∙ k.crumbs;
       triggers = l.triggers ∙ k.triggers;
@@ -52,6 +53,7 @@ ports_both a b c k l =
 pub only_kept : (port port' : Port) (client client' : PlainClient) → KeepsPort port port' → KeepsClient client client' → IsOnly port client → IsOnly port' client'
 only_kept port port' client client' p k only =
     record {
+      keeps = k.keeps ∙ only.keeps;
       chunks = p.chunks ∙ only.chunks ∙ ap (λ (l : TableId). l ∷ []) (sym k.chunks);
       crumbs = p.crumbs ∙ only.crumbs ∙ ap (λ (l : TableId). l ∷ []) (sym k.crumbs);
       triggers = p.triggers ∙ only.triggers ∙ ap (λ (l : TableId). l ∷ []) (sym k.triggers);

@@ -1,5 +1,5 @@
-use Rattle.std.proofs.Common.{◌≡◌, ◌≤◌, true, length, map, refl, sym, subst, arith}
-use Rattle.hs_live.proofs.Prelude.{AllByRecursion, fired_by, is_declared, Crumb, Trigger, Watch, Outgoing, sent, Key, PlainClient, Port, IsMate, outgoing, incoming, live_of, writing_in}
+use Rattle.std.proofs.Common.{◌≡◌, true, map, refl, sym, subst, arith}
+use Rattle.hs_live.proofs.Prelude.{AllByRecursion, fired_by, is_declared, Trigger, Watch, Outgoing, Key, PlainClient, Port, IsMate, outgoing, incoming, live_of, writing_in}
 use Rattle.hs_live.specs.Calls.{MeetsAt}
 use Rattle.hs_live.proofs.Sound.{sound_met}
 use Rattle.hs_live.proofs.Ports.{heard_room, met_buffers, mate_of_buffers}
@@ -23,8 +23,6 @@ invariant_of-self c =
     let three = heard_room s.triggers c.meet_at-3.new.sender triggers.receiver triggers.sender_is in
     record {
       writer = sound_met (writing_in s.writer) c.meet.new.drawer (outgoing c.meet_at.new.sender) _ _ is.writer c.meet.ensures.drawer_hears seen.sender_is;
-      crumbs = subst (λ (o : Outgoing Crumb Key). length (sent o) ≤ o.room) (sym crumbs.sender_is) is.crumbs;
-      triggers = subst (λ (o : Outgoing Trigger Key). length (sent o) ≤ o.room) (sym triggers.sender_is) is.triggers;
       rooms = omega (arith, is.rooms, one, two, three);
       declared = subst (λ (o : Outgoing Trigger Key). AllByRecursion (λ (watch : Watch). is_declared o.key.rules (fired_by watch.rule) ≡ true) s.autos.items) (sym triggers.sender_is) is.declared;
     }

@@ -1,7 +1,13 @@
 use Rattle.std.proofs.Common.{ap, ◌∙◌}
 use Rattle.hs_live.proofs.Prelude.{piece_limit, writing_in}
-use Rattle.hs_live.proofs.Cuts.{IsCut, cut_further, cut_all}
+use Rattle.hs_live.proofs.Cuts.{IsCut, cut_further, cut_all, places_now}
 use Rattle.hs_live.proofs.writer.Writer.point.Goals as goal
+
+pub piece-requires-clause-place : goal.piece-requires-clause-place
+piece-requires-clause-place c = places_now c.args.moment c.args.payload.now c.loop-rest.rest.now (writing_in c.args.self.now) (writing_in c.loop-rest.self) c.loop-rest.invariant c.requires.places
+
+pub piece-requires-2-clause-place : goal.piece-requires-2-clause-place
+piece-requires-2-clause-place c = places_now c.args.moment c.args.payload.now c.loop-rest.rest.now (writing_in c.args.self.now) (writing_in c.loop-rest.self) c.loop-rest.invariant c.requires.places
 
 pub loop-rest-preserved : goal.loop-rest-preserved
 loop-rest-preserved c =

@@ -1,5 +1,5 @@
-use Rattle.std.proofs.Common.{length, ◌∷◌, ◌++◌, refl, sym, ap, ◌∙◌, subst, arith, ◌≤◌, length-append}
-use Rattle.hs_live.proofs.Prelude.{option_to_list, option_to_list_short, Core, after_step, supplied, sent, Leased, outgoing, writing_in, Writing, IsWriting, IsSound, buffer_in}
+use Rattle.std.proofs.Common.{length, ◌∷◌, ◌++◌, refl, sym, ap, ◌∙◌, subst}
+use Rattle.hs_live.proofs.Prelude.{option_to_list, Core, after_step, supplied, sent, Leased, outgoing, writing_in, Writing, IsWriting, IsSound, buffer_in}
 use Rattle.hs_live.proofs.Cuts.{spends_page}
 use Rattle.hs_live.proofs.Sound.{sound_supplied}
 use Rattle.hs_live.proofs.Steps.{piece_of, needed, drew}
@@ -11,12 +11,8 @@ returns-clause-sound c =
     let chunks = outgoing c.send_chunk.new.chunks in
     let step = supplied c.draw-drawn.result c.args.moment c.args.payload.now c.args.more in
     let core_is = c.supply.ensures.after ∙ ap (λ core. after_step core step) c.in-NeedPage.ensures.after in
-    let more = length-append (sent (outgoing old.chunks)) (option_to_list (buffer_in c.in-NeedPage.full)) in
-    let one = option_to_list_short (buffer_in c.in-NeedPage.full) in
-    let room : length (sent chunks) ≤ old.chunks.room = omega (arith, ap length c.send_chunk.ensures.sent, more, one, c.requires.room) in
     subst (λ (core : Core Leased). IsSound (record { core = core; drawer = c.draw-drawn.new.self; chunks = chunks })) (sym core_is)
-    (sound_supplied (writing_in old) c.draw-drawn.new.self chunks c.draw-drawn.result c.args.moment c.args.payload.now c.args.more c.requires.sound c.send_chunk.ensures.goes
-    (omega (arith, room, c.send_chunk.ensures.goes.same.3)) c.draw-drawn.ensures)
+    (sound_supplied (writing_in old) c.draw-drawn.new.self chunks c.draw-drawn.result c.args.moment c.args.payload.now c.args.more c.requires.sound c.send_chunk.ensures.goes c.draw-drawn.ensures)
 
 pub returns-clause-written : goal.returns-clause-written
 returns-clause-written c = λ made pieces later all is.

@@ -1,11 +1,14 @@
 use Rattle.std.proofs.Common.{length, sym, subst}
 use Rattle.hs_replay_client.proofs.Prelude.{PlainReplayClient, replay_client_in, IsDone, ReplayClientIsAt}
 use Rattle.hs_journal.specs.Books.{client_book_of}
-use Rattle.hs_replay_client.proofs.Finishing.{is_closed, noted}
+use Rattle.hs_replay_client.proofs.Finishing.{is_closed, keeps_book, noted}
 use Rattle.hs_replay_client.proofs.client.ReplayClient.finish.Goals as goal
 
-pub finish-requires : goal.finish-requires
-finish-requires c = is_closed (replay_client_in c.self.inside) (subst IsDone (sym c.self.view_is) c.requires)
+pub finish-requires-clause-closed : goal.finish-requires-clause-closed
+finish-requires-clause-closed c = is_closed (replay_client_in c.self.inside) (subst IsDone (sym c.self.view_is) c.requires)
+
+pub finish-requires-clause-keeps : goal.finish-requires-clause-keeps
+finish-requires-clause-keeps c = keeps_book (replay_client_in c.self.inside) (subst IsDone (sym c.self.view_is) c.requires)
 
 pub returns : goal.returns
 returns c = λ settings client ops drawn k l m at.

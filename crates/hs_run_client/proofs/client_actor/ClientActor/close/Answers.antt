@@ -1,11 +1,14 @@
 use Rattle.std.proofs.Common.{sym, subst}
 use Rattle.hs_run_client.proofs.Prelude.{client_book_of, PlainClientActor, IsDone, Notes}
 use Rattle.hs_run_client.specs.ClientActorInside.{client_actor_of}
-use Rattle.hs_run_client.proofs.Closing.{is_closed, notes}
+use Rattle.hs_run_client.proofs.Closing.{is_closed, keeps_book, notes}
 use Rattle.hs_run_client.proofs.client_actor.ClientActor.close.Goals as goal
 
-pub close-requires : goal.close-requires
-close-requires c = is_closed (client_actor_of c.self.inside) (subst IsDone (sym c.self.view_is) c.requires)
+pub close-requires-clause-closed : goal.close-requires-clause-closed
+close-requires-clause-closed c = is_closed (client_actor_of c.self.inside) (subst IsDone (sym c.self.view_is) c.requires)
+
+pub close-requires-clause-keeps : goal.close-requires-clause-keeps
+close-requires-clause-keeps c = keeps_book (client_actor_of c.self.inside) (subst IsDone (sym c.self.view_is) c.requires)
 
 pub returns-clause-book : goal.returns-clause-book
 returns-clause-book c =
