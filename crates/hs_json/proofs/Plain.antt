@@ -13,7 +13,8 @@ use Rattle.hs_base.specs.declared.ids.TraceId.{TraceId}
 use Rattle.hs_base.specs.declared.told.Fate.{Fate}
 use Rattle.hs_base.specs.declared.told.Fate.TheVariants.{Null, Live, Reported, Evicted, Abandoned}
 use Rattle.hs_law_outcome.specs.OutcomeText.{fate_words, json_text}
-use Rattle.hs_text.specs.Text.{line_of, hex_text, payload_text, trace_digits}
+use Rattle.hs_text.specs.Text.{line_of, hex_text, payload_text}
+use Rattle.hs_base.specs.Ids.{trace_digits}
 use Rattle.hs_text.specs.Writing.{trace_word}
 use Rattle.hs_json.specs.Spelling.{is_plain, ArePlain}
 

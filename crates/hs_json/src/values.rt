@@ -11,7 +11,8 @@ ghost use Rattle.hs_law_outcome.specs.OutcomeText.{json_list, json_text, placed_
 ghost use Rattle.hs_report.specs.Fates.{AreFatesOf};
 ghost use Rattle.hs_json.specs.Spelling.{ArePlain, Spells, SpellEach, Texts, id_data};
 ghost use Rattle.hs_report.specs.Sources.{Hold, report_by};
-ghost use Rattle.hs_text.specs.Text.{payload_text, trace_digits};
+ghost use Rattle.hs_text.specs.Text.{payload_text};
+ghost use Rattle.hs_base.specs.Ids.{trace_digits};
 ghost use Rattle.hs_text.specs.Writing.{trace_word};
 ghost use Rattle.serde_json.specs.Data.{object, member, no_members, put as with_member};
 ghost use Rattle.serde_json.specs.View.{view, members_view};

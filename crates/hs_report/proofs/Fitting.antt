@@ -24,7 +24,7 @@ use Rattle.hs_records.specs.Plain.{Operation, Begin, Point, Crumb, End, Fire, Sa
 use Rattle.hs_records.specs.Records.{Record, Piece, open_behind, numbered_from, record_in, record_at, records_of, record_pieces, payload_pieces, piece_count}
 use Rattle.hs_records.specs.Laws.{CarriesRecords, CarryRecords, PagesHoldThePieces, traces_of, pieces_of_records, pieces_on}
 use Rattle.hs_law_sends.specs.Sending.{operations_at, place_of}
-use Rattle.hs_text.specs.Text.{trace_digits}
+use Rattle.hs_base.specs.Ids.{trace_digits}
 use Rattle.hs_workload.specs.LookBack.{operation_pieces}
 use Rattle.hs_workload.specs.Validity.{IsOperation, IsClient, HasDigits, client_pieces, workload_pieces}
 use Rattle.hs_report.proofs.Basics.{place_at}

@@ -61,10 +61,6 @@ hex_value_after n (b ∷ bs) = hex_value_after (16 * n + hex_digit_of b) bs
 abbrev pub hex_of : ℕ → List ℕ → Option ℕ
 hex_of digits word = if length word == digits && list_all is_hex_digit word then Some (hex_value_after 0 word) else None
 
--- the digits of a trace in a text of this version
-abbrev pub trace_digits : ℕ → ℕ
-trace_digits version = if version == 1 then 16 else 32
-
 -- a payload as a word: `-` for no bytes, and else two lower-case hexadecimal digits a byte
 abbrev pub payload_text : List ℕ → List ℕ
 payload_text [] = 45 ∷ []

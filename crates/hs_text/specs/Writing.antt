@@ -3,7 +3,8 @@ use Rattle.std.specs.Prelude.{◌≡◌, ℕ, List, [], ◌∷◌, ◌++◌, cod
 use Rattle.std.specs.List.{flat_map}
 use Rattle.std.proofs.Common.{sym, ap, ◌∙◌, append_assoc, append-nil}
 use Rattle.hs_base.specs.declared.ids.TraceId.{TraceId}
-use Rattle.hs_text.specs.Text.{line_of, hex_text, trace_digits}
+use Rattle.hs_text.specs.Text.{line_of, hex_text}
+use Rattle.hs_base.specs.Ids.{trace_digits}
 
 -- a trace in a text of this version
 abbrev pub trace_word : ℕ → TraceId → List ℕ

@@ -3,7 +3,8 @@ use Rattle.std.proofs.Common.{◌≡◌, ℕ, ◌^◌, ◌<◌, ◌≤◌, Bool,
 use Rattle.hs_workload.proofs.Prelude.{IfSome, option_map, option_and_then, decimal, All, AllByRecursion, and_from, length_map, MAX_LATERALS, TraceId, AutoRule, Exception, Percentile, Category, Queue, spelled-text, spelled-every, number_of, payload_of, numbers_of, trace_word, payload_of-payload_text, Operation, Begin, Point, Crumb, End, Fire, Sample, Keyword, Kind, Statement, Put, Declare, Watch, Start, Operate, Finish, keyword_text, all_keywords, keywords_told_apart, kind_text, kind_of, kinds_told_apart, kind_count, auto_numbers, auto_rule, rule_numbers, number_count, numbers_at, numbers_say, trace_of, traces_of, fire, watch_said, says, statement_words, HasDigits}
 use Rattle.std.specs.Prelude.{⊤}
 use Rattle.std.specs.List.{list_all}
-use Rattle.hs_text.specs.Text.{hex_of, trace_digits, payload_text}
+use Rattle.hs_text.specs.Text.{hex_of, payload_text}
+use Rattle.hs_base.specs.Ids.{trace_digits}
 use Rattle.hs_text.specs.TextLaws.{is_word, number_of-decimal, decimal-number_of, hex_of-hex_text, hex_text-hex_of, payload_text-payload_of, is_word-decimal, is_word-hex_text, is_word-payload_text}
 use Rattle.hs_workload.specs.declared.word.Keyword.TheVariants as keywords
 use Rattle.hs_workload.specs.declared.word.Kind.TheVariants as kinds

@@ -7,7 +7,8 @@ use Rattle.hs_base.specs.declared.settings.TriggerRule.{TriggerRule}
 use Rattle.hs_base.specs.declared.settings.AutoRule.{AutoRule}
 use Rattle.hs_base.specs.declared.settings.AutoRule.TheVariants.{Exception, Percentile, Category, Queue}
 use Rattle.hs_base.specs.declared.limits.TheConstants.{MAX_LATERALS}
-use Rattle.hs_text.specs.Text.{words_of, line_of, number_of, hex_of, trace_digits, payload_of, payload_text, numbers_of}
+use Rattle.hs_text.specs.Text.{words_of, line_of, number_of, hex_of, payload_of, payload_text, numbers_of}
+use Rattle.hs_base.specs.Ids.{trace_digits}
 use Rattle.hs_text.specs.Writing.{trace_word}
 use Rattle.hs_text.specs.Spelling.{spelled}
 use Rattle.hs_text.specs.Opening.{words_say}

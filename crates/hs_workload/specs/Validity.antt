@@ -5,7 +5,7 @@ use Rattle.hs_base.specs.declared.ids.TraceId.{TraceId}
 use Rattle.hs_base.specs.Rules.{is_declared, AreRules, AreAutoRules}
 use Rattle.hs_base.specs.declared.limits.TheConstants.{MAX_LATERALS, MAX_PAYLOAD, MAX_OPERATIONS}
 use Rattle.hs_base.specs.Ranges.{Within}
-use Rattle.hs_text.specs.Text.{trace_digits}
+use Rattle.hs_base.specs.Ids.{trace_digits}
 use Rattle.hs_records.specs.Plain.{Operation, Begin, Point, Crumb, End, Fire, Sample, PlainSettings, PlainWorkload}
 use Rattle.hs_records.specs.Records.{AreBracketed}
 use Rattle.hs_workload.specs.declared.word.Setting.{Setting}

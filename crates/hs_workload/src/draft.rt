@@ -5,7 +5,7 @@ ghost use Rattle.std.specs.List.{All, list_any};
 ghost use Rattle.hs_base.specs.Rules.{is_declared};
 ghost use Rattle.hs_text.specs.LineFaults.{line_fault_of};
 ghost use Rattle.hs_base.specs.Ranges.{is_out};
-ghost use Rattle.hs_text.specs.Text.{trace_digits};
+ghost use Rattle.hs_base.specs.Ids.{trace_digits};
 ghost use Rattle.hs_text.specs.Steps.{Gives, value_or};
 ghost use Rattle.hs_text.specs.WordsLeft.{words_in};
 ghost use Rattle.hs_records.specs.Plain.{Begin, Crumb, End, Fire, Sample};
