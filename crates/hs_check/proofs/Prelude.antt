@@ -49,7 +49,7 @@ pub use Rattle.hs_law_sends.specs.Sending.{ClientSends, draws_at, place_of}
 pub use Rattle.hs_lists.proofs.Alls.{all_append, all_each}
 pub use Rattle.hs_lists.proofs.Counts.{count_cons, count_map, one_if}
 pub use Rattle.hs_records.specs.Plain.{PlainSettings, PlainWorkload, settings_of}
-pub use Rattle.hs_workload.specs.Views.{workload_of}
+pub use Rattle.hs_records.specs.Views.{workload_of}
 pub use Rattle.std.proofs.Math.Bool.{and-true}
 pub use Rattle.std.proofs.Math.Nat.{min-le_right}
 pub use Rattle.std.proofs.Math.Seq.{take-append_seam}

@@ -14,7 +14,7 @@ use Rattle.hs_law_journal.specs.Pooled.{has_history, has_answers}
 use Rattle.hs_law_journal.specs.Shape.{has_shape, has_stamps}
 use Rattle.hs_law_journal.specs.Unreads.{has_unreads}
 use Rattle.hs_records.specs.Plain.{PlainWorkload}
-use Rattle.hs_workload.specs.Validity.{IsValid}
+use Rattle.hs_records.specs.Validity.{IsValid}
 
 abbrev pub of_the_journal : List Clause
 of_the_journal = record { number = 1; holds = has_shape } ∷ record { number = 2; holds = has_stamps } ∷ record { number = 5; holds = has_passes } ∷ []

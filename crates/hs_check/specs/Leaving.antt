@@ -11,7 +11,7 @@ use Rattle.hs_law_journal.specs.Lawful.{IsLawful}
 use Rattle.hs_law_agent.specs.Books.{book_of}
 use Rattle.hs_law_outcome.specs.Outcomes.{client_books}
 use Rattle.hs_records.specs.Plain.{PlainSettings, PlainWorkload}
-use Rattle.hs_workload.specs.Validity.{IsValid}
+use Rattle.hs_records.specs.Validity.{IsValid}
 
 -- the book of a node's agent
 abbrev pub book_at : NodeRun → PlainAgentBook

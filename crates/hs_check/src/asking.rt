@@ -3,8 +3,8 @@
 ghost use Rattle.std.specs.Prelude.{◌≡◌, option_map, IfOk};
 ghost use Rattle.hs_journal.specs.Views.{journal_of};
 ghost use Rattle.hs_law_journal.specs.Played.{played};
-ghost use Rattle.hs_workload.specs.Validity.{IsValid};
-ghost use Rattle.hs_workload.specs.Views.{workload_of};
+ghost use Rattle.hs_records.specs.Validity.{IsValid};
+ghost use Rattle.hs_records.specs.Views.{workload_of};
 ghost use Rattle.hs_check.specs.Asking.{of_the_journal, of_the_pools, of_the_end, first_among, WasFollowed};
 ghost use Rattle.hs_check.specs.Clauses.{number_of};
 
@@ -17,7 +17,7 @@ use hs_check_clauses::{
     is_bare,
 };
 use hs_journal::Journal;
-use hs_workload::Workload;
+use hs_records::Workload;
 use std::alloc::Global;
 
 /// The first of the clauses on the journal alone that fails: the first, the second and the fifth.

@@ -8,8 +8,8 @@ ghost use Rattle.hs_law_journal.specs.Ends.{is_followed};
 ghost use Rattle.hs_law_journal.specs.Following.{followed};
 ghost use Rattle.hs_law_journal.specs.Pace.{asks_in_pace, due_of};
 ghost use Rattle.hs_law_journal.specs.Played.{played};
-ghost use Rattle.hs_workload.specs.Validity.{IsValid};
-ghost use Rattle.hs_workload.specs.Views.{workload_of};
+ghost use Rattle.hs_records.specs.Validity.{IsValid};
+ghost use Rattle.hs_records.specs.Views.{workload_of};
 ghost use Rattle.hs_check_clauses.specs.Finding.{IsFound};
 ghost use Rattle.hs_check.specs.CountedAsks.{said_behind, places_behind, heard_with, heard_for, most_passes, asks_behind_each, all_ask_enough};
 ghost use Rattle.hs_check.specs.Counting.{is_of, behind_each};
@@ -22,7 +22,7 @@ use hs_base::{Memory, NodeId, NodeSet};
 use hs_check_clauses::{Found, FoundNode, log_of};
 use hs_journal::{Journal, Step};
 use hs_law_journal::laws::{following_plays_out, runs_are_of_the_journal};
-use hs_workload::Workload;
+use hs_records::Workload;
 use std::alloc::Global;
 
 /// Whether the agents of all nodes take enough asks. The one error is want of memory.

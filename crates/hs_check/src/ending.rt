@@ -4,15 +4,15 @@ ghost use Rattle.std.specs.Prelude.{map, IfOk};
 ghost use Rattle.hs_journal.specs.Books.{agent_book_of};
 ghost use Rattle.hs_journal.specs.Views.{journal_of};
 ghost use Rattle.hs_report.specs.Outcomes.{IsOutcome};
-ghost use Rattle.hs_workload.specs.Views.{workload_of};
+ghost use Rattle.hs_records.specs.Views.{workload_of};
 ghost use Rattle.hs_check.specs.Leaving.{AreLeft, MayFinish, HaveFinished};
 
 use hs_agent::Agent;
 use hs_base::{List, Memory};
 use hs_check_follow::FollowedParts;
 use hs_journal::{AgentBook, Journal};
+use hs_records::Workload;
 use hs_report::{Books, Outcome, gather};
-use hs_workload::Workload;
 use std::alloc::Global;
 
 /// The books of agents that have nothing pinned.

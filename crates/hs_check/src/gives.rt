@@ -7,8 +7,8 @@ ghost use Rattle.hs_law_journal.specs.Following.{log_at, NodeRun};
 ghost use Rattle.hs_law_journal.specs.Pace.{gives_in_pace};
 ghost use Rattle.hs_law_journal.specs.Played.{played};
 ghost use Rattle.hs_law_journal.specs.Shape.{has_stamps, log_stamps};
-ghost use Rattle.hs_workload.specs.Validity.{IsValid};
-ghost use Rattle.hs_workload.specs.Views.{workload_of};
+ghost use Rattle.hs_records.specs.Validity.{IsValid};
+ghost use Rattle.hs_records.specs.Views.{workload_of};
 ghost use Rattle.hs_check_clauses.specs.Finding.{IsFoundNode};
 ghost use Rattle.hs_check_clauses.specs.Happening.{drawn_from};
 ghost use Rattle.hs_check.specs.Besides.{stands_beside, all_beside, clients_beside, draws_by};
@@ -18,7 +18,7 @@ use crate::kinds::Kind;
 use hs_base::Memory;
 use hs_check_clauses::{FoundClient, FoundNode, drawn_of, log_of, stamp_of, step_stamp};
 use hs_journal::{Draw, Journal, Step};
-use hs_workload::Workload;
+use hs_records::Workload;
 use std::alloc::Global;
 
 /// Whether the gives and misses of a node stand beside its draws: above those of all earlier rounds, and below those of all later

@@ -8,8 +8,8 @@ ghost use Rattle.hs_law_journal.specs.Following.{followed, log_at, NodeRun};
 ghost use Rattle.hs_law_journal.specs.Pace.{has_pace, gives_in_pace, items_in_pace};
 ghost use Rattle.hs_law_journal.specs.Played.{played};
 ghost use Rattle.hs_law_journal.specs.Shape.{has_stamps};
-ghost use Rattle.hs_workload.specs.Validity.{IsValid};
-ghost use Rattle.hs_workload.specs.Views.{workload_of};
+ghost use Rattle.hs_records.specs.Validity.{IsValid};
+ghost use Rattle.hs_records.specs.Views.{workload_of};
 ghost use Rattle.hs_check_clauses.specs.Finding.{IsFound, IsFoundNode};
 ghost use Rattle.hs_check_clauses.specs.Happening.{drawn_from};
 ghost use Rattle.hs_check.specs.Besides.{draws_by};
@@ -21,7 +21,7 @@ use hs_base::Memory;
 use hs_check_clauses::{Found, FoundNode, log_of};
 use hs_journal::Journal;
 use hs_law_journal::laws::{following_plays_out, runs_are_of_the_journal};
-use hs_workload::Workload;
+use hs_records::Workload;
 use std::alloc::Global;
 
 /// Whether agents and coordinator do not fall behind the clients: gives stand beside the draws of their round, and items and asks are

@@ -11,8 +11,8 @@ ghost use Rattle.hs_law_journal.specs.Played.{played};
 ghost use Rattle.hs_law_journal.specs.Pooled.{by_stamp};
 ghost use Rattle.hs_law_journal.specs.Shape.{has_stamps};
 ghost use Rattle.hs_law_journal.specs.Unreads.{before_unreads, has_unreads};
-ghost use Rattle.hs_workload.specs.Validity.{IsValid};
-ghost use Rattle.hs_workload.specs.Views.{workload_of};
+ghost use Rattle.hs_records.specs.Validity.{IsValid};
+ghost use Rattle.hs_records.specs.Views.{workload_of};
 ghost use Rattle.hs_check_clauses.specs.Finding.{IsFound};
 ghost use Rattle.hs_check_clauses.specs.Happening.{drawn_from, node_timed};
 ghost use Rattle.hs_check.specs.declared.page_draws.PageDraw.{PageDraw};
@@ -28,7 +28,7 @@ use hs_law_agent::laws::{events_add_this, events_go_on, lists_have_their_chunks}
 use hs_law_journal::laws::{
     agents_come_by_events, following_plays_out, gives_are_noted, runs_are_of_the_journal,
 };
-use hs_workload::Workload;
+use hs_records::Workload;
 use std::alloc::Global;
 
 /// Whether each offer that was unread could be: the entry of the pool that it would fill may still hold a draw that its client has

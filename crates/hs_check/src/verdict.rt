@@ -2,8 +2,8 @@
 
 ghost use Rattle.std.specs.Prelude.{IfOk};
 ghost use Rattle.hs_journal.specs.Views.{journal_of};
-ghost use Rattle.hs_workload.specs.Validity.{IsValid};
-ghost use Rattle.hs_workload.specs.Views.{workload_of};
+ghost use Rattle.hs_records.specs.Validity.{IsValid};
+ghost use Rattle.hs_records.specs.Views.{workload_of};
 ghost use Rattle.hs_check.specs.Verdicts.{IsVerdict};
 
 use crate::asking::{ask_end, ask_journal, ask_pools};
@@ -13,8 +13,8 @@ use hs_base::Memory;
 use hs_check_follow::follow;
 use hs_journal::Journal;
 use hs_law_journal::laws::{lawful_is_decided, runs_are_of_the_journal};
+use hs_records::Workload;
 use hs_report::Outcome;
-use hs_workload::Workload;
 use std::alloc::Global;
 
 /// What is said of a journal that was given with a workload.

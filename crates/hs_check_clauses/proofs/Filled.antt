@@ -9,7 +9,7 @@ use Rattle.hs_records.specs.Fronts.{count_beside}
 use Rattle.hs_records.specs.Pages.{cost_of, page_room, fits, runs_within, runs_of, segment_pages}
 use Rattle.hs_records.specs.Plain.{Begin, Point, Crumb, End, Fire, Sample}
 use Rattle.hs_records.specs.Records.{Piece, Segment, piece_count, cut_within, payload_pieces, record_pieces, pieces_until_end, segments_from}
-use Rattle.hs_workload.specs.LookBack.{operation_pieces}
+use Rattle.hs_records.specs.Validity.{operation_pieces}
 use Rattle.hs_check_clauses.specs.Filling.{started_by, room_left}
 
 -- ---- costs

@@ -42,14 +42,14 @@ pub use Rattle.hs_lists.proofs.Alls.{all_append, all_at, all_each}
 pub use Rattle.hs_lists.proofs.Counts.{count_append, count_cons, one_if}
 pub use Rattle.hs_lists.proofs.Filters.{filter_none}
 pub use Rattle.hs_lists.proofs.Ranges.{list_all_range, range_append}
+pub use Rattle.hs_records.proofs.Sizes.{operations_few}
 pub use Rattle.hs_records.specs.Pages.{pages_of}
 pub use Rattle.hs_records.specs.Plain.{Operation, PlainSettings, PlainWorkload, settings_of}
 pub use Rattle.hs_records.specs.Records.{AreBracketed, piece_limit}
+pub use Rattle.hs_records.specs.Validity.{client_pieces, IsValid, workload_pieces}
+pub use Rattle.hs_records.specs.Views.{operation_of, operations_of, workload_of}
+pub use Rattle.hs_records.specs.declared.operation.Op.{Op}
 pub use Rattle.hs_words.specs.PoolHistory.{Got, PoolEvent}
-pub use Rattle.hs_workload.proofs.Sizes.{operations_few}
-pub use Rattle.hs_workload.specs.Validity.{client_pieces, IsValid, workload_pieces}
-pub use Rattle.hs_workload.specs.Views.{operation_of, operations_of, workload_of}
-pub use Rattle.hs_workload.specs.declared.operation.Op.{Op}
 pub use Rattle.std.proofs.lemmas.Bool.{and_from, and_left, and_parts, and_right, cases_Bool, cases_eq, cases_lt, eq-eqb, eqb-false, eqb-true, false_from_ne_true, le-leb, le-ltb, leb-true, lt-leb, lt-ltb, ltb-false, ltb-true, ne_eqb, OnTrue_at, or_cases, true≢false}
 pub use Rattle.std.proofs.lemmas.List.{append-nil, append_assoc, drop_all, drop_more, get_or-set_other, get_or-set_same, get_or_default, length-map, length-set, map-append, nil_from_length}
 pub use Rattle.std.proofs.lemmas.List.Elements.{filter-append, filter_agree}

@@ -2,7 +2,7 @@
 use Rattle.std.proofs.Common.{◌≡◌, ℕ, zero, suc, ◌+◌, ◌-◌, ◌*◌, ◌/◌, ◌^◌, ◌<◌, ◌≤◌, List, [], ◌∷◌, length, map, sym, subst, max, fold, arith, ◌⊎◌, inl, inr}
 use Rattle.hs_check_clauses.proofs.Prelude.{MAX_OPERATIONS, rounds_for, rounds_of, Operation, PlainWorkload, IsValid, workload_pieces, operations_few}
 use Rattle.std.proofs.Math.Nat.{div-mul-le_self, max-eq_left, max-eq_right}
-use Rattle.hs_workload.specs.declared.word.Setting.TheVariants as settings
+use Rattle.hs_records.specs.declared.setting.Setting.TheVariants as settings
 
 one_below : (a b : ℕ) → (a ≤ b) ⊎ (b ≤ a)
 one_below zero b = inl (omega arith)

@@ -2,7 +2,7 @@
 use Rattle.std.proofs.Common.{◌≡◌, ℕ, zero, suc, ◌+◌, ◌*◌, ◌<◌, ◌≤◌, true, false, List, [], ◌∷◌, length, map, get_or, Some, None, refl, sym, ap, ◌∙◌, arith}
 use Rattle.hs_check_clauses.proofs.Prelude.{slice_get, all_at, MAX_OPERATIONS, Operation, PlainWorkload, piece_limit, IsValid, client_pieces, workload_pieces, operations_few}
 use Rattle.hs_records.specs.Records.{count_cuts}
-use Rattle.hs_workload.specs.Validity.{IsClient}
+use Rattle.hs_records.specs.Validity.{IsClient}
 
 -- what stands at a place of a mapped list
 pub get_of_map : {A B : Type 0} (f : A → B) (xs : List A) (i : ℕ) (x : A) → i < length xs → x ≡ get_or xs i x → slice_get (map f xs) i ≡ Some (f x)

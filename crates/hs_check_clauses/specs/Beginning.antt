@@ -4,7 +4,7 @@ use Rattle.hs_journal.specs.Views.{PlainJournal}
 use Rattle.hs_law_journal.specs.Played.{played}
 use Rattle.hs_law_journal.specs.Shape.{has_shape}
 use Rattle.hs_records.specs.Plain.{PlainWorkload}
-use Rattle.hs_workload.specs.Validity.{IsValid}
+use Rattle.hs_records.specs.Validity.{IsValid}
 
 -- The workload is valid, and the journal has its shape.
 pub record MayBegin (W : PlainWorkload) (J : PlainJournal) : Type 0 where

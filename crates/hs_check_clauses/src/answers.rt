@@ -11,8 +11,8 @@ ghost use Rattle.hs_law_journal.specs.Following.{followed, log_at};
 ghost use Rattle.hs_law_journal.specs.Played.{played};
 ghost use Rattle.hs_law_journal.specs.Pooled.{has_answers};
 ghost use Rattle.hs_law_journal.specs.Shape.{has_stamps};
-ghost use Rattle.hs_workload.specs.Validity.{IsValid};
-ghost use Rattle.hs_workload.specs.Views.{workload_of};
+ghost use Rattle.hs_records.specs.Validity.{IsValid};
+ghost use Rattle.hs_records.specs.Views.{workload_of};
 ghost use Rattle.hs_check_clauses.specs.declared.happened.StampedEvent.{StampedEvent};
 ghost use Rattle.hs_check_clauses.specs.Answering.{answers_last, answers_through, is_got, latest_at, IsLatest, IsSet};
 ghost use Rattle.hs_check_clauses.specs.Finding.{IsFound};
@@ -24,7 +24,7 @@ use crate::ordered::put_in_order;
 use hs_base::Memory;
 use hs_journal::{Draw, Journal};
 use hs_law_journal::laws::{following_plays_out, gives_are_noted, runs_are_of_the_journal};
-use hs_workload::Workload;
+use hs_records::Workload;
 use std::alloc::Global;
 
 /// Whether each give answers the draw of its chunk: that draw came before it, and nothing at the buffer in between. The one

@@ -10,8 +10,8 @@ ghost use Rattle.hs_law_journal.specs.Following.{Asks, taken, NodeRun, followed}
 ghost use Rattle.hs_law_journal.specs.Played.{played};
 ghost use Rattle.hs_records.specs.Plain.{PlainSettings};
 ghost use Rattle.hs_law_sends.specs.Sending.{ClientSends};
-ghost use Rattle.hs_workload.specs.Validity.{IsValid};
-ghost use Rattle.hs_workload.specs.Views.{workload_of};
+ghost use Rattle.hs_records.specs.Validity.{IsValid};
+ghost use Rattle.hs_records.specs.Views.{workload_of};
 ghost use Rattle.hs_check_clauses.specs.Finding.{AreFound, IsFound, IsFoundNode, IsFoundClient};
 
 use crate::counting::log_of;
@@ -20,7 +20,7 @@ use crate::sources::Source;
 use hs_base::{NodeId, NodeSet};
 use hs_journal::{Journal, Step};
 use hs_law_journal::laws::{following_plays_out, runs_are_of_the_journal};
-use hs_workload::Workload;
+use hs_records::Workload;
 
 /// Whether all that was sent, asked and said was taken, and nothing is pinned.
 pub fn is_bare(workload: &Workload, journal: &Journal, found: &Found) -> bool

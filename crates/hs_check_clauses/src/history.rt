@@ -6,8 +6,8 @@ ghost use Rattle.hs_law_journal.specs.Ends.{is_followed};
 ghost use Rattle.hs_law_journal.specs.Following.{followed};
 ghost use Rattle.hs_law_journal.specs.Played.{played};
 ghost use Rattle.hs_law_journal.specs.Pooled.{StampedPoolEvent, by_stamp, has_history, is_history};
-ghost use Rattle.hs_workload.specs.Validity.{IsValid};
-ghost use Rattle.hs_workload.specs.Views.{workload_of};
+ghost use Rattle.hs_records.specs.Validity.{IsValid};
+ghost use Rattle.hs_records.specs.Views.{workload_of};
 ghost use Rattle.hs_check_clauses.specs.Finding.{IsFound};
 ghost use Rattle.hs_check_clauses.specs.Happening.{pool_event, events_below};
 
@@ -18,7 +18,7 @@ use crate::replay::Replay;
 use hs_base::Memory;
 use hs_journal::Journal;
 use hs_law_journal::laws::{following_plays_out, gives_are_noted, runs_are_of_the_journal};
-use hs_workload::Workload;
+use hs_records::Workload;
 use std::alloc::Global;
 
 /// Whether the events of each node's pool are a history of it. The one error is want of memory.

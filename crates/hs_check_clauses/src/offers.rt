@@ -6,8 +6,8 @@ ghost use Rattle.hs_law_journal.specs.Ends.{is_followed};
 ghost use Rattle.hs_law_journal.specs.Following.{followed};
 ghost use Rattle.hs_law_journal.specs.Passes.{has_offers, passes_of, ends_between, is_offer, is_unread};
 ghost use Rattle.hs_law_journal.specs.Played.{played};
-ghost use Rattle.hs_workload.specs.Validity.{IsValid};
-ghost use Rattle.hs_workload.specs.Views.{workload_of};
+ghost use Rattle.hs_records.specs.Validity.{IsValid};
+ghost use Rattle.hs_records.specs.Views.{workload_of};
 ghost use Rattle.hs_check_clauses.specs.Finding.{IsFound};
 ghost use Rattle.hs_check_clauses.specs.Offering.{ends_front, ends_through, may_stand};
 
@@ -15,7 +15,7 @@ use crate::counting::log_of;
 use crate::found::Found;
 use hs_journal::{Journal, Step};
 use hs_law_journal::laws::{following_plays_out, runs_are_of_the_journal};
-use hs_workload::Workload;
+use hs_records::Workload;
 
 /// Whether behind each pass the hand is empty or the last offer is unread, and no other offer is.
 pub fn has_offers(workload: &Workload, journal: &Journal, found: &Found) -> bool

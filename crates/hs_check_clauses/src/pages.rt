@@ -4,13 +4,12 @@ ghost use Rattle.std.specs.Prelude.{◌≡◌, ◌≤◌, ◌<◌, ◌+◌, ◌^
 ghost use Rattle.hs_base.specs.declared.limits.TheConstants.{MIN_SIZE, MAX_OPERATIONS};
 ghost use Rattle.hs_records.specs.Pages.{pages_of};
 ghost use Rattle.hs_records.specs.Records.{AreBracketed};
-ghost use Rattle.hs_workload.specs.Validity.{client_pieces};
-ghost use Rattle.hs_workload.specs.Views.{operation_of};
+ghost use Rattle.hs_records.specs.Validity.{client_pieces};
+ghost use Rattle.hs_records.specs.Views.{operation_of};
 ghost use Rattle.hs_check_clauses.specs.Filling.{opened, room_behind, payload_costs, started_by, room_left};
 
 use hs_base::limits::{HEADER_COST, PIECE_COST};
-use hs_records::{payloads_are_cut_from_the_front, piece_limit, pieces_are_counted};
-use hs_workload::Op;
+use hs_records::{Op, payloads_are_cut_from_the_front, piece_limit, pieces_are_counted};
 
 /// How many pages were started, and how many bytes are left in the one that is open.
 #[derive(Clone, Copy)]

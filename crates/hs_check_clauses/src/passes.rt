@@ -6,13 +6,13 @@ ghost use Rattle.hs_journal.specs.Views.{journal_of};
 ghost use Rattle.hs_law_journal.specs.Passes.{has_passes, is_whole_pass, passes_of, queues_of};
 ghost use Rattle.hs_law_journal.specs.Played.{played};
 ghost use Rattle.hs_records.specs.Plain.{PlainWorkload};
-ghost use Rattle.hs_workload.specs.Views.{workload_of};
+ghost use Rattle.hs_records.specs.Views.{workload_of};
 ghost use Rattle.hs_check_clauses.specs.Walking.{place_of, walk_behind, walk_offering, walk_taking, is_turned};
 
 use crate::counting::log_of;
 use hs_base::limits::MAX_TAKEN;
 use hs_journal::{Journal, Step};
-use hs_workload::Workload;
+use hs_records::Workload;
 
 /// Whether every log is one whole pass after another.
 pub fn has_passes(workload: &Workload, journal: &Journal) -> bool

@@ -7,13 +7,13 @@ ghost use Rattle.hs_law_journal.specs.Ends.{has_rounds, rounds_of};
 ghost use Rattle.hs_law_journal.specs.Following.{log_at};
 ghost use Rattle.hs_law_journal.specs.Passes.{is_turn};
 ghost use Rattle.hs_law_journal.specs.Played.{played};
-ghost use Rattle.hs_workload.specs.Validity.{IsValid};
-ghost use Rattle.hs_workload.specs.Views.{workload_of};
+ghost use Rattle.hs_records.specs.Validity.{IsValid};
+ghost use Rattle.hs_records.specs.Views.{workload_of};
 ghost use Rattle.hs_check_clauses.specs.Rounds.{are_enough};
 
 use crate::counting::{count_turns, log_of};
 use hs_journal::Journal;
-use hs_workload::Workload;
+use hs_records::Workload;
 
 /// Whether all agents made as many passes, and at least as many as the workload has rounds.
 pub fn has_rounds(workload: &Workload, journal: &Journal) -> bool

@@ -5,12 +5,12 @@ ghost use Rattle.hs_journal.specs.Views.{journal_of};
 ghost use Rattle.hs_law_journal.specs.Played.{played};
 ghost use Rattle.hs_law_journal.specs.Shape.{has_shape, same_counts};
 ghost use Rattle.hs_records.specs.Pages.{pages_of};
-ghost use Rattle.hs_workload.specs.Validity.{IsValid};
-ghost use Rattle.hs_workload.specs.Views.{workload_of};
+ghost use Rattle.hs_records.specs.Validity.{IsValid};
+ghost use Rattle.hs_records.specs.Views.{workload_of};
 
 use crate::pages::count_pages;
 use hs_journal::Journal;
-use hs_workload::Workload;
+use hs_records::Workload;
 
 /// Whether the journal has the nodes and clients of the workload, a log for each node, and for each client a
 /// draw for each of its pages.

@@ -7,13 +7,13 @@ ghost use Rattle.hs_law_journal.specs.Following.{log_at};
 ghost use Rattle.hs_law_journal.specs.Played.{played};
 ghost use Rattle.hs_law_journal.specs.Shape.{has_stamps, node_has_stamps, node_stamps, node_draws, draw_stamps, log_stamps, are_numbered, rise};
 ghost use Rattle.hs_law_sends.specs.Sending.{draws_at};
-ghost use Rattle.hs_workload.specs.Views.{workload_of};
+ghost use Rattle.hs_records.specs.Views.{workload_of};
 
 use crate::counting::{draws_of, log_of};
 use crate::rising::{draws_rise, log_rises, stamp_of, step_stamp};
 use hs_base::Memory;
 use hs_journal::{Draw, Journal, Step};
-use hs_workload::Workload;
+use hs_records::Workload;
 use std::alloc::Global;
 
 /// Whether the stamps of each node number what happens at its pool from 0 on, each once, and rise within a client

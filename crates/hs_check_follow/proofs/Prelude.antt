@@ -62,12 +62,12 @@ pub use Rattle.hs_lists.proofs.Places.{get_front, get_set_cases, get_there, row_
 pub use Rattle.hs_records.specs.Pages.{pages_of}
 pub use Rattle.hs_records.specs.Plain.{Operation, PlainSettings, PlainWorkload, settings_of}
 pub use Rattle.hs_records.specs.Records.{AreBracketed}
+pub use Rattle.hs_records.specs.Views.{operation_of, workload_of}
 pub use Rattle.hs_replay_client.specs.Places.{ReplayClientIsAt, WentOn}
 pub use Rattle.hs_replay_client.specs.ReplayClients.{PlainReplayClient, Unleased}
 pub use Rattle.hs_replay_client.specs.Wells.{DrawsAll}
 pub use Rattle.hs_words.specs.Buffers.{buffer_in, buffer_of}
 pub use Rattle.hs_words.specs.Pages.{Sheet}
-pub use Rattle.hs_workload.specs.Views.{operation_of, workload_of}
 pub use Rattle.std.proofs.lemmas.Bool.{and_parts, le-ltb, lt-ltb, ltb-false, ltb-true}
 pub use Rattle.std.proofs.lemmas.Iterator.Adapters.{YieldsList-from_vec}
 pub use Rattle.std.proofs.lemmas.Iterator.Consumers.{YieldsList-end}

@@ -14,7 +14,7 @@ use Rattle.hs_law_journal.specs.Following.{log_at, asks_to, is_from, NodeRun, Ru
 use Rattle.hs_law_journal.specs.Orders.{Leads, IsAtRest, Performs}
 use Rattle.hs_law_agent.specs.Leading.{IsToldBelow}
 use Rattle.hs_records.specs.Plain.{PlainWorkload}
-use Rattle.hs_workload.specs.Validity.{IsValid}
+use Rattle.hs_records.specs.Validity.{IsValid}
 use Rattle.std.specs.List.{AllByRecursion}
 use Rattle.hs_check_follow.specs.Nodes.{MayTakeNext, FollowedNodeStands}
 use Rattle.hs_check_follow.specs.Noting.{HasNotes}

@@ -8,7 +8,7 @@ ghost use Rattle.hs_records.specs.Plain.{settings_of};
 ghost use Rattle.hs_law_sends.specs.Playable.{IsPlayable};
 ghost use Rattle.hs_replay_client.specs.Places.{IsDone};
 ghost use Rattle.hs_replay_client.specs.ReplayClients.{PlainReplayClient};
-ghost use Rattle.hs_workload.specs.Views.{operation_of};
+ghost use Rattle.hs_records.specs.Views.{operation_of};
 ghost use Rattle.hs_check_follow.specs.Gathering.{AllIsSentBy};
 ghost use Rattle.hs_check_follow.specs.Sendings.{IsFollowedClient, NotesBut};
 
@@ -22,8 +22,8 @@ use hs_journal::{ClientBook, Draw};
 use hs_law_sends::laws::{
     all_is_sent_in_the_end, timed_pages_are_the_pages, timed_pages_are_timely,
 };
+use hs_records::Op;
 use hs_replay_client::ReplayClient;
-use hs_workload::Op;
 use std::alloc::Global;
 use std::collections::VecDeque;
 

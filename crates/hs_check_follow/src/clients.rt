@@ -3,13 +3,13 @@
 ghost use Rattle.std.specs.Prelude.{◌≡◌, ◌<◌, length, map, IfOk};
 ghost use Rattle.hs_law_sends.specs.Sending.{operations_at, place_of};
 ghost use Rattle.hs_words.specs.Buffers.{buffer_in};
-ghost use Rattle.hs_workload.specs.Views.{operation_of, workload_of};
+ghost use Rattle.hs_records.specs.Views.{operation_of, workload_of};
 ghost use Rattle.hs_check_follow.specs.Clients.{MayFillNext, MayFillAny, Pops, PopsChunk, PopsCrumb, PopsTrigger};
 
 use crate::client::FollowedClient;
 use hs_base::{ClientId, Crumb, List, Memory, Trigger};
+use hs_records::{Op, Workload};
 use hs_words::Held;
-use hs_workload::{Op, Workload};
 
 /// The operations of a client.
 pub(crate) fn operations_of(workload: &Workload, client: ClientId) -> &[Op]

@@ -6,7 +6,7 @@ ghost use Rattle.hs_law_sends.specs.Sending.{sends_of};
 ghost use Rattle.hs_records.specs.Pages.{pages_of};
 ghost use Rattle.hs_records.specs.Plain.{settings_of};
 ghost use Rattle.hs_words.specs.Buffers.{buffer_in};
-ghost use Rattle.hs_workload.specs.Views.{operation_of};
+ghost use Rattle.hs_records.specs.Views.{operation_of};
 ghost use Rattle.hs_check_follow.specs.Fillings.{IsFilling, MayFill, Fills};
 ghost use Rattle.hs_check_follow.specs.Keepings.{KeepsAll};
 
@@ -14,8 +14,8 @@ use crate::keeping::Keeping;
 use crate::second_play::SecondPlay;
 use hs_base::{AutoRule, ClientId, Memory, Settings};
 use hs_journal::Draw;
+use hs_records::Op;
 use hs_words::Held;
-use hs_workload::Op;
 use std::alloc::Global;
 use std::collections::VecDeque;
 

@@ -1,7 +1,7 @@
 //! What was taken of a client so far.
 
 ghost use Rattle.std.specs.Prelude.{◌≡◌, ◌<◌, ◌++◌, length, map, replicate, OnOk};
-ghost use Rattle.hs_workload.specs.Views.{operation_of};
+ghost use Rattle.hs_records.specs.Views.{operation_of};
 ghost use Rattle.hs_check_follow.specs.Gathering.{IsNew, WasSent, SendsFirst, SendsOneMore, WasSentChunks, IsSentChunks, WasSentCrumbs, IsSentCrumbs, WasSentTriggers, IsSentTriggers};
 
 use crate::keeping::Keeping;
@@ -12,8 +12,8 @@ use hs_law_sends::laws::{
     items_are_sent_in_order, the_first_chunks_are_sent, the_first_operations_send,
     timed_pages_are_the_pages, timed_pages_are_timely,
 };
+use hs_records::Op;
 use hs_replay_client::ReplayClient;
-use hs_workload::Op;
 use std::alloc::Global;
 use std::collections::VecDeque;
 

@@ -5,8 +5,8 @@ ghost use Rattle.hs_words.specs.Buffers.{buffer_of};
 
 use hs_base::Memory;
 use hs_journal::Draw;
+use hs_records::Op;
 use hs_words::Held;
-use hs_workload::Op;
 use std::collections::VecDeque;
 
 /// What a chunk takes beside its buffer, in bytes: its place in a queue, and what an allocator notes of the buffer.

@@ -1,7 +1,7 @@
 //! An agent with how far it has followed its log.
 
 ghost use Rattle.std.specs.Prelude.{IfOk, OnOk};
-ghost use Rattle.hs_workload.specs.Views.{workload_of};
+ghost use Rattle.hs_records.specs.Views.{workload_of};
 ghost use Rattle.hs_check_follow.specs.Noting.{Notes};
 ghost use Rattle.hs_check_follow.specs.Whole.{MayStep, StepsOn, KnowsFollowedAgent};
 
@@ -9,7 +9,7 @@ use crate::agent::FollowedAgent;
 use hs_base::{Ask, List, Memory};
 use hs_check_clauses::is_last;
 use hs_journal::Step;
-use hs_workload::Workload;
+use hs_records::Workload;
 
 /// An agent that follows its log, how many steps of the log it has performed, and how many buffers were in the hand and how many
 /// messages it had said behind each pass.

@@ -4,7 +4,7 @@ ghost use Rattle.std.specs.Prelude.{◌≡◌, ◌<◌, length, IfOk, OnOk};
 ghost use Rattle.hs_journal.specs.Views.{journal_of};
 ghost use Rattle.hs_law_journal.specs.Following.{Run, is_done};
 ghost use Rattle.hs_records.specs.Plain.{PlainWorkload};
-ghost use Rattle.hs_workload.specs.Views.{workload_of};
+ghost use Rattle.hs_records.specs.Views.{workload_of};
 ghost use Rattle.hs_check_follow.specs.Whole.{AllAt, Knows, KnowsAt, StepsNode, StepsAny, FollowsAll};
 
 use crate::coordinator::FollowedCoordinator;
@@ -12,7 +12,7 @@ use crate::node::FollowedNode;
 use hs_base::{List, Memory};
 use hs_journal::Journal;
 use hs_law_journal::laws::{orders_agree, runs_are_of_the_journal, runs_fit};
-use hs_workload::Workload;
+use hs_records::Workload;
 
 /// All nodes and the coordinator, on the way through a journal.
 #[derive(Drop)]

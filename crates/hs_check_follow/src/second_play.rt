@@ -5,7 +5,7 @@ ghost use Rattle.hs_law_sends.specs.Playable.{IsPlayable};
 ghost use Rattle.hs_records.specs.Pages.{pages_of};
 ghost use Rattle.hs_records.specs.Plain.{settings_of};
 ghost use Rattle.hs_words.specs.Buffers.{buffer_in};
-ghost use Rattle.hs_workload.specs.Views.{operation_of};
+ghost use Rattle.hs_records.specs.Views.{operation_of};
 ghost use Rattle.hs_check_follow.specs.Fillings.{IsSecondPlay, MayPlay, PlaysOn, Plays};
 
 use crate::script::Script;
@@ -14,9 +14,9 @@ use hs_journal::Draw;
 use hs_law_sends::laws::{
     all_is_sent_in_the_end, timed_pages_are_the_pages, timed_pages_are_timely,
 };
+use hs_records::Op;
 use hs_replay_client::ReplayClient;
 use hs_words::Held;
-use hs_workload::Op;
 use std::alloc::Global;
 
 /// A client that does its operations once more, each no earlier than a chunk is asked for that needs it. So it holds the page that is

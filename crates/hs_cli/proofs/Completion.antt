@@ -3,7 +3,7 @@ use Rattle.std.proofs.Common.{◌≡◌, ℕ, ◌≤◌, List, length, Option, S
 use Rattle.hs_base.specs.Outside.{Rose}
 use Rattle.hs_base.specs.declared.limits.TheConstants.{MAX_INPUT}
 use Rattle.hs_records.specs.Plain.{PlainWorkload}
-use Rattle.hs_workload.specs.Validity.{Reads}
+use Rattle.hs_workload.specs.Grammar.{Reads}
 use Rattle.hs_journal.specs.Grammar.{Reads as ReadsJournal}
 use Rattle.hs_journal.specs.Laws.{TextsHaveOneJournal}
 use Rattle.hs_journal.specs.Views.{PlainJournal}

@@ -8,8 +8,8 @@ use Rattle.hs_law_journal.specs.Lawful.{IsLawful}
 use Rattle.hs_law_outcome.specs.OutcomeText.{outcome_text}
 use Rattle.hs_law_outcome.specs.declared.form.Form.TheVariants.{Text as Lines}
 use Rattle.hs_records.specs.Plain.{PlainWorkload}
-use Rattle.hs_workload.specs.Validity.{IsValid}
-use Rattle.hs_workload.specs.Views.{workload_of}
+use Rattle.hs_records.specs.Validity.{IsValid}
+use Rattle.hs_records.specs.Views.{workload_of}
 use Rattle.hs_streams.specs.Input.{ReadBeyond, ReadFront}
 use Rattle.hs_streams.specs.Refusals.{IsRefused}
 use Rattle.hs_cli.specs.Endings.{IsReader, IsAbout, AreParts, Due, RefusesWorkload, IsRefusedJournal, IsUnlawful, workload_in}

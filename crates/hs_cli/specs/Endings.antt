@@ -5,8 +5,7 @@ use Rattle.hs_base.specs.Outside.{Rose, Gains}
 use Rattle.hs_base.specs.declared.limits.TheConstants.{MAX_INPUT}
 use Rattle.hs_board.specs.declared.progress.Progress.{Progress}
 use Rattle.hs_records.specs.Plain.{PlainWorkload}
-use Rattle.hs_workload.specs.Validity.{Reads}
-use Rattle.hs_workload.specs.Grammar.{workload_text}
+use Rattle.hs_workload.specs.Grammar.{Reads, workload_text}
 use Rattle.hs_make.specs.Made.{made_workload}
 use Rattle.hs_journal.specs.declared.refusal.JournalRefusal.{JournalRefusal}
 use Rattle.hs_journal.specs.Views.{PlainJournal}

@@ -2,8 +2,8 @@
 
 ghost use Rattle.std.specs.Prelude.{◌≡◌, ◌≤◌, ◌⊎◌, ◌++◌, [], false, IfOk, length};
 ghost use Rattle.hs_base.specs.declared.limits.TheConstants.{MAX_INPUT};
-ghost use Rattle.hs_workload.specs.Validity.{IsValid};
-ghost use Rattle.hs_workload.specs.Views.{workload_of};
+ghost use Rattle.hs_records.specs.Validity.{IsValid};
+ghost use Rattle.hs_records.specs.Views.{workload_of};
 ghost use Rattle.hs_cli.specs.Commands.{IsSized, is_watched};
 ghost use Rattle.hs_cli.specs.Endings.{Due, IsReader, IsUntouched, drill_text, workload_in, journal_in};
 ghost use Rattle.hs_cli.specs.declared.command.Command.TheVariants.{Replay, Run, Convert};
@@ -19,10 +19,11 @@ use hs_json::{Parts, outcome_parts};
 use hs_law_lockstep::laws::schedule_is_lawful;
 use hs_law_outcome::Form;
 use hs_make::make_workload;
+use hs_records::Workload;
 use hs_replay::{into_outcome, replay, write_total};
 use hs_run::run;
 use hs_streams::{ReadInput, Status, read_all, refusal_line};
-use hs_workload::{ReadError, Workload, read_workload, versions_are_exchanged, write_workload};
+use hs_workload::{ReadError, read_workload, versions_are_exchanged, write_workload};
 use std::alloc::Global;
 use std::marker::Sync;
 use std::thread::Threads;

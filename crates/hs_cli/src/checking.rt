@@ -4,8 +4,8 @@ ghost use Rattle.std.specs.Prelude.{◌≡◌, ◌≤◌, ◌++◌, IfOk, length
 ghost use Rattle.hs_base.specs.declared.limits.TheConstants.{MAX_INPUT};
 ghost use Rattle.hs_journal.specs.Views.{journal_of};
 ghost use Rattle.hs_check.specs.Clauses.{number_of};
-ghost use Rattle.hs_workload.specs.Validity.{IsValid};
-ghost use Rattle.hs_workload.specs.Views.{workload_of};
+ghost use Rattle.hs_records.specs.Validity.{IsValid};
+ghost use Rattle.hs_records.specs.Views.{workload_of};
 ghost use Rattle.hs_cli.specs.Answers.{IsAnswer, IsJudged};
 ghost use Rattle.hs_cli.specs.Messages.{journal_refusal_text, unlawful_text};
 ghost use Rattle.hs_cli.specs.declared.command.Command.TheVariants.{Check};
@@ -17,8 +17,8 @@ use hs_journal::{Journal, JournalError, JournalRefusal, read_journal};
 use hs_json::outcome_parts;
 use hs_law_journal::laws::lawful_is_decided;
 use hs_law_outcome::Form;
+use hs_records::Workload;
 use hs_streams::Status;
-use hs_workload::Workload;
 use std::alloc::Global;
 
 /// What `check` answers: that the text is no journal's, or what the journal is for the workload.

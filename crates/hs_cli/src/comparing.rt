@@ -6,13 +6,13 @@ ghost use Rattle.hs_cli.specs.Endings.{compared_text};
 ghost use Rattle.hs_compare.specs.Plain.{plain_comparison};
 ghost use Rattle.hs_law_lockstep.specs.Lockstep.{lockstep};
 ghost use Rattle.hs_compare.specs.SamplerLaws.{compared_by};
-ghost use Rattle.hs_workload.specs.Validity.{IsValid};
-ghost use Rattle.hs_workload.specs.Views.{workload_of};
+ghost use Rattle.hs_records.specs.Validity.{IsValid};
+ghost use Rattle.hs_records.specs.Views.{workload_of};
 
 use hs_base::{Bytes, Memory};
 use hs_compare::{Comparison, compare, write_comparison};
+use hs_records::Workload;
 use hs_replay::replay;
-use hs_workload::Workload;
 use std::alloc::Global;
 
 /// What each sampler keeps of a workload, beside what Hindsight keeps of its replay.

@@ -1,8 +1,8 @@
 //! What `run --watch` does.
 
 ghost use Rattle.std.specs.Prelude.{◌≡◌, ◌++◌, [], map, IfOk};
-ghost use Rattle.hs_workload.specs.Validity.{IsValid};
-ghost use Rattle.hs_workload.specs.Views.{workload_of};
+ghost use Rattle.hs_records.specs.Validity.{IsValid};
+ghost use Rattle.hs_records.specs.Views.{workload_of};
 ghost use Rattle.hs_board.specs.WatchText.{watch_text};
 ghost use Rattle.hs_cli.specs.Endings.{Due, EndsWith};
 ghost use Rattle.hs_cli.specs.declared.command.Command.TheVariants.{Watch};
@@ -13,9 +13,9 @@ use hs_base::{Bytes, Gate, List, Memory, Sink, Source};
 use hs_board::{Progress, write_watched};
 use hs_json::write_outcome;
 use hs_law_outcome::Form;
+use hs_records::Workload;
 use hs_run::run_watched;
 use hs_streams::{Status, finish, refuse_too_long};
-use hs_workload::Workload;
 use std::alloc::Global;
 use std::marker::Sync;
 use std::sync::Wait;

@@ -7,8 +7,8 @@ use Rattle.hs_lists.proofs.Filters.{filter_few}
 use Rattle.hs_base.specs.declared.limits.TheConstants.{MAX_PAYLOAD}
 use Rattle.hs_records.specs.Plain.{PlainSettings}
 use Rattle.hs_compare.specs.Coming as samplers
-use Rattle.hs_workload.specs.Validity.{IsOperation, IsClient, workload_pieces}
-use Rattle.hs_workload.specs.declared.word.Setting.TheVariants as settings
+use Rattle.hs_records.specs.Validity.{IsOperation, IsClient, workload_pieces}
+use Rattle.hs_records.specs.declared.setting.Setting.TheVariants as settings
 use Rattle.hs_compare.proofs.Counted.{times_once}
 use Rattle.hs_compare.proofs.Lined.{bytes_by, bytes_same}
 use Rattle.hs_compare.proofs.Outcomed.{after_all, names_all}

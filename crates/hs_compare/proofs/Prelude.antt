@@ -54,13 +54,13 @@ pub use Rattle.hs_lists.proofs.Options.{on_ok_map}
 pub use Rattle.hs_lists.proofs.Parts.{length_map}
 pub use Rattle.hs_lists.proofs.Places.{IsIn, row_is}
 pub use Rattle.hs_lists.proofs.Ranges.{range_append}
+pub use Rattle.hs_records.proofs.Sizes.{operations_few}
 pub use Rattle.hs_records.specs.Pages.{pages_of}
 pub use Rattle.hs_records.specs.Plain.{Begin, Crumb, End, Fire, Operation, PlainWorkload, Point, Sample, settings_of}
 pub use Rattle.hs_records.specs.Records.{numbered_from, numbered_of, NumberedOperation, open_behind, Record, record_at, records_of}
-pub use Rattle.hs_workload.proofs.Sizes.{operations_few}
-pub use Rattle.hs_workload.specs.Validity.{IsValid}
-pub use Rattle.hs_workload.specs.Views.{operation_of, operations_of, workload_of}
-pub use Rattle.hs_workload.specs.declared.word.Setting.TheVariants.{Nodes}
+pub use Rattle.hs_records.specs.Validity.{IsValid}
+pub use Rattle.hs_records.specs.Views.{operation_of, operations_of, workload_of}
+pub use Rattle.hs_records.specs.declared.setting.Setting.TheVariants.{Nodes}
 pub use Rattle.std.proofs.Math.Nat.{mod-lt}
 pub use Rattle.std.proofs.Math.Seq.{drop-cons}
 pub use Rattle.std.proofs.lemmas.Bool.{cases_lt, eqb-false, eqb-true, ne_eqb}

@@ -2,7 +2,7 @@
 use Rattle.std.proofs.Common.{◌≡◌, ℕ, ◌+◌, Bool, true, false, ◌||◌, List, [], ◌∷◌, ◌++◌, map, Option, Some, None, refl, sym, ap, ap₂, ◌∙◌}
 use Rattle.hs_compare.proofs.Prelude.{list_any, TraceId, AutoRule, Operation, Begin, Point, Crumb, End, Fire, Sample, NumberedOperation, numbered_from, open_behind, trigger_in, triggers_behind, operation_of, names_of, sent_names}
 use Rattle.std.proofs.lemmas.Bool.{or_parts}
-use Rattle.hs_workload.specs.declared.operation.Op.{Op}
+use Rattle.hs_records.specs.declared.operation.Op.{Op}
 use Rattle.hs_compare.specs.Scripts.{may_trigger}
 
 none_at : (autos : List AutoRule) (earlier : List NumberedOperation) (trace : Option TraceId) (op : Operation) → may_trigger op ≡ false → trigger_in autos earlier trace op ≡ []

@@ -5,8 +5,8 @@ ghost use Rattle.std.specs.List.{list_any};
 ghost use Rattle.hs_records.specs.Pages.{pages_of};
 ghost use Rattle.hs_records.specs.Plain.{settings_of};
 ghost use Rattle.hs_law_sends.specs.Playable.{IsPlayable};
-ghost use Rattle.hs_workload.specs.Views.{operation_of};
-ghost use Rattle.hs_workload.specs.declared.operation.Op.{Op};
+ghost use Rattle.hs_records.specs.Views.{operation_of};
+ghost use Rattle.hs_records.specs.declared.operation.Op.{Op};
 ghost use Rattle.hs_compare.specs.Scripts.{may_trigger, names_of, IsClientScript};
 
 use crate::happening::NumberedEvent;
@@ -16,7 +16,7 @@ use hs_base::{ClientId, List, Memory, Settings};
 use hs_check_follow::{FollowedClient, send};
 use hs_journal::Draw;
 use hs_law_sends::laws::items_are_sent_in_order;
-use hs_workload::Op;
+use hs_records::Op;
 use std::alloc::Global;
 
 /// Whether an operation may send a trigger.

@@ -7,8 +7,8 @@ ghost use Rattle.hs_report.specs.Outcomes.{IsOutcome};
 ghost use Rattle.hs_compare.specs.Coming.{events_in_order};
 ghost use Rattle.hs_compare.specs.SamplerLaws.{compared_by, SumsToTail};
 ghost use Rattle.hs_compare.specs.Samplers.{ring_step, empty_ring};
-ghost use Rattle.hs_workload.specs.Validity.{IsValid};
-ghost use Rattle.hs_workload.specs.Views.{workload_of};
+ghost use Rattle.hs_records.specs.Validity.{IsValid};
+ghost use Rattle.hs_records.specs.Views.{workload_of};
 ghost use Rattle.hs_check_clauses.specs.Beginning.{MayBegin};
 ghost use Rattle.hs_compare.specs.Plain.{plain_comparison};
 ghost use Rattle.hs_compare.specs.Whole.{ringing_by};
@@ -26,8 +26,8 @@ use hs_base::Memory;
 use hs_check_clauses::count_rounds;
 use hs_journal::Journal;
 use hs_law_lockstep::laws::schedule_is_lawful;
+use hs_records::Workload;
 use hs_report::Outcome;
-use hs_workload::Workload;
 use std::alloc::Global;
 
 /// A ring for so many records, behind all that comes and is named in a valid workload, with a journal of its shape. The scripts that it

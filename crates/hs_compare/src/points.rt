@@ -3,14 +3,14 @@
 ghost use Rattle.std.specs.Prelude.{◌≡◌, ◌<◌, ◌+◌, ◌++◌, ◌∷◌, []};
 ghost use Rattle.hs_base.specs.declared.ids.ClientId.{ClientId};
 ghost use Rattle.hs_records.specs.Records.{open_behind, record_in};
-ghost use Rattle.hs_workload.specs.Views.{operation_of};
+ghost use Rattle.hs_records.specs.Views.{operation_of};
 ghost use Rattle.hs_compare.specs.Points.{Operations, HasGone, brought, coming_seen, record_seen};
 
 use crate::coming::Coming;
 use hs_base::limits::MAX_OPERATIONS;
 use hs_base::{ClientId, RecordId, TraceId};
 use hs_law_sends::laws::one_operation_more;
-use hs_workload::Op;
+use hs_records::Op;
 
 /// A record that an operation brings.
 #[derive(Clone, Copy)]

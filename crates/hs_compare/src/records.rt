@@ -4,8 +4,8 @@ ghost use Rattle.std.specs.Prelude.{◌≡◌, ◌<◌, ◌≤◌, ◌++◌, ◌
 ghost use Rattle.hs_law_outcome.specs.Outcomes.{client_at};
 ghost use Rattle.hs_compare.specs.Coming.{all_comings, comings_of};
 ghost use Rattle.hs_law_sends.specs.Sending.{operations_at};
-ghost use Rattle.hs_workload.specs.Validity.{IsValid};
-ghost use Rattle.hs_workload.specs.Views.{operation_of, workload_of};
+ghost use Rattle.hs_records.specs.Validity.{IsValid};
+ghost use Rattle.hs_records.specs.Views.{operation_of, workload_of};
 ghost use Rattle.hs_compare.specs.Happens.{coming_of};
 ghost use Rattle.hs_compare.specs.Points.{Operations, Comings, HasJoined};
 
@@ -15,7 +15,7 @@ use crate::points::Walk;
 use hs_base::limits::MAX_OPERATIONS;
 use hs_base::{ClientId, List, Memory};
 use hs_law_sends::laws::{one_operation_more, valid_clients_may_be_played};
-use hs_workload::{Op, Workload};
+use hs_records::{Op, Workload};
 use std::alloc::Global;
 
 /// Goes on by an operation. The record that it brings joins the others.

@@ -1,7 +1,7 @@
 //! The events of a client, operation by operation.
 
 ghost use Rattle.std.specs.Prelude.{◌≡◌, ◌≤◌, ◌<◌, ◌+◌, ◌++◌, ◌∷◌, [], length, map, drop, IfOk, OnOk};
-ghost use Rattle.hs_workload.specs.Views.{operation_of};
+ghost use Rattle.hs_records.specs.Views.{operation_of};
 ghost use Rattle.hs_compare.specs.declared.happening.NumberedEvent.{NumberedEvent};
 ghost use Rattle.hs_compare.specs.Points.{Operations, HasGone, HasScript, IsScriptOf, brought, comes_in};
 ghost use Rattle.hs_compare.specs.Walking.{AreInTurn, AreLeft, events_in, run_of, rest_of, rings_after};
@@ -12,7 +12,7 @@ use crate::ring_tail::RingTail;
 use hs_base::limits::MAX_OPERATIONS;
 use hs_base::{ClientId, List, Memory};
 use hs_law_sends::laws::one_operation_more;
-use hs_workload::Op;
+use hs_records::Op;
 use std::alloc::Global;
 
 /// The events of a client in the order of its operations, and how many there are before each operation and at the

@@ -4,7 +4,7 @@ ghost use Rattle.std.specs.Prelude.{◌<◌, length, IfOk};
 ghost use Rattle.hs_journal.specs.Views.{journal_of};
 ghost use Rattle.hs_law_outcome.specs.Outcomes.{client_at};
 ghost use Rattle.hs_law_sends.specs.Sending.{operations_at};
-ghost use Rattle.hs_workload.specs.Views.{workload_of};
+ghost use Rattle.hs_records.specs.Views.{workload_of};
 ghost use Rattle.hs_compare.specs.Scripts.{IsClientScript};
 ghost use Rattle.hs_compare.specs.Beginning.{AreScripts};
 ghost use Rattle.hs_check_clauses.specs.Beginning.{MayBegin};
@@ -15,7 +15,7 @@ use crate::script::Script;
 use hs_base::{List, Memory};
 use hs_journal::Journal;
 use hs_law_sends::laws::valid_clients_may_be_played;
-use hs_workload::Workload;
+use hs_records::Workload;
 use std::alloc::Global;
 
 /// The script of the client at a place.

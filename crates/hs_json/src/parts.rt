@@ -13,7 +13,7 @@ ghost use Rattle.hs_records.specs.Plain.{PlainWorkload};
 ghost use Rattle.hs_report.specs.Outcomes.{IsOutcome};
 ghost use Rattle.hs_report.specs.Sorted.{count_line};
 ghost use Rattle.hs_report.specs.Sources.{Hold, report_by};
-ghost use Rattle.hs_workload.specs.Validity.{IsValid};
+ghost use Rattle.hs_records.specs.Validity.{IsValid};
 
 use crate::values::push_json;
 use hs_base::{Bytes, Memory};

@@ -8,7 +8,7 @@ ghost use Rattle.hs_law_outcome.specs.OutcomeText.{outcome_text};
 ghost use Rattle.hs_law_outcome.specs.declared.form.Form.TheVariants.{Json};
 ghost use Rattle.hs_records.specs.Plain.{PlainWorkload};
 ghost use Rattle.hs_report.specs.Outcomes.{IsOutcome};
-ghost use Rattle.hs_workload.specs.Validity.{IsValid};
+ghost use Rattle.hs_records.specs.Validity.{IsValid};
 
 use crate::parts::json_parts;
 use crate::values::push_json;

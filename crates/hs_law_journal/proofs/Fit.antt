@@ -7,7 +7,7 @@ use Rattle.hs_auto.specs.declared.sampled.Sampled.TheVariants as answers
 use Rattle.hs_base.specs.Rules.{fired_by}
 use Rattle.hs_journal.specs.declared.journal.Step.TheVariants as steps
 use Rattle.hs_records.specs.Plain as plain
-use Rattle.hs_workload.specs.Validity.{IsOperation, IsClient}
+use Rattle.hs_records.specs.Validity.{IsOperation, IsClient}
 use Rattle.hs_law_journal.specs.Fitting.{MayTake}
 
 -- ---- what clients send

@@ -32,8 +32,8 @@ pub use Rattle.hs_lists.proofs.Options.{mapped_from, option_unmap}
 pub use Rattle.hs_lists.proofs.Places.{get_front, get_other, get_set}
 pub use Rattle.hs_records.specs.Plain.{Begin, End, Fire, Operation, PlainSettings, PlainWorkload, Point, Sample}
 pub use Rattle.hs_records.specs.Records.{numbered_from, NumberedOperation, open_behind}
+pub use Rattle.hs_records.specs.Validity.{IsValid}
 pub use Rattle.hs_words.specs.Pages.{Sheet}
-pub use Rattle.hs_workload.specs.Validity.{IsValid}
 pub use Rattle.std.proofs.lemmas.Bool.{and_from, and_parts, cases_eq}
 pub use Rattle.std.proofs.lemmas.List.{length-map, map-append, nil_from_length}
 pub use Rattle.std.proofs.lemmas.List.Elements.{filter-append, filter_map-append}

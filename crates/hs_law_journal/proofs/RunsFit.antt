@@ -5,7 +5,7 @@ use Rattle.hs_law_journal.proofs.Prelude.{range_with_len, option_map_or, and_par
 use Rattle.std.proofs.lemmas.List.FromFn.{length-range_with_len}
 use Rattle.hs_lists.proofs.Ranges.{range_at}
 use Rattle.hs_base.specs.declared.limits.TheConstants.{MAX_OPERATIONS}
-use Rattle.hs_workload.specs.declared.word.Setting.TheVariants as settings
+use Rattle.hs_records.specs.declared.setting.Setting.TheVariants as settings
 use Rattle.hs_law_journal.specs.Fitting.{RunsFit}
 use Rattle.hs_law_journal.specs.Known.{Known}
 use Rattle.hs_law_journal.proofs.FewSent.{sends_few}

@@ -5,7 +5,7 @@ use Rattle.std.specs.List.{sum_by}
 use Rattle.hs_records.specs.Pages.{PlainPage, segment_pages, pages_of, runs_within, fits}
 use Rattle.hs_records.specs.Plain.{Crumb}
 use Rattle.hs_records.specs.Records.{AreBracketed, Piece, Segment, payload_pieces, pieces_until_end, record_pieces, segments_from}
-use Rattle.hs_workload.specs.Validity.{client_pieces, workload_pieces}
+use Rattle.hs_records.specs.Validity.{client_pieces, workload_pieces}
 use Rattle.hs_law_journal.specs.Known.{PiecesCounted}
 
 runs_few : (most size : ℕ) (pieces : List Piece) → length (runs_within most size pieces) ≤ most

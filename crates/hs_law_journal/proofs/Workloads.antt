@@ -2,7 +2,7 @@
 use Rattle.std.proofs.Common.{ℕ, zero, suc, ◌<◌, false, List, [], ◌∷◌, length, refl, arith, slice_get, unwrap_or}
 use Rattle.hs_law_journal.proofs.Prelude.{AllByRecursion, Operation, PlainWorkload, IsValid, place_of}
 use Rattle.hs_records.specs.Records.{AreBracketed}
-use Rattle.hs_workload.proofs.Sizes.{last_low}
+use Rattle.hs_records.proofs.Sizes.{last_low}
 
 pub ends_at : (clients : List (List Operation)) (place : ℕ) → AllByRecursion (AreBracketed false) clients → AreBracketed false (unwrap_or (slice_get clients place) [])
 ends_at [] place all = refl

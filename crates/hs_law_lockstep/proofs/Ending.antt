@@ -4,7 +4,7 @@ use Rattle.hs_law_lockstep.proofs.Prelude.{mul-le-mul_right, MAX_OPERATIONS, pag
 use Rattle.std.proofs.Math.Nat.{mul-le-mul_left}
 use Rattle.std.specs.List.{sum_by}
 use Rattle.hs_law_journal.proofs.Logs.{rounds_few}
-use Rattle.hs_workload.specs.declared.word.Setting.TheVariants as settings
+use Rattle.hs_records.specs.declared.setting.Setting.TheVariants as settings
 use Rattle.hs_law_lockstep.specs.Ending.{HasRounds, RoundsEnd, behind_rounds, passed, ClosingEnds}
 use Rattle.hs_law_journal.specs.Known.{PiecesCounted}
 use Rattle.hs_law_lockstep.proofs.Shapes.{begins, rounds_go, all_covered}

@@ -55,7 +55,7 @@ pub use Rattle.hs_records.specs.Plain.{Operation, PlainSettings, PlainWorkload}
 pub use Rattle.hs_records.specs.Records.{numbered_from, NumberedOperation, open_behind}
 pub use Rattle.hs_words.specs.Pages.{Sheet}
 pub use Rattle.hs_words.specs.PoolHistory.{Empty, Given, Got, is_given, is_got, IsHistoryBack, MayFollow, Missed, PoolEvent, queue_after}
-pub use Rattle.hs_workload.specs.Validity.{IsValid}
+pub use Rattle.hs_records.specs.Validity.{IsValid}
 pub use Rattle.std.proofs.Math.Nat.{div-lt_iff_lt-mul, mul-le-mul_right, suc-mul}
 pub use Rattle.std.proofs.lemmas.Bool.{and_parts, leb-true}
 pub use Rattle.std.proofs.lemmas.Grind.{flat_map-append}

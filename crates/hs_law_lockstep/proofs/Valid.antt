@@ -3,8 +3,8 @@ use Rattle.std.proofs.Common.{◌≤◌, List, [], ◌∷◌}
 use Rattle.hs_law_lockstep.proofs.Prelude.{AllByRecursion, TriggerRule, ValidWorkloadsRun}
 use Rattle.std.proofs.lemmas.List.Elements.{recursion_from_All}
 use Rattle.hs_base.specs.Rules.{IsRule}
-use Rattle.hs_workload.specs.declared.word.Setting.TheVariants as settings
-use Rattle.hs_workload.proofs.Sizes.{bracketed}
+use Rattle.hs_records.specs.declared.setting.Setting.TheVariants as settings
+use Rattle.hs_records.proofs.Sizes.{bracketed}
 
 weighed : (rules : List TriggerRule) → AllByRecursion IsRule rules → AllByRecursion (λ (rule : TriggerRule). 1 ≤ rule.weight) rules
 weighed [] all = tt

@@ -15,7 +15,7 @@ use Rattle.hs_law_journal.specs.Played.{played}
 use Rattle.hs_law_journal.specs.Pooled.{has_answers, pool_history}
 use Rattle.hs_law_journal.specs.Shape.{has_shape, has_stamps}
 use Rattle.hs_law_journal.specs.Unreads.{has_unreads}
-use Rattle.hs_workload.specs.Validity.{IsValid}
+use Rattle.hs_records.specs.Validity.{IsValid}
 use Rattle.hs_law_lockstep.specs.Lockstep.{lockstep}
 
 -- Every step of the schedule is ready when its turn comes: following the journal leaves none over.

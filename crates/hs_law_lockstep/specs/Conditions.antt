@@ -7,7 +7,7 @@ use Rattle.hs_law_agent.specs.Leading.{IsToldBelow}
 use Rattle.hs_law_agent.specs.Stepping.{Input, Took}
 use Rattle.hs_records.specs.Plain.{PlainWorkload}
 use Rattle.hs_words.specs.PoolHistory.{IsPoolHistory}
-use Rattle.hs_workload.specs.Validity.{IsValid}
+use Rattle.hs_records.specs.Validity.{IsValid}
 use Rattle.hs_law_journal.specs.Following.{NodeRun, event_of}
 use Rattle.hs_law_journal.specs.Pooled.{pool_history}
 use Rattle.hs_law_lockstep.specs.Lockstep.{Machine}

@@ -3,7 +3,7 @@
 use Rattle.std.specs.Prelude.{◌≡◌, ℕ, zero, suc, ◌+◌, ◌<◌, ◌≤◌, ◌^◌, true, false, length}
 use Rattle.hs_records.specs.Plain.{PlainWorkload}
 use Rattle.hs_law_sends.specs.Sending.{operations_at}
-use Rattle.hs_workload.specs.Validity.{IsValid}
+use Rattle.hs_records.specs.Validity.{IsValid}
 use Rattle.hs_law_journal.specs.Ends.{is_bare, rounds_of}
 use Rattle.hs_law_journal.specs.Played.{played}
 use Rattle.hs_law_lockstep.specs.Lockstep.{Machine, machine_start, done_at, passes, round, rounds, closing_limit, lockstep}

@@ -9,7 +9,7 @@ use Rattle.hs_records.specs.Plain.{PlainWorkload}
 use Rattle.hs_law_sends.specs.Draws.{draws_behind}
 use Rattle.hs_law_sends.specs.Sending.{draws_at, node_sends, operations_at, place_of}
 use Rattle.hs_words.specs.PoolHistory.{Given, MayFollow}
-use Rattle.hs_workload.specs.Validity.{IsValid}
+use Rattle.hs_records.specs.Validity.{IsValid}
 use Rattle.hs_law_journal.specs.Following.{NodeRun, followed}
 use Rattle.hs_law_journal.specs.Pooled.{event_drawn, given_buffer, pool_events, pool_history}
 use Rattle.hs_law_lockstep.specs.Lockstep.{Machine, done_at, pages_started, client_goes, pass_steps, give_steps, agents_take, agents_give, told_of, coordinator_hears}

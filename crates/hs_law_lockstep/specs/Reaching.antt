@@ -5,7 +5,7 @@ use Rattle.hs_coord.specs.Following.{Message}
 use Rattle.hs_records.specs.Plain.{PlainWorkload}
 use Rattle.hs_law_sends.specs.Sending.{draws_at, node_sends, operations_at}
 use Rattle.hs_law_agent.specs.Stepping.{after}
-use Rattle.hs_workload.specs.Validity.{IsValid}
+use Rattle.hs_records.specs.Validity.{IsValid}
 use Rattle.hs_law_journal.specs.Following.{NodeRun, log_at, run_start, followed}
 use Rattle.hs_law_journal.specs.Pooled.{pool_history}
 use Rattle.hs_law_lockstep.specs.Lockstep.{Machine, machine_start, client_goes, clients_go, agents_take, agents_give, coordinator_hears, done_at, pages_started, passes, round, rounds}

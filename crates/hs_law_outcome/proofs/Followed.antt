@@ -1,9 +1,9 @@
 -- What a valid workload is, and a journal of which nothing is left when it was followed.
 use Rattle.std.proofs.Common.{◌≡◌, ℕ, true, List, [], ◌∷◌, ◌++◌, length, sym, ap, subst, ◌∙◌, append-nil, nat_eq}
 use Rattle.hs_law_outcome.proofs.Prelude.{AllByRecursion, list_all, and_parts, eqb-true, nil_from_length, all_each, PlainJournal, PlainWorkload, IsPoolHistory, IsOfJournal, NodeRun, Run, log_at, is_done, pool_history, NoBufferIsOutTwice, EndsItsTraces}
-use Rattle.hs_workload.specs.Validity.{IsValid}
-use Rattle.hs_workload.specs.declared.word.Setting.TheVariants as settings
-use Rattle.hs_workload.proofs.Sizes.{bracketed}
+use Rattle.hs_records.specs.Validity.{IsValid}
+use Rattle.hs_records.specs.declared.setting.Setting.TheVariants as settings
+use Rattle.hs_records.proofs.Sizes.{bracketed}
 use Rattle.hs_law_outcome.specs.Headline.{DidItsLog, HaveOneWriter}
 
 pub ends_its_traces : (W : PlainWorkload) → IsValid W → EndsItsTraces W

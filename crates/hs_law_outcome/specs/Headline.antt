@@ -20,7 +20,7 @@ use Rattle.hs_law_outcome.specs.Speaking.{IsLeastClosed}
 use Rattle.hs_records.specs.Plain.{PlainWorkload}
 use Rattle.hs_words.specs.Pages.{Sheet}
 use Rattle.hs_words.specs.PoolHistory.{PoolEvent, Got, is_got, is_given, IsPoolHistory}
-use Rattle.hs_workload.specs.Validity.{IsValid}
+use Rattle.hs_records.specs.Validity.{IsValid}
 use Rattle.hs_law_journal.specs.Following.{NodeRun, log_at, followed}
 use Rattle.hs_law_journal.specs.Journals.{of_short_of_pins, of_three_traces}
 use Rattle.hs_law_journal.specs.Lawful.{IsLawful}

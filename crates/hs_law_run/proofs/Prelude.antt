@@ -44,11 +44,11 @@ pub use Rattle.hs_lists.proofs.Tests.{list_all_from, list_any_none}
 pub use Rattle.hs_records.specs.Pages.{pages_of}
 pub use Rattle.hs_records.specs.Plain.{Operation, PlainSettings, PlainWorkload}
 pub use Rattle.hs_records.specs.Records.{AreBracketed}
+pub use Rattle.hs_records.specs.Validity.{IsValid}
 pub use Rattle.hs_words.proofs.Deeds.{at_below, draw_is_at}
 pub use Rattle.hs_words.specs.Ends.{Answer, answer_to, answered, answers_by, answers_in, Deed, drawn_in, events_of, GiverTurn, is_any_given, IsDeedAt, IsDraw, IsTogether, met, put_if, told_in, unread}
 pub use Rattle.hs_words.specs.Pages.{Sheet}
 pub use Rattle.hs_words.specs.PoolHistory.{is_missed, IsHistoryBack, PoolEvent}
-pub use Rattle.hs_workload.specs.Validity.{IsValid}
 pub use Rattle.std.proofs.Math.Nat.{div-lt_iff_lt-mul}
 pub use Rattle.std.proofs.lemmas.Bool.{and_from, and_parts}
 pub use Rattle.std.proofs.lemmas.Grind.{flat_map-append}

@@ -2,8 +2,8 @@
 use Rattle.std.proofs.Common.{◌≡◌, ℕ, suc, ◌+◌, ◌-◌, ◌*◌, ◌/◌, ◌%◌, ◌<◌, ◌≤◌, max, false, List, [], ◌∷◌, length, refl, Option, Some, None, unwrap_or, fold, arith, map, slice_get}
 use Rattle.hs_law_run.proofs.Prelude.{AllByRecursion, div-lt_iff_lt-mul, slice_get_within, all_at, Operation, PlainWorkload, AreBracketed, place_of, IsValid, rounds_of}
 use Rattle.std.proofs.Math.Nat.{mod-lt, mod-eq-sub-div-mul, div-mul-le_self}
-use Rattle.hs_workload.specs.Validity.{IsClient}
-use Rattle.hs_workload.specs.declared.word.Setting.TheVariants as settings
+use Rattle.hs_records.specs.Validity.{IsClient}
+use Rattle.hs_records.specs.declared.setting.Setting.TheVariants as settings
 use Rattle.hs_law_journal.specs.Ends.{rounds_for}
 use Rattle.hs_law_run.proofs.Rounds.{IsFit}
 

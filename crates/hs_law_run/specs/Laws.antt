@@ -5,7 +5,7 @@ use Rattle.hs_coord.specs.Messages.{Message}
 use Rattle.hs_law_agent.specs.State.{AgentState}
 use Rattle.hs_records.specs.Plain.{PlainWorkload}
 use Rattle.hs_law_sends.specs.Sending.{draws_at}
-use Rattle.hs_workload.specs.Validity.{IsValid}
+use Rattle.hs_records.specs.Validity.{IsValid}
 use Rattle.hs_law_journal.specs.Following.{NodeRun, followed}
 use Rattle.hs_law_journal.specs.Lawful.{IsLawful}
 use Rattle.hs_law_journal.specs.Doings.{journal_of}

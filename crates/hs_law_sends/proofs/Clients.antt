@@ -5,8 +5,8 @@ use Rattle.std.specs.Prelude.{unwrap_or}
 use Rattle.hs_base.specs.declared.limits.TheConstants.{MAX_OPERATIONS}
 use Rattle.hs_records.specs.Plain.{PlainSettings, PlainWorkload}
 use Rattle.hs_law_sends.specs.Sending.{operations_at}
-use Rattle.hs_workload.specs.declared.word.Setting.TheVariants as words
-use Rattle.hs_workload.specs.Validity.{IsValid, IsClient, client_pieces, workload_pieces}
+use Rattle.hs_records.specs.declared.setting.Setting.TheVariants as words
+use Rattle.hs_records.specs.Validity.{IsValid, IsClient, client_pieces, workload_pieces}
 use Rattle.hs_law_sends.specs.Playable.{IsPlayable}
 
 record IsOne (version : ℕ) (settings : PlainSettings) (most : ℕ) (ops : List Operation) : Type 0 where

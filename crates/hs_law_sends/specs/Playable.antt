@@ -3,7 +3,7 @@ use Rattle.std.specs.Prelude.{ℕ, ◌≤◌, List}
 use Rattle.hs_base.specs.declared.limits.TheConstants.{MIN_SIZE, MAX_SIZE, MAX_OPERATIONS}
 use Rattle.hs_base.specs.Rules.{AreAutoRules}
 use Rattle.hs_records.specs.Plain.{Operation, PlainSettings}
-use Rattle.hs_workload.specs.Validity.{IsClient, client_pieces}
+use Rattle.hs_records.specs.Validity.{IsClient, client_pieces}
 
 -- The operations are those of a client of a valid workload with these settings.
 pub record IsPlayable (settings : PlainSettings) (ops : List Operation) : Type 0 where

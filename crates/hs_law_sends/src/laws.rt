@@ -8,7 +8,7 @@ ghost use Rattle.hs_law_sends.specs.Order.{CrumbsAreInOrder, TriggersAreInOrder,
 ghost use Rattle.std.specs.Prelude.{ℕ, ◌<◌, length};
 ghost use Rattle.hs_records.specs.Plain.{PlainWorkload};
 ghost use Rattle.hs_law_sends.specs.Sending.{operations_at};
-ghost use Rattle.hs_workload.specs.Validity.{IsValid};
+ghost use Rattle.hs_records.specs.Validity.{IsValid};
 ghost use Rattle.hs_law_sends.specs.Playable.{IsPlayable};
 
 use hs_client::any_steps_make_the_book;

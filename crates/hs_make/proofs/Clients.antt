@@ -9,8 +9,8 @@ use Rattle.hs_records.specs.Plain.{Operation}
 use Rattle.hs_make.specs.Words.{Words, each_below}
 use Rattle.hs_make.specs.Made.{visit_at, depth_at, behind_visits, Request, left_to, requests_at, request_until, request_at, behind_request, behind_requests, client_at, clients_at, Adds}
 use Rattle.hs_base.specs.Listing.{Listing}
-use Rattle.hs_workload.specs.declared.operation.Op.{Op}
-use Rattle.hs_workload.specs.Views.{operations_of}
+use Rattle.hs_records.specs.declared.operation.Op.{Op}
+use Rattle.hs_records.specs.Views.{operations_of}
 use Rattle.hs_make.proofs.Sequences.{each_below-more, behind_parts-more, length-each_below, get_or-each_below, is_each_below}
 
 -- a list of one item for each number, with another in one place

@@ -6,8 +6,7 @@ use Rattle.std.proofs.lemmas.Bool.Decides.{leb_tells}
 use Rattle.hs_base.specs.declared.ids.TraceId.{TraceId}
 use Rattle.hs_records.specs.Plain.{Operation, Begin, Point, Crumb, End, Sample}
 use Rattle.hs_records.specs.Records.{count_cuts}
-use Rattle.hs_workload.specs.LookBack.{operation_pieces}
-use Rattle.hs_workload.specs.Validity.{client_pieces, workload_pieces}
+use Rattle.hs_records.specs.Validity.{operation_pieces, client_pieces, workload_pieces}
 use Rattle.hs_make.specs.Words.{Words, each_below}
 use Rattle.hs_make.specs.Made.{payload_at, point_count, behind_points, first_points, points_at, samples_at, visit_at, depth_at, behind_visits, request_at, behind_requests, left_to, client_at, clients_at}
 use Rattle.hs_make.proofs.Sequences.{each_below-suc, length-each_below, get_or-each_below}

@@ -2,8 +2,8 @@
 use Rattle.std.proofs.Common.{◌≡◌, ℕ, ◌+◌, ◌%◌, List, [], ◌∷◌, ◌++◌, map, ap, sym, ◌∙◌, add-zero, refl}
 use Rattle.std.proofs.lemmas.List.{map-append, append_assoc}
 use Rattle.hs_records.specs.Plain.{Operation, Point}
-use Rattle.hs_workload.specs.declared.operation.Op.{Op}
-use Rattle.hs_workload.specs.Views.{operation_of}
+use Rattle.hs_records.specs.declared.operation.Op.{Op}
+use Rattle.hs_records.specs.Views.{operation_of}
 use Rattle.hs_make.specs.Words.{Words, from}
 use Rattle.hs_make.specs.Made.{bytes_at, payload_at, behind_payload, behind_points, first_points, behind_visit, behind_visits}
 use Rattle.hs_make.proofs.Sequences.{each_below-more, behind_parts-more, from-from}

@@ -10,7 +10,7 @@ use Rattle.hs_lists.proofs.Alls.{all_append}
 use Rattle.hs_base.specs.declared.ids.TraceId.{TraceId}
 use Rattle.hs_records.specs.Plain.{Operation, Begin, Point, Crumb, End, Sample}
 use Rattle.hs_records.specs.Records.{AreBracketed}
-use Rattle.hs_workload.specs.Validity.{IsOperation, IsClient}
+use Rattle.hs_records.specs.Validity.{IsOperation, IsClient}
 use Rattle.hs_make.specs.Words.{Words, from, behind_parts, each_below}
 use Rattle.hs_make.specs.Made.{payload_length, payload_at, point_count, behind_points, points_at, samples_at, visit_at, behind_payload, behind_visit, depth_at, behind_visits, request_at, behind_request, behind_requests, left_to, client_at, made_settings}
 use Rattle.hs_make.proofs.Sequences.{each_below-suc, length-each_below, get_or-each_below}

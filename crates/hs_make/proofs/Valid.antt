@@ -11,10 +11,10 @@ use Rattle.hs_base.specs.declared.limits.TheConstants.{MAX_REQUESTS}
 use Rattle.hs_base.specs.Rules.{IsRule, AreRules, IsAutoRule, AreAutoRules, is_declared, fired_by}
 use Rattle.hs_base.specs.Ranges.{Within}
 use Rattle.hs_records.specs.Plain.{Operation, PlainSettings}
-use Rattle.hs_workload.specs.declared.word.Setting.{Setting}
-use Rattle.hs_workload.specs.declared.word.Setting.TheVariants as settings
-use Rattle.hs_workload.specs.Settings.{least, most, setting_of}
-use Rattle.hs_workload.specs.Validity.{IsClient, IsValid}
+use Rattle.hs_records.specs.declared.setting.Setting.{Setting}
+use Rattle.hs_records.specs.declared.setting.Setting.TheVariants as settings
+use Rattle.hs_records.specs.Settings.{least, most, setting_of}
+use Rattle.hs_records.specs.Validity.{IsClient, IsValid}
 use Rattle.rand_xoshiro.specs.Xoshiro256.{plus_plus}
 use Rattle.hs_lists.proofs.Alls.{all_append}
 use Rattle.hs_make.specs.Words.{Words, words_from, seeded_words, each_below}

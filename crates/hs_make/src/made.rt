@@ -3,14 +3,14 @@
 ghost use Rattle.std.specs.Prelude.{◌≡◌, ◌≤◌, [], map, vec_len, IfOk};
 ghost use Rattle.hs_base.specs.declared.limits.TheConstants.{MAX_REQUESTS};
 ghost use Rattle.hs_records.specs.Plain.{settings_of};
-ghost use Rattle.hs_workload.specs.Views.{operations_of, workload_of};
-ghost use Rattle.hs_workload.specs.Validity.{IsValid};
+ghost use Rattle.hs_records.specs.Views.{operations_of, workload_of};
+ghost use Rattle.hs_records.specs.Validity.{IsValid};
 ghost use Rattle.hs_make.specs.Words.{each_below};
 ghost use Rattle.hs_make.specs.Made.{made_settings, made_workload};
 
 use crate::request::{MADE_CLIENTS, MADE_NODES, draw_request};
 use hs_base::{AutoRule, List, Memory, Settings, TriggerId, TriggerRule};
-use hs_workload::{Op, Workload};
+use hs_records::{Op, Workload};
 use rand_core::SeedableRng;
 use rand_xoshiro::Xoshiro256PlusPlus;
 use std::alloc::Global;

@@ -1,14 +1,14 @@
 //! One request.
 
 ghost use Rattle.std.specs.Prelude.{◌≡◌, map, vec_len, OnOk};
-ghost use Rattle.hs_workload.specs.Views.{operations_of};
+ghost use Rattle.hs_records.specs.Views.{operations_of};
 ghost use Rattle.hs_make.specs.Words.{words_from};
 ghost use Rattle.hs_make.specs.Made.{request_at, Adds, behind_request};
 
 use crate::draws::{draw, pick};
 use crate::visit::{Visit, draw_visit};
 use hs_base::{List, Memory, TraceId};
-use hs_workload::Op;
+use hs_records::Op;
 use rand_xoshiro::Xoshiro256PlusPlus;
 use std::alloc::Global;
 

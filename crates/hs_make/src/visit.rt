@@ -1,13 +1,13 @@
 //! What a request does at one node.
 
 ghost use Rattle.std.specs.Prelude.{◌≡◌, ◌+◌, ◌*◌, ◌^◌, ◌<◌, ◌++◌, OnOk};
-ghost use Rattle.hs_workload.specs.Views.{operations_of};
+ghost use Rattle.hs_records.specs.Views.{operations_of};
 ghost use Rattle.hs_make.specs.Words.{words_from, from};
 ghost use Rattle.hs_make.specs.Made.{point_count, behind_points, points_at, samples_at, visit_at, behind_visit};
 
 use crate::draws::{draw_payload, pick};
 use hs_base::{List, Memory, NodeId, TraceId};
-use hs_workload::Op;
+use hs_records::Op;
 use rand_xoshiro::Xoshiro256PlusPlus;
 use std::alloc::Global;
 

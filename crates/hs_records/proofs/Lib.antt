@@ -4,3 +4,4 @@ pub mod PieceNumbers
 pub mod Runs
 pub mod PagePieces
 pub mod Payloads
+pub mod Sizes

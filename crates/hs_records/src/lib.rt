@@ -1,14 +1,18 @@
-//! Workloads as plain data, and what they come to: records, the pieces of their payloads, and pages. The definitions stand
-//! in `specs/`, and what holds of them is the contract of a function in `laws`.
+//! Workloads in memory and as plain data, which are valid, and what they come to: records, the pieces of their payloads, and
+//! pages. The definitions stand in `specs/`, and what holds of them is the contract of a function in `laws`.
 
 #![tactic(auto)]
 
 mod laws;
+mod operation;
 mod pieces;
+mod setting;
 
 pub use laws::{
     pages_carry_the_records, pages_hold_the_pieces, payloads_are_cut_from_the_front,
     pieces_are_counted, pieces_are_full, pieces_join_to_the_payload,
     the_longest_runs_are_the_pages,
 };
+pub use operation::{Op, Workload};
 pub use pieces::{piece_count, piece_limit};
+pub use setting::Setting;

@@ -9,7 +9,7 @@ use Rattle.hs_coord.specs.declared.asks.Asks.{Asks}
 use Rattle.hs_law_journal.specs.Following.{Asks as AskQueue, ask_by}
 use Rattle.hs_law_lockstep.specs.Conditions.{MachinesTellWithin}
 use Rattle.hs_law_agent.specs.Leading.{IsToldBelow}
-use Rattle.hs_workload.specs.declared.word.Setting.TheVariants as settings
+use Rattle.hs_records.specs.declared.setting.Setting.TheVariants as settings
 use Rattle.hs_replay.specs.Hearing.{with_told, TellsNext, asked_by, IsHeardOut}
 use Rattle.hs_replay.proofs.Taken.{more_remain}
 

@@ -11,8 +11,8 @@ use Rattle.hs_replay_client.specs.Places.{TellsLeft, TellsBare}
 use Rattle.hs_law_sends.specs.Sending.{sent_within}
 use Rattle.hs_law_sends.specs.SoFar.{AllChunksAreSent, AllCrumbsAreSent, AllTriggersAreSent}
 use Rattle.hs_records.specs.Records.{AreBracketed}
-use Rattle.hs_workload.specs.Validity.{IsClient}
-use Rattle.hs_workload.specs.declared.word.Setting.TheVariants as settings
+use Rattle.hs_records.specs.Validity.{IsClient}
+use Rattle.hs_records.specs.declared.setting.Setting.TheVariants as settings
 
 -- the agent took all that a client of its run sent
 abbrev pub AllTaken : NodeRun → ℕ → Type 0

@@ -46,6 +46,10 @@ pub use Rattle.hs_lists.proofs.Ranges.{map_range_from, range_append}
 pub use Rattle.hs_lists.proofs.Tests.{list_all_by_place, list_all_fails}
 pub use Rattle.hs_pool.specs.Pool.{IsAfter, Pool}
 pub use Rattle.hs_records.specs.Plain.{Operation, PlainSettings, PlainWorkload, settings_of}
+pub use Rattle.hs_records.specs.Validity.{IsValid}
+pub use Rattle.hs_records.specs.Views.{operation_of, workload_of}
+pub use Rattle.hs_records.specs.declared.operation.Op.{Op}
+pub use Rattle.hs_records.specs.declared.operation.Workload.{Workload}
 pub use Rattle.hs_replay.specs.All.{AllAt, AllClosed, AllHeard, clients_gone, HasHeard, NodesAt, NodesBetween, TellsLeft}
 pub use Rattle.hs_replay.specs.Finishing.{client_noted, HasEnded, HaveEnded, IsBookAt}
 pub use Rattle.hs_replay.specs.Going.{AreOf, node_goes}
@@ -66,10 +70,6 @@ pub use Rattle.hs_words.specs.Pages.{Sheet}
 pub use Rattle.hs_words.specs.PoolHistory.{PoolEvent}
 pub use Rattle.hs_words.specs.contracts.token.UnitToken.TheImpl.{ghosts}
 pub use Rattle.hs_words.specs.declared.token.Held.{Held}
-pub use Rattle.hs_workload.specs.Validity.{IsValid}
-pub use Rattle.hs_workload.specs.Views.{operation_of, workload_of}
-pub use Rattle.hs_workload.specs.declared.operation.Op.{Op}
-pub use Rattle.hs_workload.specs.declared.operation.Workload.{Workload}
 pub use Rattle.std.proofs.lemmas.Bool.{cases_lt, eqb-true, ne_eqb}
 pub use Rattle.std.proofs.lemmas.Iterator.Adapters.{YieldsList-from_vec}
 pub use Rattle.std.proofs.lemmas.Iterator.Consumers.{YieldsList-end, YieldsList-turn}

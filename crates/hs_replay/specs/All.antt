@@ -4,7 +4,7 @@ use Rattle.std.specs.List.{range_with_len}
 use Rattle.hs_coord.specs.Following.{Messages}
 use Rattle.hs_coord.specs.Kept.{PlainCoordinator, HasTaken}
 use Rattle.hs_records.specs.Plain.{PlainWorkload}
-use Rattle.hs_workload.specs.Validity.{IsValid}
+use Rattle.hs_records.specs.Validity.{IsValid}
 use Rattle.hs_law_journal.specs.Ends.{is_bare}
 use Rattle.hs_law_journal.specs.Played.{played}
 use Rattle.hs_law_lockstep.specs.Ending.{AllDone}

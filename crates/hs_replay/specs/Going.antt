@@ -6,8 +6,8 @@ use Rattle.hs_base.specs.declared.settings.Settings.{Settings}
 use Rattle.hs_law_lockstep.specs.Lockstep.{Machine, client_goes}
 use Rattle.hs_records.specs.Plain.{PlainWorkload, settings_of}
 use Rattle.hs_law_sends.specs.Sending.{operations_at, place_of}
-use Rattle.hs_workload.specs.declared.operation.Op.{Op}
-use Rattle.hs_workload.specs.Views.{operation_of, operations_of}
+use Rattle.hs_records.specs.declared.operation.Op.{Op}
+use Rattle.hs_records.specs.Views.{operation_of, operations_of}
 
 -- the machine when the first so many clients of a node went
 abbrev pub node_goes : PlainWorkload → Machine → ℕ → ℕ → Machine

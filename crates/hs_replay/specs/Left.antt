@@ -7,8 +7,8 @@ use Rattle.hs_law_journal.specs.Following.{NodeRun}
 use Rattle.hs_law_lockstep.specs.Lockstep.{Machine, done_at}
 use Rattle.hs_records.specs.Plain.{PlainWorkload}
 use Rattle.hs_law_sends.specs.Sending.{ClientSends, operations_at, place_of}
-use Rattle.hs_workload.specs.declared.operation.Op.{Op}
-use Rattle.hs_workload.specs.Views.{operations_of}
+use Rattle.hs_records.specs.declared.operation.Op.{Op}
+use Rattle.hs_records.specs.Views.{operations_of}
 
 -- These are the operations of the clients of a node.
 pub record HasClients (W : PlainWorkload) (n : ℕ) (clients : List (Listing Op)) : Type 0 where

@@ -7,8 +7,8 @@ use Rattle.hs_replay_client.specs.Places.{ReplayClientIsAt}
 use Rattle.hs_replay_client.specs.ReplayClients.{PlainReplayClient}
 use Rattle.hs_records.specs.Plain.{PlainWorkload}
 use Rattle.hs_law_sends.specs.Sending.{operations_at, place_of}
-use Rattle.hs_workload.specs.declared.operation.Op.{Op}
-use Rattle.hs_workload.specs.Validity.{IsValid}
+use Rattle.hs_records.specs.declared.operation.Op.{Op}
+use Rattle.hs_records.specs.Validity.{IsValid}
 use Rattle.hs_replay.specs.Going.{AreOf}
 use Rattle.hs_replay.specs.Parts.{PlainReplayNode}
 use Rattle.hs_replay.specs.Standing.{NodeIsAt}

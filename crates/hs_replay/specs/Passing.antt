@@ -15,7 +15,7 @@ use Rattle.hs_law_agent.specs.Stepping.{Took, step_of}
 use Rattle.hs_records.specs.Plain.{PlainSettings, PlainWorkload}
 use Rattle.hs_law_sends.specs.Sending.{client_sends, place_of, sent_within}
 use Rattle.hs_words.specs.Buffers.{buffer_of}
-use Rattle.hs_workload.specs.Validity.{IsValid}
+use Rattle.hs_records.specs.Validity.{IsValid}
 use Rattle.hs_replay.specs.declared.queue.Queue.{Queue}
 use Rattle.hs_replay.specs.declared.queue.Queue.TheVariants as queues
 use Rattle.hs_replay.specs.Parts.{PlainReplayNode}

@@ -6,7 +6,7 @@ ghost use Rattle.hs_law_journal.specs.Played.{played};
 ghost use Rattle.hs_law_lockstep.specs.Ending.{AllDone};
 ghost use Rattle.hs_law_lockstep.specs.Lockstep.{Machine, agents_take, agents_give, clients_go, passes};
 ghost use Rattle.hs_records.specs.Plain.{PlainWorkload};
-ghost use Rattle.hs_workload.specs.Views.{workload_of};
+ghost use Rattle.hs_records.specs.Views.{workload_of};
 ghost use Rattle.hs_replay.specs.All.{AllAt, NodesAt, NodesBetween, TellsLeft};
 ghost use Rattle.hs_base.specs.Changing.{ChangesAt};
 ghost use Rattle.hs_replay.specs.Going.{node_goes};
@@ -21,7 +21,7 @@ use hs_coord::Coordinator;
 use hs_law_lockstep::laws::{
     agents_give_so, agents_take_so, clients_go_so, machines_are_whole, machines_lead_on,
 };
-use hs_workload::Workload;
+use hs_records::Workload;
 
 /// Each client of each node does its next operations.
 pub fn go_all(nodes: &mut List<ReplayNode>, workload: &Workload) -> Result<(), Memory>

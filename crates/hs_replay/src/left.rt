@@ -14,7 +14,7 @@ use crate::node::ReplayNode;
 use hs_base::List;
 use hs_law_lockstep::laws::machines_are_whole;
 use hs_law_sends::laws::all_is_sent_in_the_end;
-use hs_workload::Op;
+use hs_records::Op;
 
 impl ReplayNode {
     /// Whether one of the clients, which have these operations, has operations left.

@@ -12,9 +12,9 @@ use hs_base::{ClientId, List, Memory, NodeId, Settings};
 use hs_law_lockstep::laws::machines_start_so;
 use hs_law_sends::laws::valid_clients_may_be_played;
 use hs_pool::PlainPool;
+use hs_records::Op;
 use hs_replay_client::ReplayClient;
 use hs_words::Stock;
-use hs_workload::Op;
 use std::alloc::Global;
 use std::collections::VecDeque;
 

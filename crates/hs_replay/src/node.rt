@@ -12,7 +12,7 @@ ghost use Rattle.hs_records.specs.Plain.{PlainWorkload};
 ghost use Rattle.hs_words.specs.Buffers.{buffer_in};
 ghost use Rattle.hs_replay_client.specs.ReplayClients.{PlainReplayClient};
 ghost use Rattle.hs_law_sends.specs.Sending.{place_of};
-ghost use Rattle.hs_workload.specs.Views.{operation_of};
+ghost use Rattle.hs_records.specs.Views.{operation_of};
 ghost use Rattle.hs_replay.specs.Going.{node_goes, AreOf, IsOneOf};
 ghost use Rattle.hs_replay_client.specs.Places.{IsWithin, Goes, KeepsPool, TakesChunk, TakesCrumb, TakesTrigger};
 ghost use Rattle.hs_base.specs.Changing.{ChangesAt};
@@ -30,9 +30,9 @@ use hs_law_lockstep::laws::{
     agents_give_so, agents_take_so, clients_go_so, machines_are_whole, machines_fit,
 };
 use hs_pool::{PlainPool, what_is_out_may_be_given};
+use hs_records::Op;
 use hs_replay_client::ReplayClient;
 use hs_words::Held;
-use hs_workload::Op;
 use std::collections::VecDeque;
 use std::marker::Model;
 

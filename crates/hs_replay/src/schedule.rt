@@ -3,7 +3,7 @@
 ghost use Rattle.std.specs.Prelude.{OnOk};
 ghost use Rattle.hs_law_lockstep.specs.Ending.{behind_rounds};
 ghost use Rattle.hs_law_lockstep.specs.Lockstep.{machine_start};
-ghost use Rattle.hs_workload.specs.Views.{workload_of};
+ghost use Rattle.hs_records.specs.Views.{workload_of};
 ghost use Rattle.hs_replay.specs.All.{AllAt, AllClosed};
 
 use crate::all::{go_all, has_left, is_bare, pass};
@@ -11,7 +11,7 @@ use crate::node::ReplayNode;
 use hs_base::{List, Memory};
 use hs_coord::Coordinator;
 use hs_law_lockstep::laws::{clients_go_so, closing_ends, machines_are_whole, rounds_end};
-use hs_workload::Workload;
+use hs_records::Workload;
 
 /// All rounds, as long as operations are left: the clients' turns, the agents' passes, and the coordinator's.
 pub fn rounds(

@@ -2,8 +2,8 @@
 
 ghost use Rattle.std.specs.Prelude.{◌<◌, ℕ, IfOk};
 ghost use Rattle.hs_law_lockstep.specs.Lockstep.{machine_start};
-ghost use Rattle.hs_workload.specs.Validity.{IsValid};
-ghost use Rattle.hs_workload.specs.Views.{workload_of};
+ghost use Rattle.hs_records.specs.Validity.{IsValid};
+ghost use Rattle.hs_records.specs.Views.{workload_of};
 ghost use Rattle.hs_replay.specs.All.{AllAt, NodesAt};
 ghost use Rattle.hs_replay.specs.Standing.{NodeIsAt};
 
@@ -11,7 +11,7 @@ use crate::node::ReplayNode;
 use hs_base::{List, Memory};
 use hs_coord::Coordinator;
 use hs_law_lockstep::laws::machines_start_so;
-use hs_workload::Workload;
+use hs_records::Workload;
 use std::alloc::Global;
 
 /// The nodes of a valid workload.

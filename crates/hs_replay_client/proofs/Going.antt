@@ -6,7 +6,7 @@ use Rattle.hs_lists.proofs.Alls.{all_mid}
 use Rattle.hs_records.specs.Plain as plain
 use Rattle.hs_records.specs.Records.{AreBracketed}
 use Rattle.hs_law_sends.proofs.OneMore.{bracketed_behind}
-use Rattle.hs_workload.specs.Validity.{IsOperation}
+use Rattle.hs_records.specs.Validity.{IsOperation}
 use Rattle.hs_replay_client.proofs.Spending.{spends_none, spends_more}
 
 -- ---- operations in parts

@@ -24,8 +24,12 @@ pub use Rattle.hs_lists.proofs.Options.{is_some_false}
 pub use Rattle.hs_lists.proofs.Places.{get_front}
 pub use Rattle.hs_pool.specs.Pool.{IsAfter, Pool}
 pub use Rattle.hs_records.proofs.Payloads.{AreCut}
+pub use Rattle.hs_records.proofs.Sizes.{client_more}
 pub use Rattle.hs_records.specs.Plain.{Begin, End, Fire, Operation, PlainSettings, Point, Sample}
 pub use Rattle.hs_records.specs.Records.{coming, numbered_of, Piece, piece_count, piece_limit, record_pieces, Segment, segments_from, segments_of}
+pub use Rattle.hs_records.specs.Validity.{client_pieces, operation_pieces}
+pub use Rattle.hs_records.specs.Views.{operation_of}
+pub use Rattle.hs_records.specs.declared.operation.Op.{Op}
 pub use Rattle.hs_replay_client.specs.Doing.{Does, Gone, HasDone, MayDo}
 pub use Rattle.hs_replay_client.specs.Inside.{working_in, writing_in}
 pub use Rattle.hs_replay_client.specs.Places.{chunk_of, chunks_within, gone_of, IsDone, made_for, ReplayClientIsAt, TakesChunk, TakesCrumb, TakesTrigger, TellsBare, Waits, WentOn}
@@ -38,11 +42,6 @@ pub use Rattle.hs_words.specs.Buffers.{buffer_of}
 pub use Rattle.hs_words.specs.Chunks.{clear_chunk, Contents}
 pub use Rattle.hs_words.specs.PoolHistory.{PoolEvent, queue_after}
 pub use Rattle.hs_words.specs.declared.token.Drawn.{Drawn}
-pub use Rattle.hs_workload.proofs.Keeps.{client_more}
-pub use Rattle.hs_workload.specs.LookBack.{operation_pieces}
-pub use Rattle.hs_workload.specs.Validity.{client_pieces}
-pub use Rattle.hs_workload.specs.Views.{operation_of}
-pub use Rattle.hs_workload.specs.declared.operation.Op.{Op}
 pub use Rattle.std.proofs.lemmas.Bool.{le-ltb, ltb-false}
 pub use Rattle.std.proofs.lemmas.List.{append-nil, drop_at, length-map, length-take-le, map-append, reverse-append, take-append-drop, take_all, take_at}
 pub use Rattle.std.proofs.lemmas.Option.{same_Some, slice_get-map}

@@ -22,7 +22,7 @@ use Rattle.hs_law_sends.specs.SoFar.{done_behind}
 use Rattle.hs_words.specs.Chunks.{Contents, with_page, clear_chunk}
 use Rattle.hs_words.specs.Pages.{Sheet}
 use Rattle.hs_words.specs.PoolHistory.{PoolEvent}
-use Rattle.hs_workload.specs.Validity.{client_pieces}
+use Rattle.hs_records.specs.Validity.{client_pieces}
 use Rattle.hs_replay_client.specs.ReplayClients.{PlainReplayClient, Unleased}
 use Rattle.hs_replay_client.specs.Wells.{Way, IsReadyFor, DrawsAll}
 use Rattle.hs_replay_client.specs.Writing.{Made}

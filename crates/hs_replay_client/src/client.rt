@@ -5,9 +5,8 @@ ghost use Rattle.hs_base.specs.declared.limits.TheConstants.{MAX_OPERATIONS, MIN
 ghost use Rattle.hs_journal.specs.Books.{client_book_of};
 ghost use Rattle.hs_records.specs.Plain.{settings_of};
 ghost use Rattle.hs_words.specs.Buffers.{buffer_in};
-ghost use Rattle.hs_workload.specs.LookBack.{operation_pieces};
-ghost use Rattle.hs_workload.specs.Validity.{client_pieces};
-ghost use Rattle.hs_workload.specs.Views.{operation_of};
+ghost use Rattle.hs_records.specs.Validity.{operation_pieces, client_pieces};
+ghost use Rattle.hs_records.specs.Views.{operation_of};
 ghost use Rattle.hs_law_sends.specs.Playable.{IsPlayable};
 ghost use Rattle.hs_replay_client.specs.Places.{ReplayClientIsAt, IsWithin, Goes, KeepsPool, IsWithinAt, GoesOn, TakesChunk, TakesCrumb, TakesTrigger, TellsLeft, TellsBare, IsDone, Notes};
 
@@ -23,9 +22,8 @@ use hs_law_sends::laws::{
     the_first_triggers_are_sent, timed_pages_are_timely,
 };
 use hs_pool::PlainPool;
-use hs_records::piece_count;
+use hs_records::{Op, piece_count};
 use hs_words::Held;
-use hs_workload::Op;
 use std::alloc::Global;
 use std::collections::VecDeque;
 use std::marker::Model;

@@ -5,8 +5,8 @@ ghost use Rattle.hs_auto.specs.Watching.{Watch};
 ghost use Rattle.hs_base.specs.Rules.{fired_by};
 ghost use Rattle.hs_records.specs.Plain.{Begin, Point, Crumb as LeaveCrumb, End, Fire, Sample};
 ghost use Rattle.hs_records.specs.Records.{piece_count};
-ghost use Rattle.hs_workload.specs.LookBack.{operation_pieces};
-ghost use Rattle.hs_workload.specs.Views.{operation_of};
+ghost use Rattle.hs_records.specs.Validity.{operation_pieces};
+ghost use Rattle.hs_records.specs.Views.{operation_of};
 ghost use Rattle.hs_replay_client.specs.Writing.{Spends, CountsOne, IsSound};
 ghost use Rattle.hs_replay_client.specs.Doing.{Does, HasNothing, MayDo};
 ghost use Rattle.hs_replay_client.specs.Inside.{working_in};
@@ -18,7 +18,7 @@ use hs_auto::{Auto, Sampled};
 use hs_base::{AutoRule, Crumb, List, Memory, NodeId, TraceId, Trigger, TriggerId};
 use hs_client::Begun;
 use hs_law_sends::laws::one_operation_more;
-use hs_workload::Op;
+use hs_records::Op;
 use std::collections::VecDeque;
 
 /// A client's core with its autotriggers, and the three queues of what it sent.

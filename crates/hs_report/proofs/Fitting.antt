@@ -14,7 +14,7 @@ use Rattle.hs_law_sends.specs.Laws.{PagesFit, TimedPagesAreThePages}
 use Rattle.hs_law_sends.specs.Timing.{TimedPage, timed_pages}
 use Rattle.hs_words.specs.Chunks.{used_of}
 use Rattle.hs_words.specs.Pages.{FitsPiece}
-use Rattle.hs_workload.specs.declared.word.Setting.TheVariants as settings
+use Rattle.hs_records.specs.declared.setting.Setting.TheVariants as settings
 use Rattle.hs_report.specs.Fitting.{ReportedPagesArePages, JournalsCanBeRead}
 use Rattle.hs_law_outcome.proofs.Followed.{ends_its_traces}
 use Rattle.hs_law_outcome.specs.Records.{client_records}
@@ -25,8 +25,7 @@ use Rattle.hs_records.specs.Records.{Record, Piece, open_behind, numbered_from, 
 use Rattle.hs_records.specs.Laws.{CarriesRecords, CarryRecords, PagesHoldThePieces, traces_of, pieces_of_records, pieces_on}
 use Rattle.hs_law_sends.specs.Sending.{operations_at, place_of}
 use Rattle.hs_base.specs.Ids.{trace_digits}
-use Rattle.hs_workload.specs.LookBack.{operation_pieces}
-use Rattle.hs_workload.specs.Validity.{IsOperation, IsClient, HasDigits, client_pieces, workload_pieces}
+use Rattle.hs_records.specs.Validity.{operation_pieces, IsOperation, IsClient, HasDigits, client_pieces, workload_pieces}
 use Rattle.hs_report.proofs.Basics.{place_at}
 
 -- ---- the client at a place

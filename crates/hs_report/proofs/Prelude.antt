@@ -23,6 +23,7 @@ pub use Rattle.hs_ledger.specs.declared.ledger.Entry.{Entry}
 pub use Rattle.hs_lists.proofs.Bools.{first_true, second_true}
 pub use Rattle.hs_lists.proofs.Filters.{filter_weaker}
 pub use Rattle.hs_records.specs.Plain.{PlainWorkload}
+pub use Rattle.hs_records.specs.Validity.{IsValid}
 pub use Rattle.hs_report.specs.Claims.{all_claimed, claimed_by}
 pub use Rattle.hs_report.specs.Fates.{AreFatesOf, has_entry}
 pub use Rattle.hs_report.specs.Kept.{is_kept, kept_of}
@@ -37,7 +38,6 @@ pub use Rattle.hs_text.specs.Text.{hex_text, line_of, text_of}
 pub use Rattle.hs_text.specs.Writing.{line_written, spaced_one, trace_word}
 pub use Rattle.hs_words.specs.Pages.{IsPage, page_bytes, Sheet}
 pub use Rattle.hs_words.specs.Reading.{Spells}
-pub use Rattle.hs_workload.specs.Validity.{IsValid}
 pub use Rattle.std.proofs.lemmas.Bool.{or_left}
 pub use Rattle.std.proofs.lemmas.Bool.Decides.{nat_tests}
 pub use Rattle.std.proofs.lemmas.Fn.{always_returns_same}

@@ -9,7 +9,7 @@ use Rattle.hs_law_outcome.specs.Outcomes.{outcome_of}
 use Rattle.hs_law_outcome.specs.Records.{all_records}
 use Rattle.hs_records.specs.Plain.{PlainWorkload}
 use Rattle.hs_words.specs.Pages.{IsPage}
-use Rattle.hs_workload.specs.Validity.{IsValid}
+use Rattle.hs_records.specs.Validity.{IsValid}
 
 abbrev pub RecordsAreFew : Type 0
 RecordsAreFew = (W : PlainWorkload) → IsValid W → length (all_records W) < 2 ^ 32

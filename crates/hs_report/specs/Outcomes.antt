@@ -9,7 +9,7 @@ use Rattle.hs_law_journal.specs.Lawful.{IsLawful}
 use Rattle.hs_ledger.specs.Totals.{totals_of}
 use Rattle.hs_law_outcome.specs.Outcomes.{client_books, agent_books, outcome_of}
 use Rattle.hs_records.specs.Plain.{PlainWorkload}
-use Rattle.hs_workload.specs.Validity.{IsValid}
+use Rattle.hs_records.specs.Validity.{IsValid}
 use Rattle.hs_report.specs.declared.outcome.Books.{Books}
 use Rattle.hs_report.specs.declared.outcome.Outcome.{Outcome}
 

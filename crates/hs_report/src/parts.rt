@@ -15,7 +15,7 @@ ghost use Rattle.hs_report.specs.Outcomes.{IsOutcome};
 ghost use Rattle.hs_report.specs.Sorted.{AreSorted, count_line};
 ghost use Rattle.hs_report.specs.Sources.{Hold, report_by};
 ghost use Rattle.hs_text.specs.Text.{text_of};
-ghost use Rattle.hs_workload.specs.Validity.{IsValid};
+ghost use Rattle.hs_records.specs.Validity.{IsValid};
 
 use crate::fates::Sorted;
 use crate::laws::journals_can_be_read;

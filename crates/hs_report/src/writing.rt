@@ -12,7 +12,7 @@ ghost use Rattle.hs_report.specs.Fates.{AreFatesOf, has_entry};
 ghost use Rattle.hs_report.specs.Outcomes.{IsOutcome};
 ghost use Rattle.hs_report.specs.Sorted.{AreSorted, count_line};
 ghost use Rattle.hs_text.specs.Text.{text_of};
-ghost use Rattle.hs_workload.specs.Validity.{IsValid};
+ghost use Rattle.hs_records.specs.Validity.{IsValid};
 
 use crate::fates::{Fates, Sorted};
 use crate::kept::kept_entries;

@@ -3,7 +3,7 @@ use Rattle.std.proofs.Common.{◌≡◌, ℕ, zero, suc, ◌+◌, ◌*◌, ◌-�
 use Rattle.hs_run.proofs.Prelude.{suc-mul, Operation, PlainWorkload, IsValid, TheseAreAllRounds}
 use Rattle.hs_law_journal.specs.Ends.{rounds_for, rounds_of}
 use Rattle.hs_law_journal.proofs.Logs.{rounds_few}
-use Rattle.hs_workload.specs.declared.word.Setting.TheVariants as settings
+use Rattle.hs_records.specs.declared.setting.Setting.TheVariants as settings
 
 -- the most of a list, from a number on
 most_low : {X : Type 0} (f : X → ℕ) (xs : List X) (from r : ℕ) → from ≤ r → ((i : ℕ) (x : X) → slice_get xs i ≡ Some x → f x ≤ r) → fold max from (map f xs) ≤ r

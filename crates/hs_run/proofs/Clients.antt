@@ -1,7 +1,7 @@
 -- The operations of a node's clients, as they lie in the workload.
 use Rattle.std.proofs.Common.{◌≡◌, ℕ, ◌+◌, ◌*◌, ◌<◌, List, [], length, map, take, drop, refl, ap, ◌∙◌, arith, slice_get, unwrap_or, length-take, length-drop}
 use Rattle.hs_run.proofs.Prelude.{length-map, Listing, IsValid, operations_of, workload_of, Op, Workload, last_low, AreClients}
-use Rattle.hs_workload.proofs.Sizes.{operations_sliced}
+use Rattle.hs_records.proofs.Sizes.{operations_sliced}
 
 pub clients_are : (w : Workload) → IsValid (workload_of w) → (n : ℕ) → n < w.settings.nodes → (given : List (Listing Op)) → given ≡ w.clients.items → (count : ℕ) → count ≡ w.settings.clients
     → AreClients (workload_of w) n w.settings (take count (drop (n * w.settings.clients) given))

@@ -4,7 +4,7 @@ use Rattle.hs_run.proofs.Prelude.{mod-lt, range_with_len, get_there, Progress, i
 use Rattle.hs_lists.proofs.Counts.{count_alike}
 use Rattle.hs_journal.specs.declared.journal.Draw.TheVariants as draws
 use Rattle.hs_run.specs.Progress.{draws_after}
-use Rattle.hs_workload.specs.declared.word.Setting.TheVariants as settings
+use Rattle.hs_records.specs.declared.setting.Setting.TheVariants as settings
 use Rattle.hs_run.specs.CountLaws.{CountsAreProgress}
 use Rattle.hs_run.proofs.Sums.{by_places, sum_mapped, sum_same}
 

@@ -7,8 +7,8 @@ use Rattle.hs_base.specs.declared.limits.TheConstants.{MAX_CLIENTS}
 use Rattle.hs_law_agent.specs.Stepping.{Chunk, Crumbed, Triggered, Asked, Turn, Took, Gave}
 use Rattle.hs_law_journal.proofs.Sums.{sum_to, sum_le, sum_lt}
 use Rattle.hs_law_journal.specs.Doings.{trigger_in}
-use Rattle.hs_workload.specs.Validity.{workload_pieces}
-use Rattle.hs_workload.specs.declared.word.Setting.TheVariants as settings
+use Rattle.hs_records.specs.Validity.{workload_pieces}
+use Rattle.hs_records.specs.declared.setting.Setting.TheVariants as settings
 use Rattle.hs_run_agent.specs.Agents.{IsWithin}
 use Rattle.hs_run_agent.specs.Work.{is_triggered, triggered}
 

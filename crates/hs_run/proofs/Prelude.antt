@@ -39,7 +39,12 @@ pub use Rattle.hs_lists.proofs.Updates.{same_everywhere}
 pub use Rattle.hs_live.specs.Calls.{AreMates}
 pub use Rattle.hs_live.specs.Keys.{Key}
 pub use Rattle.hs_live.specs.Live.{IsMate}
+pub use Rattle.hs_records.proofs.Sizes.{few_nodes, last_low, product_few}
 pub use Rattle.hs_records.specs.Plain.{Operation, PlainSettings, PlainWorkload, settings_of}
+pub use Rattle.hs_records.specs.Validity.{client_pieces, IsValid}
+pub use Rattle.hs_records.specs.Views.{operation_of, operations_of, workload_of}
+pub use Rattle.hs_records.specs.declared.operation.Op.{Op}
+pub use Rattle.hs_records.specs.declared.operation.Workload.{Workload}
 pub use Rattle.hs_report.specs.declared.outcome.Books.{Books}
 pub use Rattle.hs_ring.specs.Parts.{AreAllEnds, Drawing, Giving, Leased}
 pub use Rattle.hs_run.specs.Changing.{EachChanged, FirstChanged}
@@ -81,11 +86,6 @@ pub use Rattle.hs_run_story.specs.RunStates.{asked_by, IsBegun, moved_by, NodeAc
 pub use Rattle.hs_run_story.specs.Spans.{NodeBetweenPasses}
 pub use Rattle.hs_words.specs.Buffers.{Buffer}
 pub use Rattle.hs_words.specs.Pages.{Sheet}
-pub use Rattle.hs_workload.proofs.Sizes.{few_nodes, last_low, product_few}
-pub use Rattle.hs_workload.specs.Validity.{client_pieces, IsValid}
-pub use Rattle.hs_workload.specs.Views.{operation_of, operations_of, workload_of}
-pub use Rattle.hs_workload.specs.declared.operation.Op.{Op}
-pub use Rattle.hs_workload.specs.declared.operation.Workload.{Workload}
 pub use Rattle.std.proofs.Math.Nat.{mod-lt, mul-le-mul_right, suc-mul}
 pub use Rattle.std.proofs.iter.Serving.{serving}
 pub use Rattle.std.proofs.lemmas.Bool.{cases_lt}

@@ -2,8 +2,8 @@
 use Rattle.std.proofs.Common.{◌≡◌, ℕ, suc, ◌+◌, ◌*◌, ◌<◌, ◌≤◌, List, [], length, Some, true, false, sym, ap, subst, ◌∙◌, arith, slice_get}
 use Rattle.hs_run.proofs.Prelude.{suc-mul, slice_get_within, get_there, ClientId, MAX_OPERATIONS, Operation, PlainSettings, PlainWorkload, operations_at, place_of, IsValid, PlainClientActor, ClientActorIsAt, HasSentSoFar, PlainCoordinatorActor, NodeWork, IsFew, PlainNodeActors, RunState, RunStands, Came, NoRoundsCome, AllBegin, ActingNode, IsHere, AreFew, ActedTo, MetTo, MovedTo, CanBegin, DoneIn, RoundsMade, RoundsOver, TellsLeft}
 use Rattle.std.proofs.Math.Nat.{mul-le-mul_left}
-use Rattle.hs_workload.specs.declared.word.Setting.TheVariants as settings
-use Rattle.hs_workload.proofs.Sizes.{operations_few}
+use Rattle.hs_records.specs.declared.setting.Setting.TheVariants as settings
+use Rattle.hs_records.proofs.Sizes.{operations_few}
 use Rattle.hs_run_agent.specs.Work.{triggered}
 use Rattle.hs_run_story.specs.Acting.{Acts}
 use Rattle.hs_run_story.specs.Meeting.{AllMeet}

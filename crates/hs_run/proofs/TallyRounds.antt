@@ -9,7 +9,7 @@ use Rattle.hs_base.specs.declared.limits.TheConstants.{MAX_NODES, MAX_CLIENTS}
 use Rattle.hs_run_agent.specs.Agents.{IsPageThere}
 use Rattle.hs_run_story.proofs.Meetings.{caller_at, done_at, here_at}
 use Rattle.hs_run_story.proofs.Moments.{doing_same, round_steps, site_acts, site_meets, site_of, site_there, stands_at}
-use Rattle.hs_workload.specs.declared.word.Setting.TheVariants as settings
+use Rattle.hs_records.specs.declared.setting.Setting.TheVariants as settings
 use Rattle.hs_run.specs.TallyingNodes.{MayCountLogs}
 use Rattle.hs_run.proofs.FewTaken.{few_clients}
 use Rattle.hs_run.proofs.Moments.{node_count, node_low, node_stands, node_there, site_there as there_among}

@@ -5,7 +5,7 @@ use Rattle.hs_lists.proofs.Alls.{all_append}
 use Rattle.hs_run.proofs.Seeing.{end_of}
 use Rattle.hs_run_story.specs.Coming.{RoundsKeepWhatCame}
 use Rattle.hs_board.specs.Watching.{Totals, WatchStands, BothLookTimes, HaveLookedInAll, KnowLast}
-use Rattle.hs_workload.specs.declared.word.Setting.TheVariants as settings
+use Rattle.hs_records.specs.declared.setting.Setting.TheVariants as settings
 use Rattle.hs_run.specs.Watched.{MayShow, IsNeeded, WatchEnded}
 use Rattle.hs_run.proofs.Moments.{site_there}
 use Rattle.hs_run.proofs.Rounded.{SendSo, begin_made, few_next, done_next, all_done}

@@ -7,7 +7,7 @@ use Rattle.hs_records.specs.Plain.{Operation, PlainWorkload}
 use Rattle.hs_run_story.specs.Noting.{NotesRounds}
 use Rattle.hs_run_story.specs.RunStates.{RunState}
 use Rattle.hs_run_story.specs.Coming.{Came}
-use Rattle.hs_workload.specs.Validity.{IsValid}
+use Rattle.hs_records.specs.Validity.{IsValid}
 use Rattle.hs_run.specs.Counts.{Counts, AreCounts, progress_of}
 
 -- Behind each round they come to how far the workload and the journal have come.

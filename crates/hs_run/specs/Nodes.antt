@@ -3,9 +3,9 @@ use Rattle.std.specs.Prelude.{◌≡◌, ℕ, ◌<◌, ◌≤◌, Bool, true, fa
 use Rattle.hs_coord.specs.Messages.{Messages}
 use Rattle.hs_records.specs.Plain.{PlainWorkload}
 use Rattle.hs_law_sends.specs.Sending.{operations_at, place_of}
-use Rattle.hs_workload.specs.Validity.{IsValid}
-use Rattle.hs_workload.specs.Views.{workload_of}
-use Rattle.hs_workload.specs.declared.operation.Workload.{Workload}
+use Rattle.hs_records.specs.Validity.{IsValid}
+use Rattle.hs_records.specs.Views.{workload_of}
+use Rattle.hs_records.specs.declared.operation.Workload.{Workload}
 use Rattle.hs_run_client.specs.ClientActors.{PlainClientActor}
 use Rattle.hs_run_agent.specs.Coordinators.{PlainCoordinatorActor, IsCoordinatorActor, Hears}
 use Rattle.hs_run_agent.specs.Work.{NodeWork, IsFew}

@@ -11,7 +11,7 @@ use Rattle.hs_run_story.specs.Noting.{NotesRounds}
 use Rattle.hs_run_story.specs.RunStates.{RunState}
 use Rattle.hs_run_story.specs.Coming.{Came}
 use Rattle.hs_board.specs.Watching.{IsRising, IsSeenOf}
-use Rattle.hs_workload.specs.Validity.{IsValid}
+use Rattle.hs_records.specs.Validity.{IsValid}
 use Rattle.hs_run.specs.Counts.{Counts, AreCounts, progress_of}
 
 -- What one watcher saw, look by look: each how far the workload and the journal had come after its rounds, each of more rounds than those

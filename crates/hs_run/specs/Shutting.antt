@@ -9,7 +9,7 @@ use Rattle.hs_law_agent.specs.Stepping.{AgentEvent}
 use Rattle.hs_records.specs.Plain.{PlainWorkload}
 use Rattle.hs_ring.specs.Parts.{Leased, Giving}
 use Rattle.hs_words.specs.Buffers.{Buffer}
-use Rattle.hs_workload.specs.Validity.{IsValid}
+use Rattle.hs_records.specs.Validity.{IsValid}
 use Rattle.hs_law_journal.specs.Doings.{asks_in, crumbs_in, triggers_in, steps_of}
 use Rattle.hs_law_journal.specs.LoopPasses.{EndsPass}
 use Rattle.hs_law_journal.specs.Shape.{log_stamps}

@@ -8,9 +8,9 @@ use Rattle.hs_records.specs.Plain.{PlainWorkload, settings_of}
 use Rattle.hs_ring.specs.Parts.{Leased}
 use Rattle.hs_law_sends.specs.Sending.{operations_at, place_of}
 use Rattle.hs_words.specs.Buffers.{Buffer}
-use Rattle.hs_workload.specs.declared.operation.Op.{Op}
-use Rattle.hs_workload.specs.Validity.{IsValid}
-use Rattle.hs_workload.specs.Views.{operations_of}
+use Rattle.hs_records.specs.declared.operation.Op.{Op}
+use Rattle.hs_records.specs.Validity.{IsValid}
+use Rattle.hs_records.specs.Views.{operations_of}
 use Rattle.hs_run_client.specs.ClientActors.{PlainClientActor}
 use Rattle.hs_run_agent.specs.AgentActors.{PlainAgentActor, IsAgentActor, Passes}
 use Rattle.hs_run_agent.specs.Work.{NodeWork, IsFew}

@@ -3,11 +3,11 @@
 ghost use Rattle.std.specs.Prelude.{◌≡◌, ◌<◌, ◌≤◌, length, map, take, count_by};
 ghost use Rattle.hs_base.specs.declared.limits.TheConstants.{MAX_OPERATIONS};
 ghost use Rattle.hs_run.specs.Progress.{is_point};
-ghost use Rattle.hs_workload.specs.Views.{operation_of};
+ghost use Rattle.hs_records.specs.Views.{operation_of};
 ghost use Rattle.hs_run.specs.Counts.{client_count};
 
+use hs_records::Op;
 use hs_run_client::ClientActor;
-use hs_workload::Op;
 
 /// Of a client: how many of its operations were counted, the points among these, and its null pages.
 #[derive(Clone, Copy)]

@@ -3,7 +3,7 @@
 ghost use Rattle.std.specs.Prelude.{◌≡◌, ◌⊎◌, map, IfOk, OnErr, IsErr};
 ghost use Rattle.hs_coord.specs.Messages.{Messages};
 ghost use Rattle.hs_records.specs.Plain.{PlainWorkload};
-ghost use Rattle.hs_workload.specs.Views.{workload_of};
+ghost use Rattle.hs_records.specs.Views.{workload_of};
 ghost use Rattle.hs_run_agent.specs.Coordinators.{Tellings, Askings, IsCoordinatorActor};
 ghost use Rattle.hs_run.specs.Moments.{RoundsOver};
 ghost use Rattle.hs_run.specs.Ended.{MayFinish, items_of};
@@ -17,11 +17,11 @@ use crate::pools::close_pools;
 use crate::shutting::{ClosedNodes, shut_all};
 use hs_base::{List, Memory, NodeId};
 use hs_journal::{AgentBook, ClientBook};
+use hs_records::Workload;
 use hs_report::Books;
 use hs_run_agent::CoordinatorActor;
 use hs_run_client::callers_have_sent;
 use hs_run_story::laws::{closing_begins, journals_note_rounds, pools_are_kept, runs_are_lawful};
-use hs_workload::Workload;
 use std::alloc::Global;
 
 /// Ends a run whose rounds are over, and answers its books: those of a lawful journal of the workload, which notes where the rounds

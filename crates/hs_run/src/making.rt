@@ -2,17 +2,17 @@
 
 ghost use Rattle.std.specs.Prelude.{ℕ, ◌<◌, [], IfOk};
 ghost use Rattle.hs_run_agent.specs.Coordinators.{IsCoordinatorActor};
-ghost use Rattle.hs_workload.specs.Validity.{IsValid};
-ghost use Rattle.hs_workload.specs.Views.{workload_of};
+ghost use Rattle.hs_records.specs.Validity.{IsValid};
+ghost use Rattle.hs_records.specs.Views.{workload_of};
 ghost use Rattle.hs_run.specs.Making.{NodeActorsBegin, AreMade, nothing_moved, nothing_asked};
 ghost use Rattle.hs_run.specs.Moments.{CanBegin};
 
 use crate::node::ActingNode;
 use crate::node_actors::NodeActors;
 use hs_base::{List, Memory};
+use hs_records::Workload;
 use hs_run_agent::{AgentActor, CoordinatorActor};
 use hs_run_client::{NewNode, begin_node};
-use hs_workload::Workload;
 use std::alloc::Global;
 
 /// The nodes of a valid workload and their coordinator, where nothing was done.

@@ -4,7 +4,7 @@ ghost use Rattle.hs_run.specs.Nodes.{MayActAt, HasActedAt};
 
 use crate::node_actors::NodeActors;
 use hs_base::Gate;
-use hs_workload::Workload;
+use hs_records::Workload;
 use std::thread::Threads;
 
 /// A node, and whether memory was wanting when it acted last.

@@ -10,9 +10,9 @@ ghost use Rattle.hs_run.specs.Going.{MayGo, HasGone, AllMayGo, AllHaveGone};
 ghost use Rattle.hs_run.specs.Sites.{MayPass, HasPassed, MayAct, HasActed, TellsSiteLeft, StandsSomewhere, MeetsOne};
 
 use hs_base::{Gate, List, Memory, Settings};
+use hs_records::Op;
 use hs_run_agent::AgentActor;
 use hs_run_client::ClientActor;
-use hs_workload::Op;
 use std::marker::Model;
 use std::thread;
 use std::thread::{Threads, join_mut};

@@ -8,7 +8,7 @@ ghost use Rattle.hs_live.specs.Calls.{AreMates, MeetsAt};
 ghost use Rattle.hs_law_agent.specs.Stepping.{AgentEvent};
 ghost use Rattle.hs_records.specs.Plain.{Operation, PlainSettings, PlainWorkload, settings_of};
 ghost use Rattle.hs_ring.specs.Parts.{Leased};
-ghost use Rattle.hs_workload.specs.Validity.{IsValid};
+ghost use Rattle.hs_records.specs.Validity.{IsValid};
 ghost use Rattle.hs_words.specs.Buffers.{Buffer};
 ghost use Rattle.hs_run_agent.specs.AgentActors.{IsAgentActor, BeginsAt, Passes};
 ghost use Rattle.hs_run_agent.specs.Coordinators.{AllAskable, Brings, asks_for};

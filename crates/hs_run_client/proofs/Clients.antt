@@ -7,10 +7,10 @@ use Rattle.std.specs.Prelude.{sum}
 use Rattle.hs_lists.proofs.Places.{unwrap_map, item_there}
 use Rattle.hs_base.specs.Listing.{Listing}
 use Rattle.hs_base.specs.declared.limits.TheConstants.{MAX_OPERATIONS, MAX_NODES, MIN_SIZE, MAX_SIZE, MAX_BUFFERS}
-use Rattle.hs_workload.specs.Validity.{IsValid, workload_pieces}
-use Rattle.hs_workload.specs.declared.operation.Workload.{Workload}
-use Rattle.hs_workload.specs.declared.word.Setting.TheVariants as words
-use Rattle.hs_workload.proofs.Sizes.{last_low}
+use Rattle.hs_records.specs.Validity.{IsValid, workload_pieces}
+use Rattle.hs_records.specs.declared.operation.Workload.{Workload}
+use Rattle.hs_records.specs.declared.setting.Setting.TheVariants as words
+use Rattle.hs_records.proofs.Sizes.{last_low}
 use Rattle.hs_run_client.specs.Nodes.{AreClientsOf}
 
 -- ---- how many there are

@@ -7,8 +7,7 @@ use Rattle.hs_link.specs.Contents.{HasPlaces}
 use Rattle.hs_live.proofs.Cuts.{all_drawn}
 use Rattle.hs_records.specs.Plain as plain
 use Rattle.hs_records.specs.Records.{piece_count}
-use Rattle.hs_workload.specs.LookBack.{operation_pieces}
-use Rattle.hs_workload.specs.Validity.{IsOperation}
+use Rattle.hs_records.specs.Validity.{operation_pieces, IsOperation}
 use Rattle.hs_run_client.specs.Performing.{MayRecord, HasRule}
 use Rattle.hs_run_client.specs.Standing.{IsClientOf, HasEnough}
 use Rattle.hs_run_client.proofs.Operations.{Stands, all_at, bracketed_at}

@@ -5,7 +5,7 @@ use Rattle.std.proofs.lemmas.List.{drop_more, get_or-map, take_more}
 use Rattle.hs_lists.proofs.Alls.{all_mid}
 use Rattle.hs_records.specs.Plain as plain
 use Rattle.hs_law_sends.proofs.OneMore.{bracketed_behind}
-use Rattle.hs_workload.proofs.Sizes.{one_at_least}
+use Rattle.hs_records.proofs.Sizes.{one_at_least}
 
 -- the operation stands at this place
 pub record Stands (ops : List Operation) (place : ℕ) (op : Operation) : Type 0 where

@@ -27,6 +27,9 @@ pub use Rattle.hs_live.specs.declared.called.Called.TheVariants.{Done}
 pub use Rattle.hs_records.specs.Pages.{pages_of}
 pub use Rattle.hs_records.specs.Plain.{Begin, End, Fire, Operation, PlainSettings, PlainWorkload, Point, Sample, settings_of}
 pub use Rattle.hs_records.specs.Records.{AreBracketed}
+pub use Rattle.hs_records.specs.Validity.{client_pieces}
+pub use Rattle.hs_records.specs.Views.{operation_of, operations_of, workload_of}
+pub use Rattle.hs_records.specs.declared.operation.Op.{Op}
 pub use Rattle.hs_ring.proofs.Drawers.{new_drawers_length}
 pub use Rattle.hs_ring.specs.Parts.{Drawing, Giving, Leased, new_drawers}
 pub use Rattle.hs_run_client.specs.ClientActors.{PlainClientActor}
@@ -39,9 +42,6 @@ pub use Rattle.hs_run_client.specs.declared.making.ConnectedClient.{ConnectedCli
 pub use Rattle.hs_words.specs.Buffers.{Buffer}
 pub use Rattle.hs_words.specs.Ends.{Answer}
 pub use Rattle.hs_words.specs.Pools.{PoolName}
-pub use Rattle.hs_workload.specs.Validity.{client_pieces}
-pub use Rattle.hs_workload.specs.Views.{operation_of, operations_of, workload_of}
-pub use Rattle.hs_workload.specs.declared.operation.Op.{Op}
 pub use Rattle.std.proofs.lemmas.Iterator.Adapters.{YieldsList-from_vec}
 pub use Rattle.std.proofs.lemmas.Iterator.Consumers.{YieldsList-end, YieldsList-turn}
 pub use Rattle.std.proofs.lemmas.List.{append-nil, length-map, map-append, take-append-drop}

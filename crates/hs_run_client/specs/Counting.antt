@@ -6,8 +6,7 @@ use Rattle.hs_live.specs.Live.{PlainClient, GoesOn}
 use Rattle.hs_live.specs.Writing.{DrawsOn}
 use Rattle.hs_records.specs.Plain.{Operation, Begin, Point, Crumb, End, Fire, Sample}
 use Rattle.hs_law_sends.specs.Samples.{begin, crumb, fire}
-use Rattle.hs_workload.specs.LookBack.{operation_pieces}
-use Rattle.hs_workload.specs.Validity.{client_pieces}
+use Rattle.hs_records.specs.Validity.{operation_pieces, client_pieces}
 
 abbrev pub crumbs_in : Operation → ℕ
 crumbs_in (Begin trace) = 0

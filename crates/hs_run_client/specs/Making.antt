@@ -9,7 +9,7 @@ use Rattle.hs_link.specs.Contents.{AreNewEnds}
 use Rattle.hs_live.specs.Live.{incoming}
 use Rattle.hs_records.specs.Plain.{Operation, PlainSettings}
 use Rattle.hs_ring.specs.Parts.{Drawing, Giving}
-use Rattle.hs_workload.specs.Validity.{client_pieces}
+use Rattle.hs_records.specs.Validity.{client_pieces}
 use Rattle.hs_run_client.specs.declared.making.ConnectedClient.{ConnectedClient}
 use Rattle.hs_run_client.specs.Counting.{crumbs_of, triggers_of}
 use Rattle.hs_run_client.specs.Standing.{ClientActorIsAt, key_for}

@@ -14,10 +14,10 @@ use Rattle.hs_records.specs.Plain.{Operation, PlainSettings, PlainWorkload}
 use Rattle.hs_ring.specs.Parts.{Leased, Drawing, Giving}
 use Rattle.hs_law_sends.specs.Sending.{ops_of}
 use Rattle.hs_words.specs.Buffers.{Buffer}
-use Rattle.hs_workload.specs.Validity.{IsValid, client_pieces}
-use Rattle.hs_workload.specs.Views.{operations_of, workload_of}
-use Rattle.hs_workload.specs.declared.operation.Op.{Op}
-use Rattle.hs_workload.specs.declared.operation.Workload.{Workload}
+use Rattle.hs_records.specs.Validity.{IsValid, client_pieces}
+use Rattle.hs_records.specs.Views.{operations_of, workload_of}
+use Rattle.hs_records.specs.declared.operation.Op.{Op}
+use Rattle.hs_records.specs.declared.operation.Workload.{Workload}
 use Rattle.hs_run_client.specs.ClientActors.{PlainClientActor}
 use Rattle.hs_run_client.specs.Counting.{crumbs_of, triggers_of}
 use Rattle.hs_run_client.specs.Standing.{ClientActorIsAt, Notes, key_for}

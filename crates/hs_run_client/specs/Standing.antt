@@ -21,7 +21,7 @@ use Rattle.hs_law_sends.specs.Sending.{Sent, sends_of, sent_within}
 use Rattle.hs_law_sends.specs.SoFar.{done_behind}
 use Rattle.hs_words.specs.Buffers.{Buffer}
 use Rattle.hs_words.specs.Pages.{Sheet}
-use Rattle.hs_workload.specs.Validity.{client_pieces}
+use Rattle.hs_records.specs.Validity.{client_pieces}
 use Rattle.hs_run_client.specs.ClientActors.{PlainClientActor}
 use Rattle.hs_run_client.specs.Counting.{crumbs_of, triggers_of}
 

@@ -2,13 +2,11 @@
 
 ghost use Rattle.std.specs.Prelude.{◌≡◌, ◌≤◌, map};
 ghost use Rattle.hs_base.specs.declared.limits.TheConstants.{MIN_SIZE, MAX_OPERATIONS};
-ghost use Rattle.hs_workload.specs.LookBack.{operation_pieces};
-ghost use Rattle.hs_workload.specs.Validity.{client_pieces};
-ghost use Rattle.hs_workload.specs.Views.{operation_of};
+ghost use Rattle.hs_records.specs.Validity.{operation_pieces, client_pieces};
+ghost use Rattle.hs_records.specs.Views.{operation_of};
 ghost use Rattle.hs_run_client.specs.Counting.{crumbs_of, triggers_of, crumbs_in, triggers_in};
 
-use hs_records::piece_count;
-use hs_workload::Op;
+use hs_records::{Op, piece_count};
 
 /// How many calls of the core, crumbs and triggers come of operations at most.
 #[derive(Clone, Copy)]

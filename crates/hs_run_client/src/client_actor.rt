@@ -7,13 +7,13 @@ ghost use Rattle.hs_journal.specs.Books.{client_book_of};
 ghost use Rattle.hs_live.specs.Calls.{AreMates, MeetsAt};
 ghost use Rattle.hs_live.specs.Live.{outgoing};
 ghost use Rattle.hs_records.specs.Plain.{Operation, PlainSettings, settings_of};
-ghost use Rattle.hs_workload.specs.Views.{operation_of};
+ghost use Rattle.hs_records.specs.Views.{operation_of};
 ghost use Rattle.hs_run_client.specs.Standing.{ClientActorIsAt, Goes, TellsLeft, IsDone, Notes};
 
 use crate::performing::perform;
 use hs_base::{Gate, Settings};
 use hs_live::{AgentPort, Client, Closed, ends_go_on, what_was_done_was_sent};
-use hs_workload::Op;
+use hs_records::Op;
 use std::marker::Model;
 
 /// A client in a run: the client of the library, with its number among the actors of the run, and how many of its operations are

@@ -3,7 +3,7 @@
 ghost use Rattle.std.specs.Prelude.{map, IfOk};
 ghost use Rattle.hs_base.specs.Rules.{AreAutoRules};
 ghost use Rattle.hs_records.specs.Plain.{settings_of};
-ghost use Rattle.hs_workload.specs.Views.{operation_of};
+ghost use Rattle.hs_records.specs.Views.{operation_of};
 ghost use Rattle.hs_link.specs.Contents.{AreNewEnds};
 ghost use Rattle.hs_law_sends.specs.Playable.{IsPlayable};
 ghost use Rattle.hs_run_client.specs.Making.{IsConnected, AreNewFor};
@@ -17,9 +17,9 @@ use hs_base::{ClientId, Crumb, List, Memory, Settings, Trigger};
 use hs_client::ClientCore;
 use hs_link::{Receiver, Sender, link};
 use hs_live::{Client, ClientKey};
+use hs_records::Op;
 use hs_ring::{Drawer, Giver, Lease};
 use hs_words::Held;
-use hs_workload::Op;
 use std::alloc::Global;
 
 /// A new client, and the other ends of its three links, which are for its agent.

@@ -5,8 +5,8 @@ ghost use Rattle.std.specs.List.{AllByRecursion};
 ghost use Rattle.hs_base.specs.declared.limits.TheConstants.{MIN_SIZE, MAX_OPERATIONS};
 ghost use Rattle.hs_live.specs.Live.{incoming};
 ghost use Rattle.hs_ring.specs.Parts.{new_drawers};
-ghost use Rattle.hs_workload.specs.Validity.{IsValid, client_pieces};
-ghost use Rattle.hs_workload.specs.Views.{operations_of, workload_of};
+ghost use Rattle.hs_records.specs.Validity.{IsValid, client_pieces};
+ghost use Rattle.hs_records.specs.Views.{operations_of, workload_of};
 ghost use Rattle.hs_run_client.specs.Nodes.{AreClientsOf, AreBegun, NodeBegins, lefts_of};
 
 use crate::amounts::calls_of;
@@ -16,9 +16,9 @@ use hs_base::{ClientId, Crumb, List, Memory, Trigger};
 use hs_law_sends::laws::valid_clients_may_be_played;
 use hs_link::Receiver;
 use hs_live::{AgentPort, ClientKey};
+use hs_records::{Op, Workload};
 use hs_ring::{Drawer, Giver, Lease, RingPool};
 use hs_words::{Held, Stock};
-use hs_workload::{Op, Workload};
 use std::alloc::Global;
 
 /// The clients of a node, by number, and the port of its agent, which has the other ends of their links and the giver of the

@@ -4,13 +4,13 @@ ghost use Rattle.std.specs.Prelude.{◌≡◌};
 ghost use Rattle.hs_base.specs.Rules.{fired_by};
 ghost use Rattle.hs_live.specs.declared.called.Called.TheVariants.{Done};
 ghost use Rattle.hs_live.specs.Done.{Does};
-ghost use Rattle.hs_workload.specs.Views.{operation_of};
+ghost use Rattle.hs_records.specs.Views.{operation_of};
 ghost use Rattle.hs_run_client.specs.Counting.{Uses};
 ghost use Rattle.hs_run_client.specs.Performing.{MayDo};
 
 use hs_base::{AutoRule, TriggerId};
 use hs_live::{Called, Client};
-use hs_workload::Op;
+use hs_records::Op;
 
 /// Does an operation that the client may do.
 pub(crate) fn perform(client: &mut Client, rules: &[AutoRule], operation: &Op)

@@ -1,7 +1,7 @@
 -- The moments of the rounds, node by node: where a node stands between two rounds, and the step that a round makes of it.
 use Rattle.std.proofs.Common.{◌≡◌, ℕ, zero, suc, ◌<◌, ◌≤◌, List, ◌++◌, length, reverse, sym, ap, subst, ◌∙◌, Some, unwrap_or, arith, map, slice_get, append-nil, append_assoc}
 use Rattle.hs_run_story.proofs.Prelude.{AllByRecursion, length-append, HasItem, get_some, start, AgentEvent, after, PlainWorkload, IsValid, asks_to, asks_in, HandsReady, AreTurns, PlainClientActor, IsPageThere, IsWithin, heard_of, lent_of, NodeWork, PlainNodeActors, RunState, NodeActorsStand, RunStands, told_of, IsSameDoing, Came, NodeBetweenPasses, IsNodeBetweenPasses, IsStep}
-use Rattle.hs_workload.specs.declared.word.Setting.TheVariants as settings
+use Rattle.hs_records.specs.declared.setting.Setting.TheVariants as settings
 use Rattle.hs_coord.specs.declared.asks.Asks.{Asks}
 use Rattle.hs_run_agent.specs.Coordinators.{asks_for}
 use Rattle.hs_run_story.specs.Acting.{NodeActorsAct}

@@ -27,6 +27,7 @@ pub use Rattle.hs_live.specs.Keys.{Key}
 pub use Rattle.hs_live.specs.Live.{PlainClient, Port}
 pub use Rattle.hs_live.specs.Writing.{draws_by}
 pub use Rattle.hs_records.specs.Plain.{Operation, PlainSettings, PlainWorkload}
+pub use Rattle.hs_records.specs.Validity.{IsValid}
 pub use Rattle.hs_ring.specs.Parts.{Leased}
 pub use Rattle.hs_run_agent.specs.Agents.{IsPageThere, IsWithin}
 pub use Rattle.hs_run_agent.specs.Coordinators.{heard_of}
@@ -44,7 +45,6 @@ pub use Rattle.hs_run_story.specs.Spans.{IsNodeBetweenPasses, IsStep, NodeBetwee
 pub use Rattle.hs_words.specs.Buffers.{Buffer}
 pub use Rattle.hs_words.specs.Ends.{Answer}
 pub use Rattle.hs_words.specs.Pages.{Sheet}
-pub use Rattle.hs_workload.specs.Validity.{IsValid}
 pub use Rattle.std.proofs.lemmas.List.{length-append, length-map, map-append}
 pub use Rattle.std.proofs.lemmas.Option.{slice_get_within}
 pub use Rattle.std.proofs.lemmas.Simd.{map-map}

@@ -15,7 +15,7 @@ use Rattle.hs_law_agent.specs.Books.{book_of}
 use Rattle.hs_law_agent.specs.Stepping.{after}
 use Rattle.hs_records.specs.Plain.{PlainWorkload}
 use Rattle.hs_law_sends.specs.Sending.{draws_at, place_of}
-use Rattle.hs_workload.specs.Validity.{IsValid}
+use Rattle.hs_records.specs.Validity.{IsValid}
 use Rattle.hs_run_client.specs.ClientActors.{PlainClientActor}
 use Rattle.hs_run_agent.specs.Coordinators.{heard_of}
 use Rattle.hs_run_agent.specs.Intakes.{Intakes}

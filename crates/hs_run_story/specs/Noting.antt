@@ -6,7 +6,7 @@ use Rattle.hs_journal.specs.Views.{PlainJournal}
 use Rattle.hs_records.specs.Plain.{PlainWorkload}
 use Rattle.hs_law_sends.specs.Draws.{count_started}
 use Rattle.hs_law_sends.specs.Sending.{draws_at, place_of, ops_of}
-use Rattle.hs_workload.specs.Validity.{IsValid}
+use Rattle.hs_records.specs.Validity.{IsValid}
 use Rattle.hs_law_journal.specs.Following.{log_at}
 use Rattle.hs_law_journal.specs.Passes.{passes_of}
 use Rattle.hs_law_journal.specs.Doings.{steps_of}

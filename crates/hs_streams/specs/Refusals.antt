@@ -6,7 +6,7 @@ use Rattle.hs_records.specs.Plain.{PlainWorkload}
 use Rattle.hs_text.specs.Text.{line_of, text_of}
 use Rattle.hs_workload.specs.Faults.{first_fault}
 use Rattle.hs_workload.specs.Reasons.{reason_text}
-use Rattle.hs_workload.specs.Validity.{Reads}
+use Rattle.hs_workload.specs.Grammar.{Reads}
 use Rattle.hs_workload.specs.declared.refusal.Reason.{Reason}
 use Rattle.hs_workload.specs.declared.refusal.Reason.TheVariants.{NoTrace}
 use Rattle.hs_workload.specs.declared.refusal.Refusal.{Refusal}

@@ -2,7 +2,7 @@
 use Rattle.std.proofs.Common.{◌≡◌, ℕ, ◌+◌, ◌*◌, ◌/◌, ◌%◌, ◌<◌, ◌≤◌, Bool, true, false, not, cond, nat_eq, nat_lt, nat_le, ◌&&◌, List, [], ◌∷◌, ◌++◌, length, map, refl, sym, ap, subst, ◌∙◌, append_assoc, append-nil, arith, eq-eqb, lt-ltb, le-leb}
 use Rattle.hs_workload.proofs.Prelude.{AllByRecursion, le-ltb, or_from, and_from, ne_eqb, mul-le-mul, nat_le_false, MAX_NODES, MAX_CLIENTS, MAX_AUTOS, MAX_PAYLOAD, MAX_OPERATIONS, AreRules, AreBracketed, Operation, Begin, Point, Crumb, End, Fire, Sample, PlainWorkload, setting_in, Statement, Declare, Start, Operate, Finish, statement_line, head_statements, auto_statements, client_statements, workload_statements, IsOperation, IsClient, client_pieces, workload_pieces, IsValid, operation_pieces, Draft, fresh, past_of, open_after, after, closed, workload_drafted}
 use Rattle.std.proofs.Math.Nat.{div-le_self, mod-le}
-use Rattle.hs_workload.specs.declared.word.Setting.TheVariants as settings
+use Rattle.hs_records.specs.declared.setting.Setting.TheVariants as settings
 use Rattle.hs_workload.proofs.Spelled.{Form}
 use Rattle.hs_workload.proofs.Clear.{Allowed}
 use Rattle.hs_workload.proofs.Keeps.{version_in, settings_in, size_in}

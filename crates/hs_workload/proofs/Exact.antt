@@ -6,7 +6,7 @@ use Rattle.hs_text.specs.Steps.{unless, first_that_holds}
 use Rattle.hs_text.specs.Agreement.{agrees_unless, agrees_check, agrees_opened}
 use Rattle.hs_records.specs.Records.{piece_count}
 use Rattle.hs_workload.specs.declared.refusal.Reason.TheVariants as reasons
-use Rattle.hs_workload.specs.declared.word.Setting.TheVariants as settings
+use Rattle.hs_records.specs.declared.setting.Setting.TheVariants as settings
 use Rattle.hs_workload.specs.declared.word.Keyword.TheVariants as keywords
 use Rattle.hs_workload.specs.declared.word.Kind.TheVariants as kinds
 use Rattle.hs_workload.specs.declared.line.Numbers.{Numbers}

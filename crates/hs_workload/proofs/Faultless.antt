@@ -4,7 +4,7 @@ use Rattle.hs_workload.proofs.Prelude.{first_fault_in, run, PlainWorkload, ReadE
 use Rattle.std.specs.Prelude.{IfOk, IfErr, MatchResult}
 use Rattle.hs_text.specs.JudgingLaws.{run_clean, same_lines}
 use Rattle.hs_workload.specs.declared.refusal.ReadError.TheVariants as errors
-use Rattle.hs_workload.specs.declared.operation.Workload.{Workload}
+use Rattle.hs_records.specs.declared.operation.Workload.{Workload}
 use Rattle.hs_workload.specs.Grammar.{workload_lines}
 use Rattle.hs_workload.proofs.Seen.{workload_reader}
 use Rattle.hs_workload.proofs.Whole.{first_fault-judged}

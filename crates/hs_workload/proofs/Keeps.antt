@@ -1,7 +1,7 @@
 -- What is read so far says the lines so far, and stays within the limits of workloads.
 use Rattle.std.proofs.Common.{◌≡◌, ℕ, zero, suc, ◌+◌, ◌*◌, ◌/◌, ◌%◌, ◌<◌, ◌≤◌, Bool, true, false, nat_lt, List, [], ◌∷◌, ◌++◌, length, map, get_or, refl, sym, ap, ◌∙◌, append_assoc, append-nil, arith}
-use Rattle.hs_workload.proofs.Prelude.{AllByRecursion, get_or-eq_default, ltb-false, map_push, ltb-true, mul-le-mul, MAX_NODES, MAX_CLIENTS, MAX_OPERATIONS, MAX_TRIGGER, TriggerRule, AutoRule, AreRules, AreAutoRules, Operation, PlainSettings, AreBracketed, Setting, setting_place, setting_in, least, most, Statement, Put, Declare, Watch, Start, Operate, Finish, auto_statements, client_statements, IsOperation, IsClient, client_pieces, workload_pieces, operation_pieces, Draft, fresh, closed, workload_drafted, IsSound}
-use Rattle.hs_workload.specs.declared.word.Setting.TheVariants as settings
+use Rattle.hs_workload.proofs.Prelude.{AllByRecursion, get_or-eq_default, ltb-false, map_push, ltb-true, mul-le-mul, MAX_NODES, MAX_CLIENTS, MAX_OPERATIONS, MAX_TRIGGER, TriggerRule, AutoRule, AreRules, AreAutoRules, Operation, PlainSettings, AreBracketed, Setting, setting_place, setting_in, least, most, Statement, Put, Declare, Watch, Start, Operate, Finish, auto_statements, client_statements, IsOperation, IsClient, client_pieces, workload_pieces, Draft, fresh, closed, workload_drafted, IsSound}
+use Rattle.hs_records.specs.declared.setting.Setting.TheVariants as settings
 
 -- ---- the statements of a draft
 
@@ -102,10 +102,6 @@ clients_operated each client (x ∷ xs) current op =
     ∙ ap (λ rest. Start (client / each) (client % each) ∷ rest) (sym (append_assoc (map Operate x) (client_statements each (client + 1) (xs ++ current ∷ [])) (Operate op ∷ [])))
 
 -- ---- lists with one item more
-
-pub client_more : (size : ℕ) (ops : List Operation) (op : Operation) → client_pieces size (ops ++ op ∷ []) ≡ client_pieces size ops + operation_pieces size op
-client_more size [] op = omega arith
-client_more size (o ∷ ops) op = omega (arith, client_more size ops op)
 
 pub workload_more : (size : ℕ) (clients : List (List Operation)) (ops : List Operation) → workload_pieces size (clients ++ ops ∷ []) ≡ workload_pieces size clients + client_pieces size ops
 workload_more size [] ops = omega arith

@@ -7,10 +7,11 @@ use Rattle.std.proofs.lemmas.List.Quantifiers.{all_pairs_push}
 use Rattle.std.proofs.lemmas.Bool.{and_parts, or_parts, not-true}
 use Rattle.hs_lists.proofs.Numbers.{nat_le_past}
 use Rattle.hs_lists.proofs.Alls.{all_push}
-use Rattle.hs_workload.specs.declared.word.Setting.TheVariants as settings
+use Rattle.hs_records.specs.declared.setting.Setting.TheVariants as settings
 use Rattle.hs_workload.proofs.Spelled.{Form}
 use Rattle.hs_workload.proofs.Clear.{Allowed}
-use Rattle.hs_workload.proofs.Keeps.{setting_at, setting_again, nine_places, puts, ending, behind_autos, behind_rules, behind_head, last_of, deeper, puts_more, autos_more, clients_more, clients_operated, client_more, workload_more, version_in, settings_in, size_in, IsBare, Keeps, Kept, no_autos, headed}
+use Rattle.hs_workload.proofs.Keeps.{setting_at, setting_again, nine_places, puts, ending, behind_autos, behind_rules, behind_head, last_of, deeper, puts_more, autos_more, clients_more, clients_operated, workload_more, version_in, settings_in, size_in, IsBare, Keeps, Kept, no_autos, headed}
+use Rattle.hs_records.proofs.Sizes.{client_more}
 
 -- ---- a number of the head
 

@@ -13,4 +13,3 @@ pub mod Clients
 pub mod Faultless
 pub mod Writing
 pub mod Versions
-pub mod Sizes

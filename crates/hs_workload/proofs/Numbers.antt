@@ -3,7 +3,7 @@ use Rattle.std.proofs.Common.{◌≡◌, ◌≢◌, ℕ, zero, suc, ◌*◌, ◌
 use Rattle.hs_workload.proofs.Prelude.{All, ne_eqb, list_any_none, TriggerRule, is_declared, setting_in, Draft, IsSound}
 use Rattle.std.specs.Prelude.{List}
 use Rattle.hs_base.specs.declared.limits.TheConstants.{MIN_SIZE}
-use Rattle.hs_workload.specs.declared.word.Setting.TheVariants as settings
+use Rattle.hs_records.specs.declared.setting.Setting.TheVariants as settings
 
 pub factor_positive : (a b c : ℕ) → a < b * c → 0 < c
 factor_positive a b zero h = absurd (omega (arith, h))

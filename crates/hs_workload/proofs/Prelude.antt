@@ -10,6 +10,10 @@ pub use Rattle.hs_lists.proofs.Numbers.{nat_eq_from, nat_le_false}
 pub use Rattle.hs_lists.proofs.Parts.{length_map}
 pub use Rattle.hs_records.specs.Plain.{Begin, Crumb, End, Fire, Operation, PlainSettings, PlainWorkload, Point, Sample}
 pub use Rattle.hs_records.specs.Records.{AreBracketed}
+pub use Rattle.hs_records.specs.Settings.{least, most, setting_of, setting_place}
+pub use Rattle.hs_records.specs.Validity.{client_pieces, HasDigits, IsClient, IsOperation, IsValid, operation_pieces, workload_pieces}
+pub use Rattle.hs_records.specs.Views.{operation_of, operations_of, workload_of}
+pub use Rattle.hs_records.specs.declared.setting.Setting.{Setting}
 pub use Rattle.hs_text.specs.Agreement.{Agrees}
 pub use Rattle.hs_text.specs.Judging.{first_fault_in}
 pub use Rattle.hs_text.specs.JudgingLaws.{IsReading, run}
@@ -23,17 +27,14 @@ pub use Rattle.hs_workload.specs.Faults.{before_words, begins_while_open, has_no
 unfoldable pub use Rattle.hs_workload.specs.Faults.{fault_at, first_fault}
 pub use Rattle.hs_workload.specs.Forward.{after, closed, Draft, draft_of, error_at, fresh, IsSound, open_after, past_of, workload_drafted}
 unfoldable pub use Rattle.hs_workload.specs.Forward.{line_step, point_step}
-pub use Rattle.hs_workload.specs.Grammar.{auto_statements, client_statements, head_statements, statements_text, workload_statements}
-pub use Rattle.hs_workload.specs.LookBack.{operation_pieces, Past}
-pub use Rattle.hs_workload.specs.Settings.{all_settings, least, most, setting_in, setting_of, setting_place}
+pub use Rattle.hs_workload.specs.Grammar.{auto_statements, client_statements, head_statements, Reads, statements_text, workload_statements}
+pub use Rattle.hs_workload.specs.LookBack.{Past}
+pub use Rattle.hs_workload.specs.Settings.{all_settings, setting_in}
 pub use Rattle.hs_workload.specs.Statements.{all_keywords, auto_numbers, auto_rule, Declare, Finish, fire, keyword_of, keyword_text, keywords_told_apart, kind_count, kind_of, kind_text, kinds_told_apart, number_count, numbers_at, numbers_say, Operate, Put, rule_numbers, says, Start, Statement, statement_line, statement_of, statement_words, trace_of, traces_of, Watch, watch_said}
-pub use Rattle.hs_workload.specs.Validity.{client_pieces, HasDigits, IsClient, IsOperation, IsValid, Reads, workload_pieces}
-pub use Rattle.hs_workload.specs.Views.{operation_of, operations_of, workload_of}
 pub use Rattle.hs_workload.specs.declared.refusal.ReadError.{ReadError}
 pub use Rattle.hs_workload.specs.declared.refusal.Reason.{Reason}
 pub use Rattle.hs_workload.specs.declared.word.Keyword.{Keyword}
 pub use Rattle.hs_workload.specs.declared.word.Kind.{Kind}
-pub use Rattle.hs_workload.specs.declared.word.Setting.{Setting}
 pub use Rattle.std.proofs.Math.ListN.{get_or-append, get_or-eq_default}
 pub use Rattle.std.proofs.Math.Nat.{mul-le-mul}
 pub use Rattle.std.proofs.Math.Seq.{get_or-append_seam}

@@ -2,7 +2,7 @@
 use Rattle.std.proofs.Common.{◌≡◌, ℕ, ◌+◌, ◌^◌, ◌<◌, ◌≤◌, true, false, not, nat_eq, nat_lt, nat_le, ◌||◌, ◌&&◌, List, [], ◌∷◌, ◌++◌, length, map, get_or, Ok, refl, sym, ap, subst, ◌∙◌, append_assoc, append-nil, length-append, arith, eq-eqb}
 use Rattle.hs_workload.proofs.Prelude.{AllByRecursion, get_or-append, get_or-append_seam, list_any_none, le-ltb, or_from, and_from, eqb-true, nat_le_false, MAX_TRIGGER, MAX_WEIGHT, MAX_BURST, MAX_RATE, MIN_WINDOW, MAX_WINDOW, WHOLE_SHARE, MAX_LATERALS, MAX_AUTOS, TriggerRule, AutoRule, Exception, Percentile, Category, Queue, IsRule, IsAutoRule, AreRules, AreAutoRules, is_declared, fired_by, Within, is_out, ◌>>=◌, run, PlainWorkload, Setting, setting_place, least, most, Statement, Put, Declare, Watch, auto_numbers, statement_line, head_statements, auto_statements, IsValid, Past, is_rule_out, is_window_out, is_auto_out, Draft, fresh, past_of, after, line_step}
 use Rattle.std.proofs.lemmas.List.Folds.{Any-from_list_any}
-use Rattle.hs_workload.specs.declared.word.Setting.TheVariants as settings
+use Rattle.hs_records.specs.declared.setting.Setting.TheVariants as settings
 use Rattle.hs_workload.proofs.Spelled.{IsSmall, Form}
 use Rattle.hs_workload.proofs.Clear.{Allowed, statement_taken}
 use Rattle.hs_workload.proofs.Keeps.{version_in}

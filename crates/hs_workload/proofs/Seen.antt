@@ -6,7 +6,7 @@ use Rattle.hs_text.specs.Judging.{onto}
 use Rattle.hs_text.specs.JudgingLaws.{Reader, onto-append}
 use Rattle.hs_text.specs.Agreement.{agrees_err}
 use Rattle.hs_workload.specs.declared.refusal.Refusal.{Refusal}
-use Rattle.hs_workload.specs.declared.word.Setting.TheVariants as settings
+use Rattle.hs_records.specs.declared.setting.Setting.TheVariants as settings
 use Rattle.hs_workload.specs.LookBack.{past_said, said}
 use Rattle.hs_workload.specs.Faults.{fault_of}
 use Rattle.hs_workload.proofs.Exact.{line_agrees}

@@ -1,7 +1,7 @@
 -- A valid workload is valid in each version that its traces fit, and they fit version 2.
 use Rattle.std.proofs.Common.{ℕ, ◌^◌, ◌<◌, Bool, true, false, cond, nat_eq, List, [], ◌∷◌, arith}
 use Rattle.hs_workload.proofs.Prelude.{AllByRecursion, TraceId, Within, Operation, Begin, Point, Crumb, End, Fire, Sample, PlainSettings, PlainWorkload, Setting, least, most, setting_of, HasDigits, IsOperation, IsClient, IsValid}
-use Rattle.hs_workload.specs.declared.word.Setting.TheVariants as settings
+use Rattle.hs_records.specs.declared.setting.Setting.TheVariants as settings
 use Rattle.hs_workload.specs.Versions.{HasTraces, FitsVersion}
 
 -- ---- each version that the traces fit

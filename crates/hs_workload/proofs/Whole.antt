@@ -3,7 +3,7 @@ use Rattle.std.proofs.Common.{◌≡◌, ℕ, true, List, [], ◌∷◌, ◌++�
 use Rattle.hs_workload.proofs.Prelude.{Within, first_fault_in, judging, first_fault, PlainWorkload, Setting, all_settings, setting_in, setting_of, least, most, Put, Declare, statement_line, auto_statements, client_statements, workload_statements, IsValid, Reads, Draft, closed, workload_drafted}
 use Rattle.hs_text.specs.Text.{text_of}
 use Rattle.hs_text.specs.JudgingLaws.{Makes, faultless_made}
-use Rattle.hs_workload.specs.declared.word.Setting.TheVariants as settings
+use Rattle.hs_records.specs.declared.setting.Setting.TheVariants as settings
 use Rattle.hs_workload.proofs.Keeps.{setting_at, nine_places, puts, ending, behind_head, draft_statements, version_in, Keeps, headed}
 use Rattle.hs_workload.proofs.Kept.{clients_closed, pieces_closed}
 use Rattle.hs_workload.proofs.Seen.{workload_reader}

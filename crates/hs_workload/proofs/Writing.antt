@@ -2,7 +2,7 @@
 use Rattle.std.proofs.Common.{◌≡◌, ℕ, ◌+◌, ◌*◌, ◌≤◌, List, [], ◌∷◌, ◌++◌, length, map, drop, refl, sym, ap, ◌∙◌, append_assoc, arith}
 use Rattle.hs_workload.proofs.Prelude.{MAX_NODES, MAX_CLIENTS, TriggerRule, AutoRule, PlainWorkload, Statement, Declare, Watch, Finish, statement_line, IsValid, head_statements, auto_statements, client_statements, statements_text}
 use Rattle.std.proofs.lemmas.List.{append-nil, drop_all}
-use Rattle.hs_workload.specs.declared.word.Setting.TheVariants as settings
+use Rattle.hs_records.specs.declared.setting.Setting.TheVariants as settings
 use Rattle.hs_workload.proofs.Keeps.{product_small}
 use Rattle.hs_workload.specs.Grammar.{workload_text}
 

@@ -20,13 +20,15 @@ use Rattle.hs_workload.specs.declared.refusal.Reason.TheVariants as reasons
 use Rattle.hs_workload.specs.declared.refusal.Refusal.{Refusal}
 use Rattle.hs_workload.specs.declared.refusal.ReadError.{ReadError}
 use Rattle.hs_workload.specs.declared.refusal.ReadError.TheVariants as errors
-use Rattle.hs_workload.specs.declared.word.Setting.TheVariants as settings
+use Rattle.hs_records.specs.declared.setting.Setting.TheVariants as settings
 use Rattle.hs_workload.specs.declared.word.Keyword.{Keyword}
 use Rattle.hs_workload.specs.declared.word.Keyword.TheVariants as keywords
 use Rattle.hs_workload.specs.declared.word.Kind.{Kind}
-use Rattle.hs_workload.specs.Settings.{setting_place, setting_in, least, most}
+use Rattle.hs_records.specs.Settings.{setting_place, least, most}
+use Rattle.hs_workload.specs.Settings.{setting_in}
 use Rattle.hs_workload.specs.Statements.{Statement, Put, Declare, Watch, Start, Operate, Finish, keyword_of, kind_of, kind_count, number_count, traces_of, says}
-use Rattle.hs_workload.specs.LookBack.{Past, past_said, said, operation_pieces, is_done_said}
+use Rattle.hs_workload.specs.LookBack.{Past, past_said, said, is_done_said}
+use Rattle.hs_records.specs.Validity.{operation_pieces}
 use Rattle.hs_workload.specs.Grammar.{three_points_lines, two_nodes_lines}
 
 -- ---- which word may stand at a place

@@ -16,16 +16,18 @@ use Rattle.hs_text.specs.declared.stop.Stop.TheVariants as stops
 use Rattle.hs_text.specs.Steps.{◌>>=◌, unless, value_or}
 use Rattle.hs_text.specs.WordsLeft.{next_word, last_word, payload_length}
 use Rattle.hs_text.specs.Opening.{opened}
-use Rattle.hs_workload.specs.declared.word.Setting.TheVariants as settings
-use Rattle.hs_workload.specs.declared.word.Setting.{Setting}
+use Rattle.hs_records.specs.declared.setting.Setting.TheVariants as settings
+use Rattle.hs_records.specs.declared.setting.Setting.{Setting}
 use Rattle.hs_workload.specs.declared.word.Keyword.{Keyword}
 use Rattle.hs_workload.specs.declared.word.Keyword.TheVariants as keywords
 use Rattle.hs_workload.specs.declared.line.Numbers.{Numbers}
 use Rattle.hs_workload.specs.declared.draft.Reader.{Reader}
-use Rattle.hs_workload.specs.Views.{operations_of}
-use Rattle.hs_workload.specs.Settings.{least, most, setting_place, setting_in}
+use Rattle.hs_records.specs.Views.{operations_of}
+use Rattle.hs_records.specs.Settings.{least, most, setting_place}
+use Rattle.hs_workload.specs.Settings.{setting_in}
 use Rattle.hs_workload.specs.Statements.{Statement, Put, Declare, Watch, Start, Operate, Finish, keyword_of, kind_of, kind_count, auto_rule, number_count, numbers_say, trace_of, traces_of, fire}
-use Rattle.hs_workload.specs.LookBack.{Past, operation_pieces}
+use Rattle.hs_workload.specs.LookBack.{Past}
+use Rattle.hs_records.specs.Validity.{operation_pieces}
 use Rattle.hs_workload.specs.Faults.{may_stand, is_out_of_range, is_out_of_order, names_unknown, begins_while_open, lacks_trace, leaves_open, is_one_too_many, version_of, before_words}
 
 -- the error for what ended the reading of this line

@@ -1,6 +1,6 @@
 -- The text of a workload: the nine settings, the trigger ids and the autotriggers that it declares, each client with its
 -- operations in the order of node and number, and the line `done`. A workload has one text, since the text is a function
--- of it.
+-- of it. A text reads as a valid workload where it is that text.
 use Rattle.std.specs.Prelude.{◌≡◌, ℕ, ◌+◌, ◌/◌, ◌%◌, ◌^◌, List, [], ◌∷◌, ◌++◌, map, codes, replicate, refl}
 use Rattle.std.specs.Fmt.{digits}
 use Rattle.hex.specs.Hex.{encode_with}
@@ -8,8 +8,10 @@ use Rattle.hs_text.specs.Text.{text_of}
 use Rattle.hs_base.specs.declared.settings.AutoRule.{AutoRule}
 use Rattle.hs_base.specs.declared.settings.AutoRule.TheVariants.{Exception, Queue}
 use Rattle.hs_records.specs.Plain.{Operation, Begin, Point, Crumb, End, Fire, Sample, PlainSettings, PlainWorkload}
-use Rattle.hs_workload.specs.Settings.{all_settings, setting_of}
+use Rattle.hs_workload.specs.Settings.{all_settings}
+use Rattle.hs_records.specs.Settings.{setting_of}
 use Rattle.hs_workload.specs.Statements.{Statement, Put, Declare, Watch, Start, Operate, Finish, statement_line}
+use Rattle.hs_records.specs.Validity.{IsValid}
 
 abbrev pub head_statements : PlainWorkload → List Statement
 head_statements W = map (λ setting. Put setting (setting_of W setting)) all_settings
@@ -38,6 +40,11 @@ workload_lines W = map (statement_line W.version) (workload_statements W)
 
 abbrev pub workload_text : PlainWorkload → List ℕ
 workload_text W = text_of (workload_lines W)
+
+-- the text reads as the workload
+pub record Reads (text : List ℕ) (W : PlainWorkload) : Type 0 where
+  pub valid : IsValid W
+  pub spelled : text ≡ workload_text W
 
 -- worked examples: one client with three points, and a text of version 2 with a payload of 70 bytes
 abbrev pub least_settings : PlainSettings

@@ -1,10 +1,8 @@
 pub mod Reasons
-pub mod Views
 pub mod Settings
 pub mod Statements
 pub mod Grammar
 pub mod LookBack
-pub mod Validity
 pub mod Versions
 pub mod Faults
 pub mod Forward

@@ -1,14 +1,14 @@
 -- What the lines so far say, found by looking back over them. Lists of lines and of what they say stand here with the
 -- newest first.
-use Rattle.std.specs.Prelude.{◌≡◌, ℕ, ◌+◌, Bool, true, false, List, [], ◌∷◌, ◌++◌, length, replicate, refl}
+use Rattle.std.specs.Prelude.{◌≡◌, ℕ, ◌+◌, Bool, true, false, List, [], ◌∷◌, ◌++◌, replicate, refl}
 use Rattle.std.specs.List.{cons_option}
-use Rattle.hs_records.specs.Plain.{Operation, Begin, Point, End}
+use Rattle.hs_records.specs.Plain.{Begin, Point, End}
 use Rattle.hs_base.specs.declared.settings.TriggerRule.{TriggerRule}
 use Rattle.hs_base.specs.declared.settings.AutoRule.{AutoRule}
-use Rattle.hs_records.specs.Records.{piece_count}
-use Rattle.hs_workload.specs.declared.word.Setting.TheVariants as settings
+use Rattle.hs_records.specs.declared.setting.Setting.TheVariants as settings
 use Rattle.hs_workload.specs.Settings.{setting_in}
 use Rattle.hs_workload.specs.Statements.{Statement, Put, Declare, Watch, Start, Operate, Finish, statement_of}
+use Rattle.hs_records.specs.Validity.{operation_pieces}
 
 -- the head so far
 abbrev pub head_said : List Statement → List ℕ
@@ -45,11 +45,6 @@ is_open_said [] = false
 is_open_said (Operate (Begin trace) ∷ earlier) = true
 is_open_said (Operate End ∷ earlier) = false
 is_open_said (_ ∷ earlier) = is_open_said earlier
-
--- how often an operation counts: a point once for each of its pieces
-abbrev pub operation_pieces : ℕ → Operation → ℕ
-operation_pieces size (Point moment payload) = piece_count size (length payload)
-operation_pieces size _ = 1
 
 -- the operations so far, counted so
 abbrev pub pieces_said : List Statement → ℕ

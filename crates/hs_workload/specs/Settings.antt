@@ -1,28 +1,15 @@
--- The nine settings at the head of a workload's text. Each stands on a line of its own, in a fixed order, and has a least
--- and a greatest value. A head is the list of their values in that order.
+-- The nine settings at the head of a workload's text. Each stands on a line of its own, in a fixed order. A head is the list of
+-- their values in that order.
 use Rattle.std.specs.Prelude.{◌≡◌, ℕ, List, [], ◌∷◌, slice_index, codes, refl}
-use Rattle.hs_base.specs.declared.limits.TheConstants.{MAX_NODES, MAX_CLIENTS, MIN_SIZE, MAX_SIZE, MAX_BUFFERS, MAX_THRESHOLD, MAX_TRACES, MAX_PINS, MAX_STRIDE}
-use Rattle.hs_records.specs.Plain.{PlainWorkload}
-use Rattle.hs_workload.specs.declared.word.Setting.{Setting}
-use Rattle.hs_workload.specs.declared.word.Setting.TheVariants as settings
+use Rattle.hs_records.specs.declared.setting.Setting.{Setting}
+use Rattle.hs_records.specs.declared.setting.Setting.TheVariants as settings
+use Rattle.hs_records.specs.Settings.{setting_place}
 
 -- in the order of their lines
 abbrev pub all_settings : List Setting
 all_settings =
     settings.Version ∷ settings.Nodes ∷ settings.Clients ∷ settings.Buffers ∷ settings.Size ∷ settings.Threshold ∷ settings.Traces ∷ settings.Pins
     ∷ settings.Stride ∷ []
-
--- how many settings stand before one
-abbrev pub setting_place : Setting → ℕ
-setting_place settings.Version = 0
-setting_place settings.Nodes = 1
-setting_place settings.Clients = 2
-setting_place settings.Buffers = 3
-setting_place settings.Size = 4
-setting_place settings.Threshold = 5
-setting_place settings.Traces = 6
-setting_place settings.Pins = 7
-setting_place settings.Stride = 8
 
 abbrev pub setting_text : Setting → List ℕ
 setting_text settings.Version = codes "hindsight"
@@ -35,38 +22,9 @@ setting_text settings.Traces = codes "traces"
 setting_text settings.Pins = codes "pins"
 setting_text settings.Stride = codes "stride"
 
-abbrev pub least : Setting → ℕ
-least settings.Size = MIN_SIZE
-least settings.Threshold = 0
-least settings.Pins = 0
-least _ = 1
-
-abbrev pub most : Setting → ℕ
-most settings.Version = 2
-most settings.Nodes = MAX_NODES
-most settings.Clients = MAX_CLIENTS
-most settings.Buffers = MAX_BUFFERS
-most settings.Size = MAX_SIZE
-most settings.Threshold = MAX_THRESHOLD
-most settings.Traces = MAX_TRACES
-most settings.Pins = MAX_PINS
-most settings.Stride = MAX_STRIDE
-
 -- a setting of a head, 0 where the head has not come to it
 abbrev pub setting_in : List ℕ → Setting → ℕ
 setting_in head setting = slice_index head (setting_place setting)
-
--- a setting of a workload
-abbrev pub setting_of : PlainWorkload → Setting → ℕ
-setting_of W settings.Version = W.version
-setting_of W settings.Nodes = W.settings.nodes
-setting_of W settings.Clients = W.settings.clients
-setting_of W settings.Buffers = W.settings.buffers
-setting_of W settings.Size = W.settings.size
-setting_of W settings.Threshold = W.settings.threshold
-setting_of W settings.Traces = W.settings.traces
-setting_of W settings.Pins = W.settings.pins
-setting_of W settings.Stride = W.settings.stride
 
 -- worked examples
 third_line : (setting_in (2 ∷ 3 ∷ 4 ∷ []) settings.Clients ≡ 4) × (setting_in (2 ∷ 3 ∷ 4 ∷ []) settings.Size ≡ 0)

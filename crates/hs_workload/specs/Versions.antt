@@ -3,7 +3,7 @@
 use Rattle.std.specs.Prelude.{ℕ, ⊤}
 use Rattle.std.specs.List.{AllByRecursion}
 use Rattle.hs_records.specs.Plain.{Operation, Begin, Fire, PlainWorkload}
-use Rattle.hs_workload.specs.Validity.{HasDigits}
+use Rattle.hs_records.specs.Validity.{HasDigits}
 
 -- the traces that an operation names have digits in a text of this version
 abbrev pub HasTraces : ℕ → Operation → Type 0

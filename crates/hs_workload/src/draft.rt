@@ -9,9 +9,9 @@ ghost use Rattle.hs_base.specs.Ids.{trace_digits};
 ghost use Rattle.hs_text.specs.Steps.{Gives, value_or};
 ghost use Rattle.hs_text.specs.WordsLeft.{words_in};
 ghost use Rattle.hs_records.specs.Plain.{Begin, Crumb, End, Fire, Sample};
-ghost use Rattle.hs_workload.specs.Views.{operation_of, workload_of};
+ghost use Rattle.hs_records.specs.Views.{operation_of, workload_of};
 ghost use Rattle.hs_workload.specs.declared.refusal.Reason.TheVariants.{Hex};
-ghost use Rattle.hs_workload.specs.declared.word.Setting.TheVariants.{Version, Nodes, Clients, Size};
+ghost use Rattle.hs_records.specs.declared.setting.Setting.TheVariants.{Version, Nodes, Clients, Size};
 ghost use Rattle.hs_workload.specs.declared.word.Keyword.TheVariants.{TriggerId as TriggerIdWord};
 ghost use Rattle.hs_workload.specs.Settings.{setting_in};
 ghost use Rattle.hs_workload.specs.Statements.{Put, Watch, Start, Operate, Finish, auto_rule, fire, numbers_say, trace_of, traces_of};
@@ -19,15 +19,14 @@ ghost use Rattle.hs_workload.specs.Faults.{all_clients, may_stand, is_rule_out, 
 ghost use Rattle.hs_workload.specs.Forward.{fresh, IsSound, draft_of, past_of, closed, after, with_operation, counted, counted_once, statement_step, numbers_step, begin_step, point_step, trigger_step, auto_step, keyword_step, line_step, open_after, workload_drafted};
 
 use crate::line::{Numbers, numbers_in};
-use crate::operation::{Op, Workload};
 use crate::refusal::Reason;
 use crate::rules::{is_auto_out, is_out, is_rule_out, rule_of};
-use crate::word::{Keyword, Kind, Setting};
+use crate::word::{Keyword, Kind};
 use hs_base::limits::{MAX_AUTOS, MAX_LATERALS, MAX_OPERATIONS, MAX_PAYLOAD, MAX_SIZE, MIN_SIZE};
 use hs_base::{
     AutoRule, Laterals, List, Memory, NodeId, Settings, TraceId, Trigger, TriggerId, TriggerRule,
 };
-use hs_records::piece_count;
+use hs_records::{Op, Setting, Workload, piece_count};
 use hs_text::{
     LineReasons, Stop, Words, decode_payload, hex_in, number_in, open_seen_line, spelled_word,
 };

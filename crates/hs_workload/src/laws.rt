@@ -3,9 +3,9 @@
 ghost use Rattle.std.specs.Prelude.{◌≡◌, ℕ, List, None};
 ghost use Rattle.hs_records.specs.Plain.{PlainWorkload};
 ghost use Rattle.hs_base.specs.Ranges.{Within};
-ghost use Rattle.hs_workload.specs.Validity.{IsValid, Reads};
+ghost use Rattle.hs_records.specs.Validity.{IsValid};
+ghost use Rattle.hs_workload.specs.Grammar.{Reads, workload_text};
 ghost use Rattle.hs_workload.specs.Versions.{FitsVersion};
-ghost use Rattle.hs_workload.specs.Grammar.{workload_text};
 ghost use Rattle.hs_workload.specs.Faults.{first_fault};
 
 /// A text has no fault exactly where it reads as a workload.

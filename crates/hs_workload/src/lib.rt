@@ -5,15 +5,14 @@
 mod draft;
 mod laws;
 mod line;
-mod operation;
 mod reader;
 mod refusal;
 mod rules;
 mod word;
 mod writer;
 
+pub use hs_records::{Op, Workload};
 pub use laws::{faultless_texts_read, one_workload_a_text, versions_are_exchanged};
-pub use operation::{Op, Workload};
 pub use reader::read_workload;
 pub use refusal::{ReadError, Reason, Refusal};
 pub use writer::write_workload;

@@ -2,15 +2,15 @@
 
 ghost use Rattle.std.specs.Prelude.{◌≡◌, None, IfOk, IfErr, OnOk, MatchResult};
 ghost use Rattle.hs_records.specs.Plain.{PlainWorkload};
-ghost use Rattle.hs_workload.specs.Views.{workload_of};
-ghost use Rattle.hs_workload.specs.Validity.{Reads};
+ghost use Rattle.hs_records.specs.Views.{workload_of};
+ghost use Rattle.hs_workload.specs.Grammar.{Reads};
 ghost use Rattle.hs_workload.specs.Faults.{first_fault, Refuses};
 ghost use Rattle.hs_workload.specs.Forward.{error_at};
 ghost use Rattle.hs_workload.specs.declared.refusal.ReadError.TheVariants.{Memory};
 
 use crate::draft::Reader;
-use crate::operation::Workload;
 use crate::refusal::{ReadError, Reason, Refusal};
+use hs_records::Workload;
 use hs_text::{Stop, is_tidy, split_line};
 use std::alloc::Global;
 

@@ -5,15 +5,16 @@ ghost use Rattle.hs_base.specs.declared.limits.TheConstants.{MAX_AUTOS, MAX_CLIE
 ghost use Rattle.hs_text.specs.Text.{line_of};
 ghost use Rattle.hs_text.specs.Writing.{spaced, trace_word};
 ghost use Rattle.hs_records.specs.Plain.{Begin, Fire, Point};
-ghost use Rattle.hs_workload.specs.Views.{operation_of, operations_of, workload_of};
-ghost use Rattle.hs_workload.specs.Settings.{all_settings, setting_of};
+ghost use Rattle.hs_records.specs.Views.{operation_of, operations_of, workload_of};
+ghost use Rattle.hs_workload.specs.Settings.{all_settings};
+ghost use Rattle.hs_records.specs.Settings.{setting_of};
 ghost use Rattle.hs_workload.specs.Statements.{Declare, Watch, Operate, keyword_text, kind_text, statement_line};
-ghost use Rattle.hs_workload.specs.Grammar.{statements_text, head_statements, auto_statements, client_statements};
-ghost use Rattle.hs_workload.specs.Validity.{IsValid, Reads};
+ghost use Rattle.hs_workload.specs.Grammar.{statements_text, head_statements, auto_statements, client_statements, Reads};
+ghost use Rattle.hs_records.specs.Validity.{IsValid};
 
-use crate::operation::{Op, Workload};
-use crate::word::{Keyword, Kind, Setting};
+use crate::word::{Keyword, Kind};
 use hs_base::{AutoRule, Bytes, Laterals, List, Memory, TraceId, Trigger, TriggerRule};
+use hs_records::{Op, Setting, Workload};
 use hs_text::{
     Spelled, end_line, push_spaced, push_spaced_number, push_spaced_numbers, push_spaced_payload,
     push_spaced_trace,

@@ -7,7 +7,7 @@ use Rattle.hs_streams.specs.Input.{ReadBeyond}
 use Rattle.hs_streams.specs.declared.status.Status.{Status}
 use Rattle.hs_streams.specs.declared.status.Status.TheVariants.{Done, Usage, Refused, ReadFault, WriteFault, Memory, TooLong, Unlawful}
 use Rattle.hs_streams.proofs.Taking.{taken_whole, taken_beyond}
-use Rattle.hs_workload.specs.Validity.{Reads}
+use Rattle.hs_workload.specs.Grammar.{Reads}
 use Rattle.replay.specs.Endings.{Ends}
 
 module _ (left left' written written' : Option (List ℕ)) (source source' sink sink' : ℕ) (input : List ℕ) (W : PlainWorkload) (is : left ≡ Some input) (reads : Reads input W)

@@ -14,7 +14,7 @@ use Rattle.hs_streams.specs.Written.{GainsFront}
 use Rattle.hs_streams.specs.declared.status.Status.{Status}
 use Rattle.hs_streams.specs.declared.status.Status.TheVariants.{Done, Usage, Refused, ReadFault, WriteFault, Memory, TooLong, Unlawful}
 use Rattle.hs_streams.specs.Statuses.{NoneFailed}
-use Rattle.hs_workload.specs.Validity.{Reads}
+use Rattle.hs_workload.specs.Grammar.{Reads}
 
 -- The text is an outcome of the workload. Its journal is the one that the lockstep schedule writes, and it is lawful.
 abbrev pub Due : PlainWorkload → List ℕ → Type 0

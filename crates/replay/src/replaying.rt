@@ -8,15 +8,17 @@ ghost use Rattle.hs_law_outcome.specs.OutcomeText.{outcome_text};
 ghost use Rattle.hs_law_outcome.specs.declared.form.Form.TheVariants.{Text};
 ghost use Rattle.hs_records.specs.Plain.{PlainWorkload};
 ghost use Rattle.hs_streams.specs.Input.{ReadFront};
-ghost use Rattle.hs_workload.specs.Validity.{IsValid, Reads};
-ghost use Rattle.hs_workload.specs.Views.{workload_of};
+ghost use Rattle.hs_records.specs.Validity.{IsValid};
+ghost use Rattle.hs_workload.specs.Grammar.{Reads};
+ghost use Rattle.hs_records.specs.Views.{workload_of};
 ghost use Rattle.replay.specs.Endings.{IsAnswer, Ends, Wrote, WroteFront};
 
 use hs_base::{Bytes, Memory, Sink, Source};
 use hs_law_lockstep::laws::schedule_is_lawful;
+use hs_records::Workload;
 use hs_replay::{replay, write_lines};
 use hs_streams::{ReadInput, Status, finish, read_all, refusal_line, refuse_too_long};
-use hs_workload::{ReadError, Workload, one_workload_a_text, read_workload};
+use hs_workload::{ReadError, one_workload_a_text, read_workload};
 use std::alloc::Global;
 
 /// What is answered for an input.

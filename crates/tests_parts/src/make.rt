@@ -4,7 +4,7 @@ use crate::rows::row;
 use hs_base::Memory;
 use hs_base::limits::MAX_REQUESTS;
 use hs_make::make_workload;
-use hs_workload::Workload;
+use hs_records::Workload;
 use std::alloc::Global;
 
 /// The operations in as many requests of seed 7 as may be, worked out by a program of its own.

@@ -2,7 +2,7 @@
 
 use crate::calls::{BLIND, called};
 use crate::made::made;
-use hs_workload::{Op, Workload};
+use hs_records::{Op, Workload};
 use std::alloc::{AllocError, Global};
 use std::marker::Sync;
 use std::process::Abort;

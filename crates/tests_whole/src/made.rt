@@ -1,7 +1,8 @@
 //! Made workloads.
 
 use crate::calls::{BLIND, Streams, called, outcome};
-use hs_workload::{Workload, read_workload};
+use hs_records::Workload;
+use hs_workload::read_workload;
 use std::marker::Sync;
 use std::process::Abort;
 use std::sync::Wait;

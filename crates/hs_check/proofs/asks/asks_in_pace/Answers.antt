@@ -1,6 +1,6 @@
 use Rattle.std.proofs.Common.{◌≡◌, ℕ, ◌<◌, ◌∷◌, List, length, get_or, sym, ap, ◌∙◌, arith}
 use Rattle.hs_check.proofs.Prelude.{list_all, drop_all, NodeId, NodeSet, journal_of, followed, asks_in_pace, workload_of, found_counted, nodes_counted, step_more, step_fails, heard_for, most_passes, asks_behind_each, all_ask_enough, behind_each, is_of}
-use Rattle.hs_workload.specs.declared.word.Setting.TheVariants as settings
+use Rattle.hs_records.specs.declared.setting.Setting.TheVariants as settings
 use Rattle.hs_check.specs.declared.kinds.Kind.TheVariants as kinds
 use Rattle.hs_check.proofs.Asked.{node_asks}
 use Rattle.hs_check.proofs.asks.asks_in_pace.Goals as goal

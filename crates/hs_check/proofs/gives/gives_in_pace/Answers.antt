@@ -1,6 +1,6 @@
 use Rattle.std.proofs.Common.{ℕ, ◌*◌, ◌∷◌, List, sym, ap, ◌∙◌, arith}
 use Rattle.hs_check.proofs.Prelude.{Draw, journal_of, log_at, log_stamps, workload_of, FoundClient, drawn_from, clients_beside, behind_each, is_of}
-use Rattle.hs_workload.specs.declared.word.Setting.TheVariants as settings
+use Rattle.hs_records.specs.declared.setting.Setting.TheVariants as settings
 use Rattle.hs_check.specs.declared.kinds.Kind.TheVariants as kinds
 use Rattle.hs_check.proofs.Gave.{node_gives}
 use Rattle.hs_check.proofs.gives.gives_in_pace.Goals as goal

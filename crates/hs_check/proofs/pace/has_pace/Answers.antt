@@ -1,6 +1,6 @@
 use Rattle.std.proofs.Common.{List, length, get_or, sym, ap, ◌∙◌, arith}
 use Rattle.hs_check.proofs.Prelude.{◌&&◌, list_all, drop_all, journal_of, followed, asks_in_pace, workload_of, FoundNode, clients_counted, known_at, found_counted, nodes_counted, lists_are, step_more, step_fails}
-use Rattle.hs_workload.specs.declared.word.Setting.TheVariants as settings
+use Rattle.hs_records.specs.declared.setting.Setting.TheVariants as settings
 use Rattle.hs_check.proofs.Paced.{keeps_pace, parts_are}
 use Rattle.hs_check.proofs.pace.has_pace.Goals as goal
 

@@ -1,6 +1,6 @@
 use Rattle.std.proofs.Common.{ℕ, List, length, refl, sym, ap, subst, ◌∙◌, arith}
 use Rattle.hs_check.proofs.Prelude.{zip, ◌&&◌, list_all, range_with_len, Step, items_in_pace, client_in_pace, passes_of, ClientSends, workload_of, AreFound, IsFoundClient}
-use Rattle.hs_workload.specs.declared.word.Setting.TheVariants as settings
+use Rattle.hs_records.specs.declared.setting.Setting.TheVariants as settings
 use Rattle.hs_check.proofs.pace.keeps_pace.Goals as goal
 
 pub items_in_pace-requires-clause-some : goal.items_in_pace-requires-clause-some

@@ -1,6 +1,6 @@
 use Rattle.std.proofs.Common.{List, length, get_or, sym, ap, ◌∙◌, arith}
 use Rattle.hs_check.proofs.Prelude.{list_all, drop_all, journal_of, NodeRun, followed, before_unreads, may_be_unread, workload_of, FoundNode, clients_counted, known_at, found_counted, nodes_counted, step_more, step_fails}
-use Rattle.hs_workload.specs.declared.word.Setting.TheVariants as settings
+use Rattle.hs_records.specs.declared.setting.Setting.TheVariants as settings
 use Rattle.hs_check.proofs.UnreadOffers.{unreads_are}
 use Rattle.hs_check.proofs.unreads.has_unreads.Goals as goal
 

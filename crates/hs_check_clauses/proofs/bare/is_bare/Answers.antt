@@ -1,6 +1,6 @@
 use Rattle.std.proofs.Common.{◌≡◌, ℕ, ◌+◌, ◌<◌, ◌≤◌, Bool, List, length, drop, get_or, sym, ap, ◌∙◌, eqb, arith}
 use Rattle.hs_check_clauses.proofs.Prelude.{count_by, list_all, drop_all, NodeId, NodeSet, has_node, journal_of, is_left_bare, followed, workload_of, FoundNode}
-use Rattle.hs_workload.specs.declared.word.Setting.TheVariants as settings
+use Rattle.hs_records.specs.declared.setting.Setting.TheVariants as settings
 use Rattle.hs_check_clauses.proofs.Bared.{bare_is, clients_counted}
 use Rattle.hs_check_clauses.proofs.Knowing.{known_at, found_counted, nodes_counted}
 use Rattle.hs_check_clauses.proofs.Ranges.{step_more, step_fails}

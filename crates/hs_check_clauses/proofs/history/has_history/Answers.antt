@@ -1,6 +1,6 @@
 use Rattle.std.proofs.Common.{◌≡◌, ℕ, ◌+◌, ◌<◌, ◌≤◌, Bool, List, length, map, drop, get_or, sym, ap, ◌∙◌, arith}
 use Rattle.hs_check_clauses.proofs.Prelude.{list_all, drop_all, journal_of, NodeRun, followed, is_history, pool_history, workload_of, FoundNode}
-use Rattle.hs_workload.specs.declared.word.Setting.TheVariants as settings
+use Rattle.hs_records.specs.declared.setting.Setting.TheVariants as settings
 use Rattle.hs_check_clauses.proofs.Bared.{clients_counted}
 use Rattle.hs_check_clauses.proofs.Knowing.{known_at, found_counted, nodes_counted}
 use Rattle.hs_check_clauses.proofs.Pooling.{history_told}

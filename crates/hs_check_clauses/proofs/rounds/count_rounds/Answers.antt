@@ -1,7 +1,7 @@
 use Rattle.std.proofs.Common.{ℕ, ◌≡◌, ◌*◌, ◌^◌, ◌≤◌, ◌<◌, sym, subst, List, length, map, get_or, ap, ◌∙◌, arith}
 use Rattle.hs_check_clauses.proofs.Prelude.{length-map, operation_of, operations_of, workload_of}
 use Rattle.std.proofs.lemmas.Grind.{common_steps}
-use Rattle.hs_workload.specs.declared.word.Setting.TheVariants as settings
+use Rattle.hs_records.specs.declared.setting.Setting.TheVariants as settings
 use Rattle.hs_check_clauses.proofs.Valid.{client_is_short, get_of_map}
 use Rattle.hs_check_clauses.proofs.Rounded.{rounds_fit}
 use Rattle.hs_check_clauses.proofs.rounds.count_rounds.Goals as goal

@@ -1,6 +1,6 @@
 use Rattle.std.proofs.Common.{◌≡◌, ℕ, ◌≤◌, ◌<◌, false, List, length, map, get_or, drop, subst, sym, ap, ◌∙◌, arith, refl}
 use Rattle.hs_check_clauses.proofs.Prelude.{eq-eqb, ne_eqb, Listing, Draw, pages_of, AreBracketed, MAX_OPERATIONS, Op, client_pieces, operation_of, operations_of, workload_of}
-use Rattle.hs_workload.specs.declared.word.Setting.TheVariants as settings
+use Rattle.hs_records.specs.declared.setting.Setting.TheVariants as settings
 use Rattle.hs_check_clauses.proofs.Counts.{have_drawn, other_count, counts_more, counts_fail, counts_done}
 use Rattle.hs_check_clauses.proofs.Valid.{client_is, client_is_few, get_of_map}
 use Rattle.hs_check_clauses.proofs.shape.have_draws.Goals as goal

@@ -1,6 +1,6 @@
 use Rattle.std.proofs.Common.{ap, map, length, ◌∙◌, arith}
 use Rattle.hs_check_follow.proofs.Prelude.{length-map, row_is, place_of, operation_of}
-use Rattle.hs_workload.specs.Views.{operations_of}
+use Rattle.hs_records.specs.Views.{operations_of}
 use Rattle.hs_check_follow.proofs.clients.operations_of.Goals as goal
 
 pub bounds-as_slice-place : goal.bounds-as_slice-place

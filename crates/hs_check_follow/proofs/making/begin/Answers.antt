@@ -1,6 +1,6 @@
 use Rattle.std.proofs.Common.{◌≡◌, ◌+◌, ℕ, [], subst, arith}
 use Rattle.hs_check_follow.proofs.Prelude.{journal_of, node_start, workload_of, AreFirst, NodeAt, FollowedNode}
-use Rattle.hs_workload.specs.declared.word.Setting.TheVariants as settings
+use Rattle.hs_records.specs.declared.setting.Setting.TheVariants as settings
 use Rattle.hs_check_follow.proofs.Beginning.{first_none, first_more, first_all, all_begin}
 use Rattle.hs_check_follow.proofs.making.begin.Goals as goal
 

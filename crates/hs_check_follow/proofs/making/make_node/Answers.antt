@@ -1,6 +1,6 @@
 use Rattle.std.proofs.Common.{◌≡◌, ◌+◌, ℕ, [], refl, subst, arith}
 use Rattle.hs_check_follow.proofs.Prelude.{journal_of, workload_of, FollowedClient, AreFirst, ClientStands}
-use Rattle.hs_workload.specs.declared.word.Setting.TheVariants as settings
+use Rattle.hs_records.specs.declared.setting.Setting.TheVariants as settings
 use Rattle.hs_check_follow.proofs.Beginning.{first_none, first_more, first_all, node_begins}
 use Rattle.hs_check_follow.proofs.making.make_node.Goals as goal
 

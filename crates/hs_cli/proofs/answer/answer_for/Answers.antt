@@ -1,4 +1,4 @@
-use Rattle.hs_workload.specs.Views.{workload_of}
+use Rattle.hs_records.specs.Views.{workload_of}
 use Rattle.hs_cli.proofs.Answering.{done_answers}
 use Rattle.hs_cli.proofs.answer.answer_for.Goals as goal
 

@@ -1,4 +1,4 @@
-use Rattle.hs_workload.specs.Views.{workload_of}
+use Rattle.hs_records.specs.Views.{workload_of}
 use Rattle.hs_cli.proofs.answer.converted.Goals as goal
 
 pub write_workload-requires : goal.write_workload-requires

@@ -1,5 +1,5 @@
 use Rattle.std.proofs.lemmas.Result.{IfOk-weaker}
-use Rattle.hs_workload.specs.Views.{workload_of}
+use Rattle.hs_records.specs.Views.{workload_of}
 use Rattle.hs_cli.proofs.answer.ran.Goals as goal
 
 pub outcome_parts-requires : goal.outcome_parts-requires

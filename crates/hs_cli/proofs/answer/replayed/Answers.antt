@@ -1,7 +1,7 @@
 use Rattle.std.proofs.Common.{refl}
 use Rattle.std.proofs.lemmas.Result.{IfOk-weaker}
 use Rattle.hs_law_lockstep.specs.Lockstep.{lockstep}
-use Rattle.hs_workload.specs.Views.{workload_of}
+use Rattle.hs_records.specs.Views.{workload_of}
 use Rattle.hs_cli.proofs.answer.replayed.Goals as goal
 
 pub outcome_parts-requires : goal.outcome_parts-requires

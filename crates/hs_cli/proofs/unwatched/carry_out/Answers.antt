@@ -1,5 +1,5 @@
 use Rattle.std.proofs.Common.{List, ◌++◌, ℕ, inl, refl, sym, subst, ap₂}
-use Rattle.hs_workload.specs.Views.{workload_of}
+use Rattle.hs_records.specs.Views.{workload_of}
 use Rattle.hs_cli.specs.Answers.{IsAnswer}
 use Rattle.hs_cli.specs.Endings.{IsAbout, RefusesWorkload}
 use Rattle.hs_streams.specs.Refusals.{too_long_text}

@@ -3,7 +3,7 @@ use Rattle.std.proofs.lemmas.Result.{IfOk-weaker}
 use Rattle.hs_law_outcome.specs.OutcomeText.{outcome_text}
 use Rattle.hs_law_outcome.specs.declared.form.Form.TheVariants.{Text as Lines}
 use Rattle.hs_board.specs.WatchText.{watch_text}
-use Rattle.hs_workload.specs.Views.{workload_of}
+use Rattle.hs_records.specs.Views.{workload_of}
 use Rattle.hs_cli.proofs.watching.answer_watched.Goals as goal
 
 pub write_outcome-requires : goal.write_outcome-requires

@@ -1,5 +1,5 @@
 use Rattle.std.proofs.Common.{List, [], ℕ, inl, refl, sym, subst}
-use Rattle.hs_workload.specs.Views.{workload_of}
+use Rattle.hs_records.specs.Views.{workload_of}
 use Rattle.hs_cli.specs.Endings.{Due, RefusesWorkload}
 use Rattle.hs_streams.specs.Refusals.{too_long_text}
 use Rattle.hs_cli.specs.declared.command.Command.TheVariants.{Watch}

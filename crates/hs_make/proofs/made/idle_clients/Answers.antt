@@ -1,6 +1,6 @@
 use Rattle.std.proofs.Common.{◌+◌, ◌∷◌, ◌++◌, [], ap, ◌∙◌, sym, map}
 use Rattle.std.proofs.lemmas.List.{map-append}
-use Rattle.hs_workload.specs.Views.{operation_of, operations_of}
+use Rattle.hs_records.specs.Views.{operation_of, operations_of}
 use Rattle.hs_make.specs.Words.{each_below}
 use Rattle.hs_make.proofs.Sequences.{each_below-more}
 use Rattle.hs_make.proofs.made.idle_clients.Goals as goal

@@ -1,5 +1,5 @@
 use Rattle.std.proofs.Common.{◌≡◌, [], map, vec_len}
-use Rattle.hs_workload.specs.Views.{operations_of}
+use Rattle.hs_records.specs.Views.{operations_of}
 use Rattle.hs_make.specs.Words.{each_below}
 use Rattle.hs_make.proofs.made.idle_clients.Given as goal
 

@@ -1,7 +1,7 @@
 use Rattle.std.proofs.Common.{◌≡◌, ap, ◌∙◌, sym, arith, map, subst}
 use Rattle.hs_records.specs.Plain.{settings_of}
-use Rattle.hs_workload.specs.Views.{operations_of}
-use Rattle.hs_workload.specs.Validity.{IsValid}
+use Rattle.hs_records.specs.Views.{operations_of}
+use Rattle.hs_records.specs.Validity.{IsValid}
 use Rattle.hs_make.specs.Words.{Words, words_from, seeded_words, behind_parts}
 use Rattle.hs_make.specs.Made.{clients_at}
 use Rattle.hs_make.proofs.Clients.{clients_at-none, request_more, request_drawn}

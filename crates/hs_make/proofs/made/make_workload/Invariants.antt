@@ -1,5 +1,5 @@
 use Rattle.std.proofs.Common.{◌≡◌, map, vec_len}
-use Rattle.hs_workload.specs.Views.{operations_of}
+use Rattle.hs_records.specs.Views.{operations_of}
 use Rattle.hs_make.specs.Words.{words_from, seeded_words}
 use Rattle.hs_make.specs.Made.{clients_at, behind_requests}
 use Rattle.hs_make.proofs.made.make_workload.Given as goal

@@ -1,5 +1,5 @@
 use Rattle.std.proofs.Common.{◌≡◌, ◌+◌, ◌*◌, ◌%◌, ap, ◌∙◌, arith, map, refl}
-use Rattle.hs_workload.specs.Views.{operations_of}
+use Rattle.hs_records.specs.Views.{operations_of}
 use Rattle.hs_make.specs.Words.{Words, words_from, from, behind_parts}
 use Rattle.hs_make.specs.Made.{depth_at}
 use Rattle.hs_make.proofs.Clients.{adds_nothing, adds_visit}

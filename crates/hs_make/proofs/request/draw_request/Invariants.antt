@@ -1,5 +1,5 @@
 use Rattle.std.proofs.Common.{◌≡◌, map, vec_len}
-use Rattle.hs_workload.specs.Views.{operations_of}
+use Rattle.hs_records.specs.Views.{operations_of}
 use Rattle.hs_make.specs.Words.{words_from}
 use Rattle.hs_make.specs.Made.{request_until, Adds, behind_visits}
 use Rattle.hs_make.proofs.request.draw_request.Given as goal

@@ -1,6 +1,6 @@
 use Rattle.std.proofs.Common.{◌+◌, ◌++◌, ap, ◌∙◌, sym, arith, append-nil}
-use Rattle.hs_workload.specs.declared.operation.Op.TheVariants.{Point}
-use Rattle.hs_workload.specs.Views.{operations_of}
+use Rattle.hs_records.specs.declared.operation.Op.TheVariants.{Point}
+use Rattle.hs_records.specs.Views.{operations_of}
 use Rattle.hs_make.specs.Words.{words_from, each_below, behind_parts}
 use Rattle.hs_make.specs.Made.{first_points}
 use Rattle.hs_make.proofs.Drawn.{operation_more, point_more, payload_more}

@@ -1,5 +1,5 @@
 use Rattle.std.proofs.Common.{◌≡◌, ◌++◌, ◌≤◌}
-use Rattle.hs_workload.specs.Views.{operations_of}
+use Rattle.hs_records.specs.Views.{operations_of}
 use Rattle.hs_make.specs.Words.{words_from}
 use Rattle.hs_make.specs.Made.{first_points, behind_points}
 use Rattle.hs_make.proofs.visit.draw_points.Given as goal

@@ -1,6 +1,6 @@
 use Rattle.std.proofs.Common.{◌+◌, ◌-◌, ◌*◌, arith}
 use Rattle.hs_replay.proofs.Prelude.{workload_of}
-use Rattle.hs_workload.proofs.Sizes.{few_nodes}
+use Rattle.hs_records.proofs.Sizes.{few_nodes}
 use Rattle.hs_replay.proofs.Others.{first_few, clients_are}
 use Rattle.hs_replay.proofs.start.make_at.Goals as goal
 

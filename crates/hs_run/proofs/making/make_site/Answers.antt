@@ -1,5 +1,5 @@
 use Rattle.std.proofs.Common.{refl, arith}
-use Rattle.hs_workload.specs.declared.word.Setting.TheVariants as words
+use Rattle.hs_records.specs.declared.setting.Setting.TheVariants as words
 use Rattle.hs_run.proofs.Prelude.{workload_of}
 use Rattle.hs_run.proofs.Begun.{begins_at, site_begins}
 use Rattle.hs_run.proofs.making.make_site.Goals as goal

@@ -1,6 +1,6 @@
 use Rattle.std.proofs.Common.{◌≡◌, ◌+◌, [], ◌∷◌, ◌++◌, List, length, map, sym, ap, ◌∙◌, subst, arith, length-append}
 use Rattle.hs_run_client.proofs.Prelude.{YieldsList-from_vec, YieldsList-turn, YieldsList-end, length-map, map-append, client_of, incoming, IsPlayable, Operation, place_of, ops_of, operation_of, workload_of, new_drawers_length, PlainClientActor, IsConnected, AreBegun, Receiving, lefts_of, IsDrawerFor}
-use Rattle.hs_workload.proofs.Sizes.{last_low}
+use Rattle.hs_records.proofs.Sizes.{last_low}
 use Rattle.hs_run_client.proofs.Clients.{next_is, can_draw, are_few, count_of}
 use Rattle.hs_run_client.proofs.Connecting.{begun_more}
 use Rattle.hs_run_client.proofs.node.connect_all.Goals as goal

@@ -1,6 +1,6 @@
 use Rattle.std.proofs.Common.{refl}
 use Rattle.hs_law_lockstep.specs.Lockstep.{lockstep}
-use Rattle.hs_workload.specs.Views.{workload_of}
+use Rattle.hs_records.specs.Views.{workload_of}
 use Rattle.replay.proofs.replaying.answer_for.Goals as goal
 
 pub returns-in_ok-outcome_of-in-Ok : goal.returns-in_ok-outcome_of-in-Ok

@@ -1,6 +1,6 @@
 use Rattle.std.proofs.lemmas.Result.{IfOk-weaker}
 use Rattle.hs_law_lockstep.specs.Lockstep.{lockstep}
-use Rattle.hs_workload.specs.Views.{workload_of}
+use Rattle.hs_records.specs.Views.{workload_of}
 use Rattle.replay.proofs.replaying.outcome_of.Goals as goal
 
 pub write_lines-requires : goal.write_lines-requires

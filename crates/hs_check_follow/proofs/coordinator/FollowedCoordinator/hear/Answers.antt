@@ -1,6 +1,6 @@
 use Rattle.std.proofs.Common.{◌≡◌, ℕ, List, ◌+◌, length, get_or, Some, refl, sym, ap, ◌∙◌, arith}
 use Rattle.hs_check_follow.proofs.Prelude.{slice_get-get_or, same_Some, slice_get, NodeId, Told, ChangesAt, FollowedNode}
-use Rattle.hs_workload.specs.declared.word.Setting.TheVariants as settings
+use Rattle.hs_records.specs.declared.setting.Setting.TheVariants as settings
 use Rattle.hs_check_follow.proofs.Heard.{nothing_left, no_node, not_told, below, heard_one}
 use Rattle.hs_check_follow.proofs.Lists.{indexed}
 use Rattle.hs_check_follow.proofs.coordinator.FollowedCoordinator.hear.Goals as goal

@@ -1,7 +1,7 @@
 use Rattle.std.proofs.Common.{◌≡◌, ◌∙◌, ap, sym, arith, length, subst}
 use Rattle.hs_replay.proofs.Prelude.{clear_chunks, Follows, new_run, PlainSettings, settings_of, PlainReplayNode}
 use Rattle.hs_base.specs.Rules.{AreRules}
-use Rattle.hs_workload.specs.declared.word.Setting.TheVariants as settings
+use Rattle.hs_records.specs.declared.setting.Setting.TheVariants as settings
 use Rattle.hs_words.proofs.Chunks.{length_clear}
 use Rattle.hs_replay.proofs.Begun.{new_node, new_pool}
 use Rattle.hs_replay.proofs.node.ReplayNode.make.Goals as goal

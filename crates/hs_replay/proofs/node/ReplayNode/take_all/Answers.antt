@@ -1,6 +1,6 @@
 use Rattle.std.proofs.Common.{◌≡◌, arith, length, ap, subst}
 use Rattle.hs_replay.proofs.Prelude.{PlainReplayNode, WentBy, takes_first}
-use Rattle.hs_workload.specs.declared.word.Setting.TheVariants as settings
+use Rattle.hs_records.specs.declared.setting.Setting.TheVariants as settings
 use Rattle.hs_replay.proofs.Looping.{one_client_more}
 use Rattle.hs_replay.proofs.node.ReplayNode.take_all.Goals as goal
 

@@ -1,5 +1,5 @@
 use Rattle.std.proofs.Common.{ap, arith}
-use Rattle.hs_workload.specs.declared.word.Setting.TheVariants as settings
+use Rattle.hs_records.specs.declared.setting.Setting.TheVariants as settings
 use Rattle.hs_run_agent.proofs.agent.AgentActor.make.Goals as goal
 
 pub make-requires-clause-size : goal.make-requires-clause-size

@@ -1,6 +1,6 @@
 use Rattle.std.proofs.Common.{◌≡◌, ◌+◌, ◌≤◌, List, map, length, min, refl, sym, ap, ◌∙◌, subst, arith}
 use Rattle.hs_run_client.proofs.Prelude.{length-map, AutoRule, settings_of, done_behind, operation_of, PlainClientActor, MayDo, ClientActorIsAt, Goes}
-use Rattle.hs_workload.proofs.Sizes.{operations_few}
+use Rattle.hs_records.proofs.Sizes.{operations_few}
 use Rattle.hs_run_client.proofs.Operations.{stands}
 use Rattle.hs_run_client.proofs.Going.{may_do}
 use Rattle.hs_run_client.proofs.Coming.{HasCome, come_none, come_more, went}

@@ -3,9 +3,9 @@ use Rattle.std.specs.Prelude.{List, map}
 use Rattle.hs_base.specs.Listing.{Listing}
 use Rattle.hs_records.specs.Plain.{Operation, PlainWorkload, settings_of}
 use Rattle.hs_records.specs.Plain as plain
-use Rattle.hs_workload.specs.declared.operation.Op.{Op}
-use Rattle.hs_workload.specs.declared.operation.Op.TheVariants as ops
-use Rattle.hs_workload.specs.declared.operation.Workload.{Workload}
+use Rattle.hs_records.specs.declared.operation.Op.{Op}
+use Rattle.hs_records.specs.declared.operation.Op.TheVariants as ops
+use Rattle.hs_records.specs.declared.operation.Workload.{Workload}
 
 abbrev pub operation_of : Op → Operation
 operation_of (ops.Begin trace) = plain.Begin trace

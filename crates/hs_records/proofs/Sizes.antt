@@ -1,12 +1,17 @@
 -- How large a valid workload is: its nodes and clients, where the clients of a node lie, and the pieces of operations.
-use Rattle.std.proofs.Common.{ℕ, ◌*◌, ◌≤◌, ◌≡◌, suc, ◌+◌, ◌<◌, length, ap, ◌∙◌, arith, false, List, [], ◌∷◌, take, drop, map, sym, Some, slice_get, unwrap_or}
-use Rattle.hs_workload.proofs.Prelude.{mul-le-mul, AllByRecursion, MAX_NODES, MAX_CLIENTS, PlainWorkload, Operation, PlainSettings, Begin, Point, End, Fire, Sample, AreBracketed, IsValid, IsClient, client_pieces, operation_pieces, operations_of}
-use Rattle.std.proofs.Math.Nat.{suc-mul, mul-le-mul_right}
+use Rattle.std.proofs.Common.{ℕ, ◌*◌, ◌≤◌, ◌≡◌, suc, ◌+◌, ◌<◌, length, ap, ◌∙◌, arith, false, List, [], ◌∷◌, take, drop, map, sym, Some, slice_get, unwrap_or, ◌++◌}
+use Rattle.std.proofs.Math.Nat.{mul-le-mul, suc-mul, mul-le-mul_right}
+use Rattle.std.specs.List.{AllByRecursion}
+use Rattle.hs_base.specs.declared.limits.TheConstants.{MAX_NODES, MAX_CLIENTS}
+use Rattle.hs_records.specs.Plain.{PlainWorkload, Operation, PlainSettings, Begin, Point, End, Fire, Sample}
+use Rattle.hs_records.specs.Records.{AreBracketed}
+use Rattle.hs_records.specs.Validity.{IsValid, IsClient, client_pieces, operation_pieces}
+use Rattle.hs_records.specs.Views.{operations_of}
 use Rattle.hs_lists.proofs.Alls.{all_each}
 use Rattle.hs_lists.proofs.Places.{sliced, unwrap_map}
 use Rattle.hs_base.specs.Listing.{Listing}
-use Rattle.hs_workload.specs.declared.word.Setting.TheVariants as settings
-use Rattle.hs_workload.specs.declared.operation.Op.{Op}
+use Rattle.hs_records.specs.declared.setting.Setting.TheVariants as settings
+use Rattle.hs_records.specs.declared.operation.Op.{Op}
 use Rattle.hs_records.specs.Plain as plain
 
 pub product_few : (a b : ℕ) → a ≤ MAX_NODES → b ≤ MAX_CLIENTS → a * b ≤ MAX_NODES * MAX_CLIENTS
@@ -41,3 +46,7 @@ operations_few size (op ∷ ops) = omega (arith, one_at_least size op, operation
 
 pub operations_sliced : (clients : List (Listing Op)) (from count client : ℕ) (ops : Listing Op) → slice_get (take count (drop from clients)) client ≡ Some ops → operations_of ops ≡ unwrap_or (slice_get (map operations_of clients) (from + client)) []
 operations_sliced clients from count client ops h = sym (unwrap_map operations_of clients (from + client) ops [] (sliced clients from count client ops h).1)
+
+pub client_more : (size : ℕ) (ops : List Operation) (op : Operation) → client_pieces size (ops ++ op ∷ []) ≡ client_pieces size ops + operation_pieces size op
+client_more size [] op = omega arith
+client_more size (o ∷ ops) op = omega (arith, client_more size ops op)

@@ -1,4 +1,5 @@
--- Which workloads have a text, and when a text reads as a workload: it is that workload's text.
+-- Which workloads are valid: all numbers are within their limits, what operations name is declared, and each client has its
+-- operations in brackets. The operations are not too many, where a point counts as often as it has pieces.
 use Rattle.std.specs.Prelude.{◌≡◌, ℕ, ◌+◌, ◌*◌, ◌^◌, ◌<◌, ◌≤◌, true, false, List, [], ◌∷◌, length, ⊤}
 use Rattle.std.specs.List.{All, AllByRecursion}
 use Rattle.hs_base.specs.declared.ids.TraceId.{TraceId}
@@ -7,11 +8,9 @@ use Rattle.hs_base.specs.declared.limits.TheConstants.{MAX_LATERALS, MAX_PAYLOAD
 use Rattle.hs_base.specs.Ranges.{Within}
 use Rattle.hs_base.specs.Ids.{trace_digits}
 use Rattle.hs_records.specs.Plain.{Operation, Begin, Point, Crumb, End, Fire, Sample, PlainSettings, PlainWorkload}
-use Rattle.hs_records.specs.Records.{AreBracketed}
-use Rattle.hs_workload.specs.declared.word.Setting.{Setting}
-use Rattle.hs_workload.specs.Settings.{least, most, setting_of}
-use Rattle.hs_workload.specs.Grammar.{workload_text}
-use Rattle.hs_workload.specs.LookBack.{operation_pieces}
+use Rattle.hs_records.specs.Records.{AreBracketed, piece_count}
+use Rattle.hs_records.specs.declared.setting.Setting.{Setting}
+use Rattle.hs_records.specs.Settings.{least, most, setting_of}
 
 -- a trace that has digits in a text of this version
 abbrev pub HasDigits : ℕ → TraceId → Type 0
@@ -32,6 +31,11 @@ pub record IsClient (version : ℕ) (settings : PlainSettings) (operations : Lis
   pub words : AllByRecursion (IsOperation version settings) operations
   pub bracketed : AreBracketed false operations
 
+-- how often an operation counts: a point once for each of its pieces
+abbrev pub operation_pieces : ℕ → Operation → ℕ
+operation_pieces size (Point moment payload) = piece_count size (length payload)
+operation_pieces size _ = 1
+
 -- how many operations there are, where a point counts as often as it has pieces
 abbrev pub client_pieces : ℕ → List Operation → ℕ
 client_pieces size [] = 0
@@ -48,8 +52,3 @@ pub record IsValid (W : PlainWorkload) : Type 0 where
   pub count : length W.clients ≡ W.settings.nodes * W.settings.clients
   pub each : AllByRecursion (IsClient W.version W.settings) W.clients
   pub few : workload_pieces W.settings.size W.clients ≤ MAX_OPERATIONS
-
--- the text reads as the workload
-pub record Reads (text : List ℕ) (W : PlainWorkload) : Type 0 where
-  pub valid : IsValid W
-  pub spelled : text ≡ workload_text W
