@@ -24,9 +24,6 @@ pub use Rattle.hs_base.specs.declared.told.Group.{Group}
 pub use Rattle.hs_base.specs.declared.told.Told.{Told}
 pub use Rattle.hs_base.specs.declared.told.Trigger.{Trigger}
 pub use Rattle.hs_index.specs.Index.{chunk_count, chunks_left, count_chunks, evicted, going, Index, Indexed, is_of, kept, Leaving, leaving_of, Noted, noted_of, nothing, others, settled, touch, with_chunk}
-pub use Rattle.hs_journal.specs.Books.{agent_book_of, PlainAgentBook}
-pub use Rattle.hs_journal.specs.declared.books.Standing.{Standing}
-pub use Rattle.hs_journal.specs.declared.journal.Step.{Step}
 pub use Rattle.hs_law_agent.proofs.Traces.{same_trace-refl, same_trace-true}
 pub use Rattle.hs_law_agent.specs.Abandoning.{abandon}
 pub use Rattle.hs_law_agent.specs.Books.{book_of, bytes_at, claim_note, fate_of, page_standing}
@@ -50,7 +47,10 @@ pub use Rattle.hs_pins.specs.PinsLayout.{Pinning, Remembers, waiting}
 pub use Rattle.hs_pins.specs.Priorities.{is_no_greater}
 pub use Rattle.hs_pins.specs.Remembered.{arrived, Claim, claim_of, claimed, comes_back, crumbed, is_claim_of, is_for, is_under, Pin, pin_for, pin_of, pins_for, pins_under, Remembered, with_pin, without_group}
 pub use Rattle.hs_pins.specs.Waiting.{goes_behind, used_bytes}
+pub use Rattle.hs_records.specs.Books.{agent_book_of, PlainAgentBook}
 pub use Rattle.hs_records.specs.Plain.{PlainSettings}
+pub use Rattle.hs_records.specs.declared.books.Standing.{Standing}
+pub use Rattle.hs_records.specs.declared.journal.Step.{Step}
 pub use Rattle.hs_sched.specs.Sending.{SendsEach}
 pub use Rattle.hs_sched.specs.Turns.{after_turn, IsSchedule, Schedule}
 pub use Rattle.hs_sched.specs.Visits.{visited}

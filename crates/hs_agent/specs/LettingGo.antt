@@ -5,7 +5,7 @@ use Rattle.hs_base.specs.Ranks.{trace_rank}
 use Rattle.hs_base.specs.declared.told.Fate.{Fate}
 use Rattle.hs_base.specs.declared.told.Fate.TheVariants as fates
 use Rattle.hs_base.specs.declared.told.Group.{Group}
-use Rattle.hs_journal.specs.declared.books.Standing.{Standing}
+use Rattle.hs_records.specs.declared.books.Standing.{Standing}
 use Rattle.hs_words.specs.Pages.{page_bytes}
 use Rattle.hs_index.specs.Index.{Leaving}
 use Rattle.hs_pins.specs.Remembered.{Pin}

@@ -4,7 +4,7 @@ ghost use Rattle.std.specs.Prelude.{◌≡◌, ◌≤◌, [], length, map, false
 ghost use Rattle.hs_base.specs.Rules.{AreRules};
 ghost use Rattle.hs_records.specs.Plain.{settings_of};
 ghost use Rattle.hs_words.specs.Buffers.{buffer_of, buffer_in};
-ghost use Rattle.hs_journal.specs.Books.{agent_book_of};
+ghost use Rattle.hs_records.specs.Books.{agent_book_of};
 ghost use Rattle.hs_sched.specs.Turns.{IsSize};
 ghost use Rattle.hs_law_agent.specs.Books.{book_of};
 ghost use Rattle.hs_law_agent.specs.Laws.{PlacesMatch};
@@ -18,8 +18,8 @@ use crate::holdings::Holdings;
 use crate::input::{Finished, Input};
 use hs_base::limits::MOST_NODES;
 use hs_base::{List, Memory, NodeId, Settings, Told, Why};
-use hs_journal::Step;
 use hs_law_agent::laws::{events_go_on, lists_have_their_chunks, standings_partition};
+use hs_records::Step;
 use hs_sched::Scheduler;
 use hs_words::{Given, Held, Token};
 use std::alloc::Global;

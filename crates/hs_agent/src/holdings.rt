@@ -17,7 +17,7 @@ ghost use Rattle.hs_law_agent.specs.Messages.{told_of, crumb_nodes};
 ghost use Rattle.hs_law_agent.specs.Claiming.{traces_of, claim_unclaimed};
 ghost use Rattle.hs_law_agent.specs.Stepping as model;
 ghost use Rattle.hs_agent.specs.declared.placed.ArrivalPlace.{ArrivalPlace};
-ghost use Rattle.hs_journal.specs.Books.{agent_book_of};
+ghost use Rattle.hs_records.specs.Books.{agent_book_of};
 ghost use Rattle.hs_law_agent.specs.Books.{book_of};
 ghost use Rattle.hs_law_agent.specs.Laws.{IsInOnePlace};
 ghost use Rattle.hs_agent.specs.Placing.{place_of, placed_at, pledges_in, IsPledged, HandsOut, HaveOwnPlaces, lent};
@@ -35,8 +35,8 @@ use hs_base::{
     TraceId, Trigger, TriggerId, Why, rank_of,
 };
 use hs_index::{Gone, TraceIndex};
-use hs_journal::{AgentBook, Claim, Standing, Step};
 use hs_pins::{Admitted, Dropped, Pins, Taken2};
+use hs_records::{AgentBook, Claim, Standing, Step};
 use hs_sched::Queues;
 use hs_words::{Chunk, Header, Held, Token};
 use std::alloc::Global;

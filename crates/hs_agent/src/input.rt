@@ -1,7 +1,7 @@
 //! What an agent takes, and what it leaves.
 
 use hs_base::{Ask, Crumb, List, Trigger};
-use hs_journal::AgentBook;
+use hs_records::AgentBook;
 use hs_words::{Held, Token};
 
 /// What an agent takes, or that it is to make a fair turn. A client is named by its number at the node.

@@ -5,7 +5,7 @@ use Rattle.hs_check.proofs.Prelude.{slice_get, option_map, count_by, ◌||◌, f
 use Rattle.std.specs.Prelude.{filter_map}
 use Rattle.std.proofs.lemmas.List.Sums.{sum_by-append}
 use Rattle.hs_lists.proofs.Places.{get_front_same}
-use Rattle.hs_journal.specs.declared.journal.Step.TheVariants as steps
+use Rattle.hs_records.specs.declared.journal.Step.TheVariants as steps
 use Rattle.hs_law_agent.specs.Laws.{count_of, given_places, sheets_of, brought_by, noted_as}
 use Rattle.hs_law_agent.specs.Standings.{is_let_go, stands}
 use Rattle.hs_law_agent.specs.State.{start}

@@ -4,7 +4,7 @@ use Rattle.hs_check.proofs.Prelude.{map-append, drop_all, found_at, found_as_man
 use Rattle.hs_agent.specs.Keeping.{PlainAgent}
 use Rattle.hs_agent.specs.Runs as agents
 use Rattle.hs_check_follow.specs.Nodes.{agent_run}
-use Rattle.hs_journal.specs.Books.{PlainAgentBook}
+use Rattle.hs_records.specs.Books.{PlainAgentBook}
 use Rattle.hs_law_agent.specs.Books.{book_of}
 
 -- the books so far, and those of the runs that are left, are those of all

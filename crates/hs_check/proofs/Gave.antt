@@ -3,7 +3,7 @@ use Rattle.std.proofs.Common.{◌≡◌, ℕ, ◌+◌, ◌-◌, ◌/◌, ◌<◌
 use Rattle.hs_check.proofs.Prelude.{count_by, zip, ◌&&◌, ◌||◌, flat_map, range_with_len, list_all, min-le_right, take-append_seam, cases_lt, and_parts, drop_all, length-append, take-append-drop, take_min, filter_map-append, list_all-append, count_cons, Draw, Step, PlainJournal, NodeRun, log_at, gives_in_pace, ends_between, put_step, passes_of, played, node_pages, step_stamp, log_stamps, rise, has_stamps, node_has_stamps, node_stamps, node_draws, draw_stamps, are_numbered, PlainWorkload, DrawnPage, stamp_of, ClientSends, FoundClient, AreFound, IsFoundClient, starts_of, each_holds, all_beside, clients_beside, behind_each, is_of}
 use Rattle.std.proofs.Math.Seq.{drop-append_seam}
 use Rattle.std.proofs.lemmas.Grind.{flat_map-append}
-use Rattle.hs_journal.specs.declared.journal.Step.TheVariants as steps
+use Rattle.hs_records.specs.declared.journal.Step.TheVariants as steps
 use Rattle.hs_law_journal.specs.Pace.{is_beside}
 use Rattle.hs_check.specs.Besides.{stamps_behind, stands_beside, draws_by}
 use Rattle.hs_check.specs.declared.kinds.Kind.TheVariants as kinds

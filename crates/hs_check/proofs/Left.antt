@@ -13,7 +13,7 @@ use Rattle.hs_check_follow.specs.declared.coordinator.FollowedCoordinator.{Follo
 use Rattle.hs_check_follow.specs.declared.parting.FollowedParts.{FollowedParts}
 use Rattle.hs_check_follow.specs.declared.node.FollowedNode.{FollowedNode}
 use Rattle.hs_check_follow.specs.declared.client.FollowedClient.{FollowedClient}
-use Rattle.hs_journal.specs.Books.{client_book_of}
+use Rattle.hs_records.specs.Books.{client_book_of}
 use Rattle.hs_law_journal.specs.Ends.{is_left_bare}
 use Rattle.hs_law_journal.specs.Lawful.{IsLawful}
 use Rattle.hs_law_outcome.specs.Outcomes.{client_book}

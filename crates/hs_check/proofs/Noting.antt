@@ -5,7 +5,7 @@ use Rattle.std.specs.Prelude.{max}
 use Rattle.std.specs.List.{cons_option}
 use Rattle.std.proofs.Math.Bool.{or-false}
 use Rattle.hs_lists.proofs.Counts.{count_push}
-use Rattle.hs_journal.specs.declared.journal.Step.TheVariants as steps
+use Rattle.hs_records.specs.declared.journal.Step.TheVariants as steps
 use Rattle.hs_check.specs.Showing.{HasRoom}
 
 -- ---- a step behind others

@@ -25,11 +25,6 @@ pub use Rattle.hs_check_clauses.specs.declared.found.FoundClient.{FoundClient}
 pub use Rattle.hs_check_clauses.specs.declared.found.FoundNode.{FoundNode}
 pub use Rattle.hs_check_clauses.specs.declared.found.FoundPage.{FoundPage}
 pub use Rattle.hs_coord.specs.Following.{Message, Messages}
-pub use Rattle.hs_journal.specs.Books.{agent_book_of}
-pub use Rattle.hs_journal.specs.Views.{journal_of, PlainJournal}
-pub use Rattle.hs_journal.specs.declared.books.AgentBook.{AgentBook}
-pub use Rattle.hs_journal.specs.declared.journal.Draw.{Draw}
-pub use Rattle.hs_journal.specs.declared.journal.Step.{Step}
 pub use Rattle.hs_law_agent.specs.Laws.{EventsAddThis, EventsGoOn, ListsHaveTheirChunks}
 pub use Rattle.hs_law_agent.specs.Standings.{Taken}
 pub use Rattle.hs_law_agent.specs.State.{AgentState, GivenPlace}
@@ -48,8 +43,13 @@ pub use Rattle.hs_law_sends.specs.Drawn.{DrawnPage, has_buffer, stamp_of}
 pub use Rattle.hs_law_sends.specs.Sending.{ClientSends, draws_at, place_of}
 pub use Rattle.hs_lists.proofs.Alls.{all_append, all_each}
 pub use Rattle.hs_lists.proofs.Counts.{count_cons, count_map, one_if}
+pub use Rattle.hs_records.specs.Books.{agent_book_of}
+pub use Rattle.hs_records.specs.Journals.{journal_of, PlainJournal}
 pub use Rattle.hs_records.specs.Plain.{PlainSettings, PlainWorkload, settings_of}
 pub use Rattle.hs_records.specs.Views.{workload_of}
+pub use Rattle.hs_records.specs.declared.books.AgentBook.{AgentBook}
+pub use Rattle.hs_records.specs.declared.journal.Draw.{Draw}
+pub use Rattle.hs_records.specs.declared.journal.Step.{Step}
 pub use Rattle.std.proofs.Math.Bool.{and-true}
 pub use Rattle.std.proofs.Math.Nat.{min-le_right}
 pub use Rattle.std.proofs.Math.Seq.{take-append_seam}

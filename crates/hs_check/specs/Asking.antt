@@ -3,7 +3,7 @@
 use Rattle.std.specs.Prelude.{◌≡◌, ℕ, true, not, List, [], ◌∷◌, ◌++◌, Option, option_map, find, refl}
 use Rattle.hs_check_clauses.specs.Finding.{IsFound}
 use Rattle.hs_check_clauses.specs.declared.found.Found.{Found}
-use Rattle.hs_journal.specs.Views.{PlainJournal}
+use Rattle.hs_records.specs.Journals.{PlainJournal}
 use Rattle.hs_law_journal.specs.Ends.{is_followed, has_rounds, is_bare}
 use Rattle.hs_law_journal.specs.Following.{followed}
 use Rattle.hs_law_journal.specs.Lawful.{Clause, clauses}

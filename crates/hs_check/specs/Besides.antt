@@ -2,8 +2,8 @@
 -- and those of passes behind it above. So it is enough to look at the last one before and at the first one behind.
 use Rattle.std.specs.Prelude.{◌≡◌, ℕ, ◌+◌, ◌-◌, ◌/◌, Bool, true, false, ◌&&◌, ◌||◌, ◌==◌, nat_lt, min, List, [], ◌∷◌, length, map, slice_index, refl}
 use Rattle.hs_check_clauses.specs.declared.found.FoundClient.{FoundClient}
-use Rattle.hs_journal.specs.declared.journal.Draw.{Draw}
-use Rattle.hs_journal.specs.declared.journal.Draw.TheVariants as draws
+use Rattle.hs_records.specs.declared.journal.Draw.{Draw}
+use Rattle.hs_records.specs.declared.journal.Draw.TheVariants as draws
 use Rattle.hs_law_sends.specs.Drawn.{DrawnPage, stamp_of}
 use Rattle.hs_law_sends.specs.Sending.{ClientSends}
 

@@ -1,8 +1,8 @@
 -- How many steps of a kind there are behind each pass of a log.
 use Rattle.std.specs.Prelude.{◌≡◌, ℕ, ◌+◌, Bool, List, [], ◌∷◌, take, count_by, is_some, if◌then◌else◌, refl}
 use Rattle.std.specs.List.{flat_map}
-use Rattle.hs_journal.specs.declared.journal.Step.{Step}
-use Rattle.hs_journal.specs.declared.journal.Step.TheVariants as steps
+use Rattle.hs_records.specs.declared.journal.Step.{Step}
+use Rattle.hs_records.specs.declared.journal.Step.TheVariants as steps
 use Rattle.hs_law_journal.specs.Following.{takes}
 use Rattle.hs_law_journal.specs.Following as queues
 use Rattle.hs_law_journal.specs.Shape.{step_stamp}

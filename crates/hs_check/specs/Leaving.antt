@@ -4,8 +4,8 @@ use Rattle.hs_agent.specs.Keeping.{PlainAgent}
 use Rattle.hs_check_clauses.specs.Finding.{AreFound}
 use Rattle.hs_check_follow.specs.Nodes.{FollowedAgentStands}
 use Rattle.hs_check_follow.specs.declared.parting.FollowedParts.{FollowedParts}
-use Rattle.hs_journal.specs.Books.{PlainAgentBook, client_book_of}
-use Rattle.hs_journal.specs.Views.{PlainJournal}
+use Rattle.hs_records.specs.Books.{PlainAgentBook, client_book_of}
+use Rattle.hs_records.specs.Journals.{PlainJournal}
 use Rattle.hs_law_journal.specs.Following.{NodeRun, followed}
 use Rattle.hs_law_journal.specs.Lawful.{IsLawful}
 use Rattle.hs_law_agent.specs.Books.{book_of}

@@ -2,7 +2,7 @@
 use Rattle.std.specs.Prelude.{◌≡◌, ℕ, ◌+◌, ◌-◌, ◌*◌, ◌/◌, Bool, ◌==◌, nat_le, nat_lt, min, List, [], ◌∷◌, length, take, sum, slice_index, count_by, refl, true, false}
 use Rattle.std.specs.List.{range_with_len, list_all}
 use Rattle.hs_base.specs.declared.limits.TheConstants.{MAX_TAKEN}
-use Rattle.hs_journal.specs.declared.journal.Step.{Step}
+use Rattle.hs_records.specs.declared.journal.Step.{Step}
 use Rattle.hs_check.specs.Counting.{count_in}
 
 -- how many of these operations are of a round, from 0, where a round has so many

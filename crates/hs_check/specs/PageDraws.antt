@@ -1,8 +1,8 @@
 -- The draws of a node's clients, each with what an unread offer asks of its page: its client and number, whether it has a buffer,
 -- when the client drew next, and which operation starts it.
 use Rattle.std.specs.Prelude.{◌≡◌, ℕ, ◌+◌, true, false, List, [], ◌∷◌, ◌++◌, Option, Some, None, refl}
-use Rattle.hs_journal.specs.declared.journal.Draw.{Draw}
-use Rattle.hs_journal.specs.declared.journal.Draw.TheVariants as draws
+use Rattle.hs_records.specs.declared.journal.Draw.{Draw}
+use Rattle.hs_records.specs.declared.journal.Draw.TheVariants as draws
 use Rattle.hs_law_sends.specs.Drawn.{has_buffer, stamp_of}
 use Rattle.hs_check_clauses.specs.declared.found.FoundClient.{FoundClient}
 use Rattle.hs_check.specs.declared.page_draws.PageDraw.{PageDraw}

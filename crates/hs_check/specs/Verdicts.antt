@@ -1,7 +1,7 @@
 -- What is said of a journal: that it is lawful for a workload, with what the two come to, or that it is not, with the first of the
 -- clauses that fails, in the order in which they are asked.
 use Rattle.std.specs.Prelude.{◌≡◌, Some}
-use Rattle.hs_journal.specs.Views.{PlainJournal}
+use Rattle.hs_records.specs.Journals.{PlainJournal}
 use Rattle.hs_law_journal.specs.Lawful.{IsLawful, first_unlawful}
 use Rattle.hs_records.specs.Plain.{PlainWorkload}
 use Rattle.hs_report.specs.Outcomes.{IsOutcome}

@@ -1,7 +1,7 @@
 //! The clauses, one after another.
 
 ghost use Rattle.std.specs.Prelude.{◌≡◌, option_map, IfOk};
-ghost use Rattle.hs_journal.specs.Views.{journal_of};
+ghost use Rattle.hs_records.specs.Journals.{journal_of};
 ghost use Rattle.hs_law_journal.specs.Played.{played};
 ghost use Rattle.hs_records.specs.Validity.{IsValid};
 ghost use Rattle.hs_records.specs.Views.{workload_of};
@@ -16,8 +16,7 @@ use hs_check_clauses::{
     Found, has_answers, has_history, has_offers, has_passes, has_rounds, has_shape, has_stamps,
     is_bare,
 };
-use hs_journal::Journal;
-use hs_records::Workload;
+use hs_records::{Journal, Workload};
 use std::alloc::Global;
 
 /// The first of the clauses on the journal alone that fails: the first, the second and the fifth.

@@ -3,7 +3,7 @@
 ghost use Rattle.std.specs.Prelude.{◌≡◌, ℕ, ◌+◌, ◌-◌, ◌<◌, ◌≤◌, ◌∷◌, true, length, min, max, slice_index, nat_le, IfOk};
 ghost use Rattle.std.specs.List.{list_all};
 ghost use Rattle.hs_base.specs.declared.limits.TheConstants.{MAX_NODES, MAX_TAKEN};
-ghost use Rattle.hs_journal.specs.Views.{journal_of};
+ghost use Rattle.hs_records.specs.Journals.{journal_of};
 ghost use Rattle.hs_law_journal.specs.Ends.{is_followed};
 ghost use Rattle.hs_law_journal.specs.Following.{followed};
 ghost use Rattle.hs_law_journal.specs.Pace.{asks_in_pace, due_of};
@@ -20,9 +20,8 @@ use crate::kinds::Kind;
 use hs_base::limits::MAX_TAKEN;
 use hs_base::{Memory, NodeId, NodeSet};
 use hs_check_clauses::{Found, FoundNode, log_of};
-use hs_journal::{Journal, Step};
 use hs_law_journal::laws::{following_plays_out, runs_are_of_the_journal};
-use hs_records::Workload;
+use hs_records::{Journal, Step, Workload};
 use std::alloc::Global;
 
 /// Whether the agents of all nodes take enough asks. The one error is want of memory.

@@ -1,8 +1,8 @@
 //! What a lawful journal comes to, from what following it left.
 
 ghost use Rattle.std.specs.Prelude.{map, IfOk};
-ghost use Rattle.hs_journal.specs.Books.{agent_book_of};
-ghost use Rattle.hs_journal.specs.Views.{journal_of};
+ghost use Rattle.hs_records.specs.Books.{agent_book_of};
+ghost use Rattle.hs_records.specs.Journals.{journal_of};
 ghost use Rattle.hs_report.specs.Outcomes.{IsOutcome};
 ghost use Rattle.hs_records.specs.Views.{workload_of};
 ghost use Rattle.hs_check.specs.Leaving.{AreLeft, MayFinish, HaveFinished};
@@ -10,8 +10,7 @@ ghost use Rattle.hs_check.specs.Leaving.{AreLeft, MayFinish, HaveFinished};
 use hs_agent::Agent;
 use hs_base::{List, Memory};
 use hs_check_follow::FollowedParts;
-use hs_journal::{AgentBook, Journal};
-use hs_records::Workload;
+use hs_records::{AgentBook, Journal, Workload};
 use hs_report::{Books, Outcome, gather};
 use std::alloc::Global;
 

@@ -2,7 +2,7 @@
 
 ghost use Rattle.std.specs.Prelude.{◌≡◌, ◌+◌, ◌-◌, ◌*◌, ◌<◌, ◌≤◌, ◌||◌, ◌==◌, true, length, slice_index, nat_lt, IfOk};
 ghost use Rattle.hs_base.specs.declared.limits.TheConstants.{MAX_CLIENTS};
-ghost use Rattle.hs_journal.specs.Views.{journal_of};
+ghost use Rattle.hs_records.specs.Journals.{journal_of};
 ghost use Rattle.hs_law_journal.specs.Following.{log_at, NodeRun};
 ghost use Rattle.hs_law_journal.specs.Pace.{gives_in_pace};
 ghost use Rattle.hs_law_journal.specs.Played.{played};
@@ -17,8 +17,7 @@ use crate::counts::at;
 use crate::kinds::Kind;
 use hs_base::Memory;
 use hs_check_clauses::{FoundClient, FoundNode, drawn_of, log_of, stamp_of, step_stamp};
-use hs_journal::{Draw, Journal, Step};
-use hs_records::Workload;
+use hs_records::{Draw, Journal, Step, Workload};
 use std::alloc::Global;
 
 /// Whether the gives and misses of a node stand beside its draws: above those of all earlier rounds, and below those of all later

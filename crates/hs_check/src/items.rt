@@ -15,7 +15,7 @@ use crate::kinds::Kind;
 use hs_base::Memory;
 use hs_base::limits::MAX_TAKEN;
 use hs_check_clauses::FoundClient;
-use hs_journal::Step;
+use hs_records::Step;
 use std::alloc::Global;
 
 /// Whether these steps take enough of all items of all clients.

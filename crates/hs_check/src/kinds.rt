@@ -6,7 +6,7 @@ ghost use Rattle.hs_check.specs.Counting.{is_of, behind_each};
 use crate::counts::{one_more, push_where};
 use hs_base::Memory;
 use hs_check_clauses::is_last;
-use hs_journal::Step;
+use hs_records::Step;
 use std::alloc::Global;
 
 /// A kind of steps: those that take from a queue of a node, of which a client is named by its number there; or those that have a

@@ -2,7 +2,7 @@
 
 ghost use Rattle.std.specs.Prelude.{◌≡◌, ◌*◌, ◌<◌, ◌≤◌, ◌&&◌, true, length, IfOk};
 ghost use Rattle.hs_base.specs.declared.limits.TheConstants.{MAX_CLIENTS};
-ghost use Rattle.hs_journal.specs.Views.{journal_of};
+ghost use Rattle.hs_records.specs.Journals.{journal_of};
 ghost use Rattle.hs_law_journal.specs.Ends.{is_followed};
 ghost use Rattle.hs_law_journal.specs.Following.{followed, log_at, NodeRun};
 ghost use Rattle.hs_law_journal.specs.Pace.{has_pace, gives_in_pace, items_in_pace};
@@ -19,9 +19,8 @@ use crate::gives::gives_in_pace;
 use crate::items::items_in_pace;
 use hs_base::Memory;
 use hs_check_clauses::{Found, FoundNode, log_of};
-use hs_journal::Journal;
 use hs_law_journal::laws::{following_plays_out, runs_are_of_the_journal};
-use hs_records::Workload;
+use hs_records::{Journal, Workload};
 use std::alloc::Global;
 
 /// Whether agents and coordinator do not fall behind the clients: gives stand beside the draws of their round, and items and asks are

@@ -2,7 +2,7 @@
 
 ghost use Rattle.std.specs.Prelude.{◌≡◌, ◌≤◌, ◌*◌, ◌++◌, length, IfOk, OnOk};
 ghost use Rattle.hs_base.specs.declared.limits.TheConstants.{MAX_CLIENTS};
-ghost use Rattle.hs_journal.specs.Views.{journal_of};
+ghost use Rattle.hs_records.specs.Journals.{journal_of};
 ghost use Rattle.hs_law_journal.specs.Pooled.{by_stamp};
 ghost use Rattle.hs_law_sends.specs.Drawn.{has_buffer};
 ghost use Rattle.hs_check_clauses.specs.Happening.{drawn_from};
@@ -11,7 +11,7 @@ ghost use Rattle.hs_check.specs.PageDraws.{first_stamp, page_draws, all_page_dra
 
 use hs_base::Memory;
 use hs_check_clauses::{FoundClient, drawn_of, stamp_of};
-use hs_journal::{Draw, Journal};
+use hs_records::{Draw, Journal};
 use std::alloc::Global;
 
 /// A page of a node, by the number of its client and its own there.

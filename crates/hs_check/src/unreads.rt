@@ -3,7 +3,7 @@
 ghost use Rattle.std.specs.Prelude.{◌≡◌, ◌≤◌, ◌<◌, ◌*◌, true, length, IfOk};
 ghost use Rattle.std.specs.List.{list_all, list_any};
 ghost use Rattle.hs_base.specs.declared.limits.TheConstants.{MAX_CLIENTS};
-ghost use Rattle.hs_journal.specs.Views.{journal_of};
+ghost use Rattle.hs_records.specs.Journals.{journal_of};
 ghost use Rattle.hs_law_journal.specs.Ends.{is_followed};
 ghost use Rattle.hs_law_journal.specs.Following.{followed, log_at};
 ghost use Rattle.hs_law_journal.specs.Passes.{is_unread};
@@ -23,12 +23,11 @@ use crate::page_draws::{PageDraw, draws_in_order};
 use crate::shown::Shown;
 use hs_base::{Memory, Settings};
 use hs_check_clauses::{Found, FoundNode, FoundPage, events_of, is_unread, log_of};
-use hs_journal::{Journal, Step};
 use hs_law_agent::laws::{events_add_this, events_go_on, lists_have_their_chunks};
 use hs_law_journal::laws::{
     agents_come_by_events, following_plays_out, gives_are_noted, runs_are_of_the_journal,
 };
-use hs_records::Workload;
+use hs_records::{Journal, Step, Workload};
 use std::alloc::Global;
 
 /// Whether each offer that was unread could be: the entry of the pool that it would fill may still hold a draw that its client has

@@ -1,7 +1,7 @@
 //! What is said of a journal.
 
 ghost use Rattle.std.specs.Prelude.{IfOk};
-ghost use Rattle.hs_journal.specs.Views.{journal_of};
+ghost use Rattle.hs_records.specs.Journals.{journal_of};
 ghost use Rattle.hs_records.specs.Validity.{IsValid};
 ghost use Rattle.hs_records.specs.Views.{workload_of};
 ghost use Rattle.hs_check.specs.Verdicts.{IsVerdict};
@@ -11,9 +11,8 @@ use crate::clause::Clause;
 use crate::ending::come_to;
 use hs_base::Memory;
 use hs_check_follow::follow;
-use hs_journal::Journal;
 use hs_law_journal::laws::{lawful_is_decided, runs_are_of_the_journal};
-use hs_records::Workload;
+use hs_records::{Journal, Workload};
 use hs_report::Outcome;
 use std::alloc::Global;
 

@@ -4,8 +4,8 @@ use Rattle.hs_check_clauses.proofs.Prelude.{slice_get, option_map, filter_map, c
 use Rattle.std.proofs.lemmas.List.Folds.{list_all-append, list_any-append}
 use Rattle.std.proofs.lemmas.List.Sorted.{list_any-IsPermutation}
 use Rattle.hs_lists.proofs.Tests.{list_any_map}
-use Rattle.hs_journal.specs.declared.journal.Draw.TheVariants as draws
-use Rattle.hs_journal.specs.declared.journal.Step.TheVariants as steps
+use Rattle.hs_records.specs.declared.journal.Draw.TheVariants as draws
+use Rattle.hs_records.specs.declared.journal.Step.TheVariants as steps
 use Rattle.hs_law_journal.specs.Pooled.{answers_draw}
 use Rattle.hs_law_journal.specs.Shape.{step_stamp}
 use Rattle.hs_check_clauses.specs.declared.happened.NotedEvent.TheVariants as happenings

@@ -3,8 +3,8 @@ use Rattle.std.proofs.Common.{◌≡◌, ℕ, zero, suc, ◌+◌, ◌*◌, ◌<�
 use Rattle.hs_check_clauses.proofs.Prelude.{slice_get, option_map, filter_map, flat_map, range_with_len, option_and_then, option_to_list, length-map, map-append, Draw, Step, PlainJournal, Taken, GivenPlace, PlainWorkload, DrawnPage, stamp_of, ClientSends, draws_at, place_of, client_sends, node_sends, NodeRun, log_at, given_stamp, StampedPoolEvent, page_of, given_page, pool_events, FoundClient, FoundNode, FoundPage, StampedEvent, AreFound, IsFoundClient, named, given_name, pool_event, timed_draw, timed_miss, timed_give, timed_gives, node_timed, draw_at, drawn_from}
 use Rattle.std.specs.List.{cons_option}
 use Rattle.hs_base.specs.declared.ids.ClientId.{ClientId}
-use Rattle.hs_journal.specs.declared.journal.Draw.TheVariants as draws
-use Rattle.hs_journal.specs.declared.journal.Step.TheVariants as steps
+use Rattle.hs_records.specs.declared.journal.Draw.TheVariants as draws
+use Rattle.hs_records.specs.declared.journal.Step.TheVariants as steps
 use Rattle.hs_law_sends.specs.Drawn.{drawn_pages}
 use Rattle.hs_law_sends.specs.Drawn as sent
 use Rattle.hs_law_sends.specs.Draws.{event_drawn}

@@ -21,9 +21,6 @@ pub use Rattle.hs_check_clauses.specs.declared.happened.NotedEvent.{NotedEvent}
 pub use Rattle.hs_check_clauses.specs.declared.happened.StampedEvent.{StampedEvent}
 pub use Rattle.hs_check_clauses.specs.declared.passes.Walk.{Walk}
 pub use Rattle.hs_coord.specs.Following.{Message}
-pub use Rattle.hs_journal.specs.Views.{journal_of, PlainJournal}
-pub use Rattle.hs_journal.specs.declared.journal.Draw.{Draw}
-pub use Rattle.hs_journal.specs.declared.journal.Step.{Step}
 pub use Rattle.hs_law_agent.specs.Standings.{Taken}
 pub use Rattle.hs_law_agent.specs.State.{GivenPlace}
 pub use Rattle.hs_law_journal.proofs.Logs.{IsTake}
@@ -43,11 +40,14 @@ pub use Rattle.hs_lists.proofs.Counts.{count_append, count_cons, one_if}
 pub use Rattle.hs_lists.proofs.Filters.{filter_none}
 pub use Rattle.hs_lists.proofs.Ranges.{list_all_range, range_append}
 pub use Rattle.hs_records.proofs.Sizes.{operations_few}
+pub use Rattle.hs_records.specs.Journals.{journal_of, PlainJournal}
 pub use Rattle.hs_records.specs.Pages.{pages_of}
 pub use Rattle.hs_records.specs.Plain.{Operation, PlainSettings, PlainWorkload, settings_of}
 pub use Rattle.hs_records.specs.Records.{AreBracketed, piece_limit}
 pub use Rattle.hs_records.specs.Validity.{client_pieces, IsValid, workload_pieces}
 pub use Rattle.hs_records.specs.Views.{operation_of, operations_of, workload_of}
+pub use Rattle.hs_records.specs.declared.journal.Draw.{Draw}
+pub use Rattle.hs_records.specs.declared.journal.Step.{Step}
 pub use Rattle.hs_records.specs.declared.operation.Op.{Op}
 pub use Rattle.hs_words.specs.PoolHistory.{Got, PoolEvent}
 pub use Rattle.std.proofs.lemmas.Bool.{and_from, and_left, and_parts, and_right, cases_Bool, cases_eq, cases_lt, eq-eqb, eqb-false, eqb-true, false_from_ne_true, le-leb, le-ltb, leb-true, lt-leb, lt-ltb, ltb-false, ltb-true, ne_eqb, OnTrue_at, or_cases, true≢false}

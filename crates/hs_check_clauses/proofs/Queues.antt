@@ -2,7 +2,7 @@
 use Rattle.std.proofs.Common.{◌≡◌, ℕ, zero, suc, ◌+◌, ◌*◌, ◌<◌, ◌≤◌, Bool, true, false, cond, eqb, leb, ltb, List, [], ◌∷◌, ◌++◌, Option, Some, None, refl, sym, ap, ◌∙◌, subst, inl, inr, arith}
 use Rattle.hs_check_clauses.proofs.Prelude.{filter, count_by, unwrap_or, ◌&&◌, range_with_len, flat_map, list_all, ltb-true, ltb-false, eqb-true, ne_eqb, eq-eqb, cases_eq, filter_agree, range_append, MAX_TAKEN, Step, Queue, Asks, takes, taken, client_queues}
 use Rattle.hs_lists.proofs.Counts.{count_alike}
-use Rattle.hs_journal.specs.declared.journal.Step.TheVariants as steps
+use Rattle.hs_records.specs.declared.journal.Step.TheVariants as steps
 use Rattle.hs_law_journal.specs.Following.{Chunks, Crumbs, Triggers}
 use Rattle.hs_check_clauses.specs.Walking.{place_of}
 

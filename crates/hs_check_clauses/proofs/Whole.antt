@@ -2,7 +2,7 @@
 use Rattle.std.proofs.Common.{◌≡◌, ℕ, zero, suc, ◌+◌, ◌*◌, ◌<◌, ◌≤◌, Bool, true, false, cond, eqb, leb, List, [], ◌∷◌, ◌++◌, refl, sym, ap, ◌∙◌, subst, inl, inr, ◌⊎◌, arith}
 use Rattle.hs_check_clauses.proofs.Prelude.{filter, count_by, not, ◌&&◌, range_with_len, flat_map, list_all, AllByRecursion, and_parts, and_from, and_left, and_right, eqb-true, eq-eqb, ne_eqb, le-leb, lt-leb, leb-true, cases_eq, false_from_ne_true, true≢false, filter-append, one_if, count_append, count_cons, list_all_range, all_each, filter_none, MAX_TAKEN, Step, Queue, takes, taken, is_turn, is_offer, is_whole_pass, IsTake}
 use Rattle.hs_lists.proofs.Filters.{filter_all}
-use Rattle.hs_journal.specs.declared.journal.Step.TheVariants as steps
+use Rattle.hs_records.specs.declared.journal.Step.TheVariants as steps
 use Rattle.hs_law_journal.specs.Passes.{same_step, same_steps}
 use Rattle.hs_law_journal.proofs.Logs.{same_steps_refl}
 use Rattle.hs_check_clauses.proofs.Queues.{queue_count, place, Match, taken_in_order, few_of_each}

@@ -2,8 +2,8 @@
 -- of the chunk that lay in it.
 use Rattle.std.specs.Prelude.{◌≡◌, ℕ, Bool, true, false, ◌&&◌, ◌==◌, List, [], ◌∷◌, Option, Some, None, slice_index_or, if◌then◌else◌, refl}
 use Rattle.std.specs.Option.{option_map_or}
-use Rattle.hs_journal.specs.declared.journal.Draw.{Draw}
-use Rattle.hs_journal.specs.declared.journal.Draw.TheVariants as draws
+use Rattle.hs_records.specs.declared.journal.Draw.{Draw}
+use Rattle.hs_records.specs.declared.journal.Draw.TheVariants as draws
 use Rattle.hs_law_journal.specs.Pooled.{has_buffer}
 use Rattle.hs_check_clauses.specs.declared.answers.Latest.{Latest}
 use Rattle.hs_check_clauses.specs.declared.happened.NotedEvent.{NotedEvent}

@@ -1,6 +1,6 @@
 -- A workload and a journal that clauses may be asked of.
 use Rattle.std.specs.Prelude.{◌≡◌, true}
-use Rattle.hs_journal.specs.Views.{PlainJournal}
+use Rattle.hs_records.specs.Journals.{PlainJournal}
 use Rattle.hs_law_journal.specs.Played.{played}
 use Rattle.hs_law_journal.specs.Shape.{has_shape}
 use Rattle.hs_records.specs.Plain.{PlainWorkload}

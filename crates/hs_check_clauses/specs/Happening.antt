@@ -2,11 +2,11 @@
 use Rattle.std.specs.Prelude.{ℕ, ◌+◌, Bool, true, nat_lt, List, [], ◌∷◌, ◌++◌, length, map, take, filter, filter_map, Option, Some, None, slice_get, if◌then◌else◌}
 use Rattle.std.specs.List.{flat_map}
 use Rattle.std.specs.Option.{option_and_then, option_to_list}
-use Rattle.hs_journal.specs.declared.journal.Draw.{Draw}
-use Rattle.hs_journal.specs.declared.journal.Draw.TheVariants as draws
-use Rattle.hs_journal.specs.declared.journal.Step.{Step}
-use Rattle.hs_journal.specs.declared.journal.Step.TheVariants as steps
-use Rattle.hs_journal.specs.Views.{PlainJournal}
+use Rattle.hs_records.specs.declared.journal.Draw.{Draw}
+use Rattle.hs_records.specs.declared.journal.Draw.TheVariants as draws
+use Rattle.hs_records.specs.declared.journal.Step.{Step}
+use Rattle.hs_records.specs.declared.journal.Step.TheVariants as steps
+use Rattle.hs_records.specs.Journals.{PlainJournal}
 use Rattle.hs_law_journal.specs.Pooled.{StampedPoolEvent, may_follow}
 use Rattle.hs_law_sends.specs.Sending.{draws_at}
 use Rattle.hs_words.specs.PoolHistory.{PoolEvent}

@@ -1,8 +1,8 @@
 -- Whether all offers are made, step by step: the last step of each pass is an offer that was unread, or the hand is empty behind it,
 -- and no other step is an unread offer.
 use Rattle.std.specs.Prelude.{◌≡◌, ℕ, Bool, true, false, not, ◌&&◌, ◌||◌, ◌==◌, List, [], ◌∷◌, if◌then◌else◌, refl}
-use Rattle.hs_journal.specs.declared.journal.Step.{Step}
-use Rattle.hs_journal.specs.declared.journal.Step.TheVariants as steps
+use Rattle.hs_records.specs.declared.journal.Step.{Step}
+use Rattle.hs_records.specs.declared.journal.Step.TheVariants as steps
 use Rattle.hs_law_journal.specs.Passes.{ends_between, is_unread}
 
 -- whether a pass ends with the first of these steps

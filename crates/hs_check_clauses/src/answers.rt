@@ -5,7 +5,7 @@ ghost use Rattle.std.specs.Bool.{OnTrue};
 ghost use Rattle.std.specs.List.{list_all};
 ghost use Rattle.std.specs.List.Sorted.{IsNonDecreasingBy, IsPermutation};
 ghost use Rattle.hs_base.specs.declared.limits.TheConstants.{MAX_CLIENTS};
-ghost use Rattle.hs_journal.specs.Views.{journal_of};
+ghost use Rattle.hs_records.specs.Journals.{journal_of};
 ghost use Rattle.hs_law_journal.specs.Ends.{is_followed};
 ghost use Rattle.hs_law_journal.specs.Following.{followed, log_at};
 ghost use Rattle.hs_law_journal.specs.Played.{played};
@@ -22,9 +22,8 @@ use crate::found::{Found, FoundNode};
 use crate::happened::{NotedEvent, StampedEvent, draw_of, events_of};
 use crate::ordered::put_in_order;
 use hs_base::Memory;
-use hs_journal::{Draw, Journal};
 use hs_law_journal::laws::{following_plays_out, gives_are_noted, runs_are_of_the_journal};
-use hs_records::Workload;
+use hs_records::{Draw, Journal, Workload};
 use std::alloc::Global;
 
 /// Whether each give answers the draw of its chunk: that draw came before it, and nothing at the buffer in between. The one

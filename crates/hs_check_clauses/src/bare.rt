@@ -4,7 +4,7 @@ ghost use Rattle.std.specs.Prelude.{◌≡◌, ℕ, ◌<◌, ◌≤◌, ◌&&◌
 ghost use Rattle.std.specs.List.{list_all, range_with_len};
 ghost use Rattle.hs_base.specs.declared.limits.TheConstants.{MAX_NODES, MAX_CLIENTS};
 ghost use Rattle.hs_base.specs.NodeSets.{has_node};
-ghost use Rattle.hs_journal.specs.Views.{journal_of};
+ghost use Rattle.hs_records.specs.Journals.{journal_of};
 ghost use Rattle.hs_law_journal.specs.Ends.{is_followed, is_bare, took_all};
 ghost use Rattle.hs_law_journal.specs.Following.{Asks, taken, NodeRun, followed};
 ghost use Rattle.hs_law_journal.specs.Played.{played};
@@ -18,9 +18,8 @@ use crate::counting::log_of;
 use crate::found::{Found, FoundClient, FoundNode};
 use crate::sources::Source;
 use hs_base::{NodeId, NodeSet};
-use hs_journal::{Journal, Step};
 use hs_law_journal::laws::{following_plays_out, runs_are_of_the_journal};
-use hs_records::Workload;
+use hs_records::{Journal, Step, Workload};
 
 /// Whether all that was sent, asked and said was taken, and nothing is pinned.
 pub fn is_bare(workload: &Workload, journal: &Journal, found: &Found) -> bool

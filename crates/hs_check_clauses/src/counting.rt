@@ -1,12 +1,12 @@
 //! The draws and logs of a journal.
 
 ghost use Rattle.std.specs.Prelude.{◌≡◌, count_by};
-ghost use Rattle.hs_journal.specs.Views.{journal_of};
+ghost use Rattle.hs_records.specs.Journals.{journal_of};
 ghost use Rattle.hs_law_journal.specs.Following.{log_at};
 ghost use Rattle.hs_law_journal.specs.Passes.{is_turn};
 ghost use Rattle.hs_law_sends.specs.Sending.{draws_at, place_of};
 
-use hs_journal::{Draw, Journal, Step};
+use hs_records::{Draw, Journal, Step};
 
 /// The steps of a node's agent, none where the journal has no such node.
 pub fn log_of(journal: &Journal, node: usize) -> &[Step]

@@ -4,7 +4,7 @@ ghost use Rattle.std.specs.Prelude.{◌≡◌, ◌*◌, ◌≤◌, ◌++◌, len
 ghost use Rattle.std.specs.List.{flat_map};
 ghost use Rattle.std.specs.Option.{option_to_list};
 ghost use Rattle.hs_base.specs.declared.limits.TheConstants.{MAX_CLIENTS};
-ghost use Rattle.hs_journal.specs.Views.{journal_of};
+ghost use Rattle.hs_records.specs.Journals.{journal_of};
 ghost use Rattle.hs_law_journal.specs.Following.{log_at};
 ghost use Rattle.hs_law_sends.specs.Sending.{draws_at, place_of};
 ghost use Rattle.hs_check_clauses.specs.Happening.{timed_draw, timed_miss, timed_give, timed_gives, node_timed, drawn_from, draw_at};
@@ -12,7 +12,7 @@ ghost use Rattle.hs_check_clauses.specs.Happening.{timed_draw, timed_miss, timed
 use crate::counting::{draws_of, log_of};
 use crate::found::{FoundClient, FoundNode, FoundPage};
 use hs_base::Memory;
-use hs_journal::{Draw, Journal, Step};
+use hs_records::{Draw, Journal, Step};
 use std::alloc::Global;
 
 /// An event of a pool. A buffer is named by its number.

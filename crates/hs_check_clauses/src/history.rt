@@ -1,7 +1,7 @@
 //! The third clause: what happened at each pool is a history of it.
 
 ghost use Rattle.std.specs.Prelude.{◌≡◌, true, length, map, IfOk};
-ghost use Rattle.hs_journal.specs.Views.{journal_of};
+ghost use Rattle.hs_records.specs.Journals.{journal_of};
 ghost use Rattle.hs_law_journal.specs.Ends.{is_followed};
 ghost use Rattle.hs_law_journal.specs.Following.{followed};
 ghost use Rattle.hs_law_journal.specs.Played.{played};
@@ -16,9 +16,8 @@ use crate::happened::{StampedEvent, events_of};
 use crate::ordered::put_in_order;
 use crate::replay::Replay;
 use hs_base::Memory;
-use hs_journal::Journal;
 use hs_law_journal::laws::{following_plays_out, gives_are_noted, runs_are_of_the_journal};
-use hs_records::Workload;
+use hs_records::{Journal, Workload};
 use std::alloc::Global;
 
 /// Whether the events of each node's pool are a history of it. The one error is want of memory.

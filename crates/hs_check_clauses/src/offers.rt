@@ -1,7 +1,7 @@
 //! The sixth clause: in each pass all offers are made.
 
 ghost use Rattle.std.specs.Prelude.{◌≡◌, ◌<◌, true, length, drop};
-ghost use Rattle.hs_journal.specs.Views.{journal_of};
+ghost use Rattle.hs_records.specs.Journals.{journal_of};
 ghost use Rattle.hs_law_journal.specs.Ends.{is_followed};
 ghost use Rattle.hs_law_journal.specs.Following.{followed};
 ghost use Rattle.hs_law_journal.specs.Passes.{has_offers, passes_of, ends_between, is_offer, is_unread};
@@ -13,9 +13,8 @@ ghost use Rattle.hs_check_clauses.specs.Offering.{ends_front, ends_through, may_
 
 use crate::counting::log_of;
 use crate::found::Found;
-use hs_journal::{Journal, Step};
 use hs_law_journal::laws::{following_plays_out, runs_are_of_the_journal};
-use hs_records::Workload;
+use hs_records::{Journal, Step, Workload};
 
 /// Whether behind each pass the hand is empty or the last offer is unread, and no other offer is.
 pub fn has_offers(workload: &Workload, journal: &Journal, found: &Found) -> bool

@@ -2,7 +2,7 @@
 
 ghost use Rattle.std.specs.Prelude.{◌≡◌};
 ghost use Rattle.std.specs.List.{list_all};
-ghost use Rattle.hs_journal.specs.Views.{journal_of};
+ghost use Rattle.hs_records.specs.Journals.{journal_of};
 ghost use Rattle.hs_law_journal.specs.Passes.{has_passes, is_whole_pass, passes_of, queues_of};
 ghost use Rattle.hs_law_journal.specs.Played.{played};
 ghost use Rattle.hs_records.specs.Plain.{PlainWorkload};
@@ -11,8 +11,7 @@ ghost use Rattle.hs_check_clauses.specs.Walking.{place_of, walk_behind, walk_off
 
 use crate::counting::log_of;
 use hs_base::limits::MAX_TAKEN;
-use hs_journal::{Journal, Step};
-use hs_records::Workload;
+use hs_records::{Journal, Step, Workload};
 
 /// Whether every log is one whole pass after another.
 pub fn has_passes(workload: &Workload, journal: &Journal) -> bool

@@ -5,7 +5,7 @@ ghost use Rattle.hs_law_journal.specs.Shape.{step_stamp, draw_stamps, log_stamps
 ghost use Rattle.hs_law_sends.specs.Drawn.{stamp_of};
 ghost use Rattle.hs_check_clauses.specs.Rising.{is_above};
 
-use hs_journal::{Draw, Step};
+use hs_records::{Draw, Step};
 
 /// The stamp of a draw.
 pub fn stamp_of(draw: Draw) -> u64

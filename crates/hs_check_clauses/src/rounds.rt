@@ -2,7 +2,7 @@
 
 ghost use Rattle.std.specs.Prelude.{◌≡◌, ◌*◌, ◌^◌, ◌<◌, count_by};
 ghost use Rattle.std.specs.List.{range_with_len, list_all};
-ghost use Rattle.hs_journal.specs.Views.{journal_of};
+ghost use Rattle.hs_records.specs.Journals.{journal_of};
 ghost use Rattle.hs_law_journal.specs.Ends.{has_rounds, rounds_of};
 ghost use Rattle.hs_law_journal.specs.Following.{log_at};
 ghost use Rattle.hs_law_journal.specs.Passes.{is_turn};
@@ -12,8 +12,7 @@ ghost use Rattle.hs_records.specs.Views.{workload_of};
 ghost use Rattle.hs_check_clauses.specs.Rounds.{are_enough};
 
 use crate::counting::{count_turns, log_of};
-use hs_journal::Journal;
-use hs_records::Workload;
+use hs_records::{Journal, Workload};
 
 /// Whether all agents made as many passes, and at least as many as the workload has rounds.
 pub fn has_rounds(workload: &Workload, journal: &Journal) -> bool

@@ -1,7 +1,7 @@
 //! The first clause: the journal has the shape of the workload.
 
 ghost use Rattle.std.specs.Prelude.{◌≡◌, map, length};
-ghost use Rattle.hs_journal.specs.Views.{journal_of};
+ghost use Rattle.hs_records.specs.Journals.{journal_of};
 ghost use Rattle.hs_law_journal.specs.Played.{played};
 ghost use Rattle.hs_law_journal.specs.Shape.{has_shape, same_counts};
 ghost use Rattle.hs_records.specs.Pages.{pages_of};
@@ -9,8 +9,7 @@ ghost use Rattle.hs_records.specs.Validity.{IsValid};
 ghost use Rattle.hs_records.specs.Views.{workload_of};
 
 use crate::pages::count_pages;
-use hs_journal::Journal;
-use hs_records::Workload;
+use hs_records::{Journal, Workload};
 
 /// Whether the journal has the nodes and clients of the workload, a log for each node, and for each client a
 /// draw for each of its pages.

@@ -4,7 +4,7 @@ ghost use Rattle.std.specs.Prelude.{◌≡◌};
 ghost use Rattle.hs_law_journal.specs.Following.{takes, taken};
 ghost use Rattle.hs_check_clauses.specs.Sources.{queue_of};
 
-use hs_journal::Step;
+use hs_records::Step;
 
 /// A queue of a node. A client is named by its number there.
 #[derive(Clone, Copy)]

@@ -2,7 +2,7 @@
 
 ghost use Rattle.std.specs.Prelude.{◌≡◌, ◌++◌, IfOk, OnOk};
 ghost use Rattle.std.specs.List.{list_all};
-ghost use Rattle.hs_journal.specs.Views.{journal_of};
+ghost use Rattle.hs_records.specs.Journals.{journal_of};
 ghost use Rattle.hs_law_journal.specs.Following.{log_at};
 ghost use Rattle.hs_law_journal.specs.Played.{played};
 ghost use Rattle.hs_law_journal.specs.Shape.{has_stamps, node_has_stamps, node_stamps, node_draws, draw_stamps, log_stamps, are_numbered, rise};
@@ -12,8 +12,7 @@ ghost use Rattle.hs_records.specs.Views.{workload_of};
 use crate::counting::{draws_of, log_of};
 use crate::rising::{draws_rise, log_rises, stamp_of, step_stamp};
 use hs_base::Memory;
-use hs_journal::{Draw, Journal, Step};
-use hs_records::Workload;
+use hs_records::{Draw, Journal, Step, Workload};
 use std::alloc::Global;
 
 /// Whether the stamps of each node number what happens at its pool from 0 on, each once, and rise within a client

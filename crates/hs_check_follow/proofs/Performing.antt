@@ -10,7 +10,7 @@ use Rattle.hs_agent.specs.Runs as agents
 use Rattle.hs_agent.specs.Runs.{IsTakable, Knows, after_input, buffers_in, first_place, input_of, point_of, told_in, with_back}
 use Rattle.hs_agent.specs.declared.input.Input.TheVariants as inputs
 use Rattle.hs_agent.proofs.Brought.{sheets_brought}
-use Rattle.hs_journal.specs.declared.journal.Step.TheVariants as steps
+use Rattle.hs_records.specs.declared.journal.Step.TheVariants as steps
 use Rattle.hs_law_journal.specs.Following.{offered}
 use Rattle.hs_law_agent.specs.Laws.{EventsGoOn, EventsAddThis, StepsSayWhatTheyTell, brought_by, sheets_of}
 use Rattle.hs_law_agent.specs.Stepping.{Answered, after_event, after_gave, step_of_answer, told_by}

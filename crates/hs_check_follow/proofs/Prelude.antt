@@ -36,10 +36,6 @@ pub use Rattle.hs_check_follow.specs.declared.script.Script.{Script}
 pub use Rattle.hs_check_follow.specs.declared.second_play.SecondPlay.{SecondPlay}
 pub use Rattle.hs_client.specs.Calls.{note_of}
 pub use Rattle.hs_coord.specs.Following.{Messages}
-pub use Rattle.hs_journal.specs.Books.{PlainClientBook}
-pub use Rattle.hs_journal.specs.Views.{journal_of, PlainJournal}
-pub use Rattle.hs_journal.specs.declared.journal.Draw.{Draw}
-pub use Rattle.hs_journal.specs.declared.journal.Step.{Step}
 pub use Rattle.hs_law_agent.specs.State.{AgentState, GivenPlace}
 pub use Rattle.hs_law_agent.specs.Stepping.{after, AgentEvent, Gave, Given, Missed, Took, Unread}
 pub use Rattle.hs_law_journal.proofs.Logs.{taken_still}
@@ -59,10 +55,14 @@ pub use Rattle.hs_lists.proofs.Alls.{all_at}
 pub use Rattle.hs_lists.proofs.Lent.{lent_from, lent_is}
 pub use Rattle.hs_lists.proofs.Parts.{map_self, nil_behind}
 pub use Rattle.hs_lists.proofs.Places.{get_front, get_set_cases, get_there, row_is, set_same}
+pub use Rattle.hs_records.specs.Books.{PlainClientBook}
+pub use Rattle.hs_records.specs.Journals.{journal_of, PlainJournal}
 pub use Rattle.hs_records.specs.Pages.{pages_of}
 pub use Rattle.hs_records.specs.Plain.{Operation, PlainSettings, PlainWorkload, settings_of}
 pub use Rattle.hs_records.specs.Records.{AreBracketed}
 pub use Rattle.hs_records.specs.Views.{operation_of, workload_of}
+pub use Rattle.hs_records.specs.declared.journal.Draw.{Draw}
+pub use Rattle.hs_records.specs.declared.journal.Step.{Step}
 pub use Rattle.hs_replay_client.specs.Places.{ReplayClientIsAt, WentOn}
 pub use Rattle.hs_replay_client.specs.ReplayClients.{PlainReplayClient, Unleased}
 pub use Rattle.hs_replay_client.specs.Wells.{DrawsAll}

@@ -4,7 +4,7 @@ use Rattle.hs_check_follow.proofs.Prelude.{slice_get_within, slice_get, sheet_in
 use Rattle.std.proofs.lemmas.Bool.{ne_eqb}
 use Rattle.hs_lists.proofs.Parts.{nil_of_rest}
 use Rattle.hs_agent.specs.declared.input.Input.TheVariants as inputs
-use Rattle.hs_journal.specs.declared.journal.Step.TheVariants as steps
+use Rattle.hs_records.specs.declared.journal.Step.TheVariants as steps
 use Rattle.hs_law_agent.specs.Stepping.{Chunk, Crumbed, Triggered, Asked}
 use Rattle.hs_words.specs.declared.token.Held.{Held}
 use Rattle.hs_check_follow.specs.Clients.{IsNoClient, PopsCrumb, PopsTrigger}

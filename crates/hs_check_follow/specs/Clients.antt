@@ -9,9 +9,9 @@ use Rattle.hs_check_clauses.specs.Finding.{IsFoundClient}
 use Rattle.hs_check_follow.specs.Fillings.{IsFilling, MayFill, Fills}
 use Rattle.hs_check_follow.specs.declared.filling.Filling.{Filling}
 use Rattle.hs_check_follow.specs.declared.client.FollowedClient.{FollowedClient}
-use Rattle.hs_journal.specs.Books.{client_book_of}
-use Rattle.hs_journal.specs.Views.{PlainJournal}
-use Rattle.hs_journal.specs.declared.journal.Step.{Step}
+use Rattle.hs_records.specs.Books.{client_book_of}
+use Rattle.hs_records.specs.Journals.{PlainJournal}
+use Rattle.hs_records.specs.declared.journal.Step.{Step}
 use Rattle.hs_law_journal.specs.Following.{Chunks, Crumbs, Triggers, taken}
 use Rattle.hs_law_outcome.specs.Outcomes.{client_book}
 use Rattle.hs_replay_client.specs.ReplayClients.{Unleased}

@@ -3,7 +3,7 @@
 use Rattle.std.specs.Prelude.{◌≡◌, ℕ, ◌+◌, List, ◌++◌, length, map, drop, slice_get, Option, Some, None, MatchOption}
 use Rattle.hs_base.specs.declared.ids.ClientId.{ClientId}
 use Rattle.hs_base.specs.declared.settings.AutoRule.{AutoRule}
-use Rattle.hs_journal.specs.declared.journal.Draw.{Draw}
+use Rattle.hs_records.specs.declared.journal.Draw.{Draw}
 use Rattle.hs_replay_client.specs.Places.{ReplayClientIsAt}
 use Rattle.hs_replay_client.specs.ReplayClients.{Unleased}
 use Rattle.hs_records.specs.Pages.{pages_of}

@@ -10,9 +10,9 @@ use Rattle.hs_agent.specs.declared.input.Input.TheVariants as inputs
 use Rattle.hs_base.specs.declared.told.Ask.{Ask}
 use Rattle.hs_check_clauses.specs.declared.found.FoundPage.{FoundPage}
 use Rattle.hs_coord.specs.Following.{Messages}
-use Rattle.hs_journal.specs.Views.{PlainJournal}
-use Rattle.hs_journal.specs.declared.journal.Step.{Step}
-use Rattle.hs_journal.specs.declared.journal.Step.TheVariants as steps
+use Rattle.hs_records.specs.Journals.{PlainJournal}
+use Rattle.hs_records.specs.declared.journal.Step.{Step}
+use Rattle.hs_records.specs.declared.journal.Step.TheVariants as steps
 use Rattle.hs_law_journal.specs.Following.{Asks, taken, asks_to, NodeRun, event_of, perform}
 use Rattle.hs_law_journal.specs.Fitting.{MayTake}
 use Rattle.hs_law_agent.specs.Laws.{sheets_of}

@@ -1,7 +1,7 @@
 -- What is noted behind the passes of a node.
 use Rattle.std.specs.Prelude.{◌≡◌, ℕ, Bool, true, false, List, [], ◌∷◌, ◌++◌, length, map}
-use Rattle.hs_journal.specs.Views.{PlainJournal}
-use Rattle.hs_journal.specs.declared.journal.Step.{Step}
+use Rattle.hs_records.specs.Journals.{PlainJournal}
+use Rattle.hs_records.specs.declared.journal.Step.{Step}
 use Rattle.hs_law_journal.specs.Following.{NodeRun}
 use Rattle.hs_law_journal.specs.Played.{state_behind}
 use Rattle.hs_law_agent.specs.State.{AgentState}

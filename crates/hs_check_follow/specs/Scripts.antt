@@ -2,7 +2,7 @@
 -- one size.
 use Rattle.std.specs.Prelude.{◌≡◌, ℕ, ◌≤◌, List, [], ◌∷◌, None}
 use Rattle.hs_base.specs.declared.limits.TheConstants.{MIN_SIZE, MAX_SIZE}
-use Rattle.hs_journal.specs.declared.journal.Draw.{Draw}
+use Rattle.hs_records.specs.declared.journal.Draw.{Draw}
 use Rattle.hs_replay_client.specs.Wells.{Way}
 use Rattle.hs_law_sends.specs.Drawn.{has_buffer}
 use Rattle.hs_words.specs.Chunks.{Contents}

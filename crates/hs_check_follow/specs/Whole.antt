@@ -8,8 +8,8 @@ use Rattle.hs_check_clauses.specs.Finding.{AreAsked}
 use Rattle.hs_coord.specs.Following.{Messages}
 use Rattle.hs_coord.specs.Kept.{HasTaken}
 use Rattle.hs_coord.specs.declared.asks.Asks.{Asks}
-use Rattle.hs_journal.specs.Views.{PlainJournal}
-use Rattle.hs_journal.specs.declared.journal.Step.{Step}
+use Rattle.hs_records.specs.Journals.{PlainJournal}
+use Rattle.hs_records.specs.declared.journal.Step.{Step}
 use Rattle.hs_law_journal.specs.Following.{log_at, asks_to, is_from, NodeRun, Run, run_start, step_node, hear, followed}
 use Rattle.hs_law_journal.specs.Orders.{Leads, IsAtRest, Performs}
 use Rattle.hs_law_agent.specs.Leading.{IsToldBelow}

@@ -1,7 +1,7 @@
 //! An agent that follows its log.
 
 ghost use Rattle.std.specs.Prelude.{◌≡◌, IfOk, IfSome, IsSome};
-ghost use Rattle.hs_journal.specs.declared.journal.Step.TheVariants as steps;
+ghost use Rattle.hs_records.specs.declared.journal.Step.TheVariants as steps;
 ghost use Rattle.hs_records.specs.Plain.{PlainWorkload};
 ghost use Rattle.hs_records.specs.Views.{workload_of};
 ghost use Rattle.hs_check_follow.specs.Nodes.{IsTake, IsOffer, Readies, MayPerform, MayDo, KnowsRun, Performs, Does, PerformsOffer, name_of};
@@ -11,9 +11,8 @@ use crate::clients::{next_chunk, next_crumb, next_trigger};
 use hs_agent::{Agent, Input};
 use hs_base::{Ask, List, Memory, Told};
 use hs_check_clauses::FoundPage;
-use hs_journal::Step;
 use hs_law_agent::laws::{events_add_this, events_go_on, steps_say_what_they_tell};
-use hs_records::Workload;
+use hs_records::{Step, Workload};
 use hs_words::{Chunk, Given};
 
 /// An agent that performs the steps of its log, with what its clients send. Where a call answers that memory is wanted, it is of

@@ -2,7 +2,7 @@
 
 ghost use Rattle.std.specs.Prelude.{◌≡◌, length, map, IfOk};
 ghost use Rattle.hs_client.specs.Calls.{note_of};
-ghost use Rattle.hs_journal.specs.Books.{client_book_of};
+ghost use Rattle.hs_records.specs.Books.{client_book_of};
 ghost use Rattle.hs_records.specs.Pages.{pages_of};
 ghost use Rattle.hs_records.specs.Plain.{settings_of};
 ghost use Rattle.hs_law_sends.specs.Playable.{IsPlayable};
@@ -18,11 +18,10 @@ use crate::keeping::may_keep;
 use crate::script::Script;
 use hs_base::{ClientId, Crumb, List, Memory, Settings, Trigger};
 use hs_check_clauses::FoundClient;
-use hs_journal::{ClientBook, Draw};
 use hs_law_sends::laws::{
     all_is_sent_in_the_end, timed_pages_are_the_pages, timed_pages_are_timely,
 };
-use hs_records::Op;
+use hs_records::{ClientBook, Draw, Op};
 use hs_replay_client::ReplayClient;
 use std::alloc::Global;
 use std::collections::VecDeque;

@@ -4,8 +4,7 @@ ghost use Rattle.std.specs.Prelude.{◌≡◌, ◌≤◌, ◌+◌, ◌*◌, IsTr
 ghost use Rattle.hs_words.specs.Buffers.{buffer_of};
 
 use hs_base::Memory;
-use hs_journal::Draw;
-use hs_records::Op;
+use hs_records::{Draw, Op};
 use hs_words::Held;
 use std::collections::VecDeque;
 

@@ -2,7 +2,7 @@
 
 ghost use Rattle.std.specs.Prelude.{◌<◌, ◌≤◌, [], IfOk};
 ghost use Rattle.hs_base.specs.declared.limits.TheConstants.{MAX_NODES};
-ghost use Rattle.hs_journal.specs.Views.{journal_of};
+ghost use Rattle.hs_records.specs.Journals.{journal_of};
 ghost use Rattle.hs_law_journal.specs.Following.{followed, node_start, run_start};
 ghost use Rattle.hs_records.specs.Views.{workload_of};
 ghost use Rattle.hs_check_clauses.specs.Beginning.{MayBegin};
@@ -19,9 +19,8 @@ use crate::run::FollowedRun;
 use hs_agent::Agent;
 use hs_base::{Ask, ClientId, List, Memory, NodeId};
 use hs_coord::Coordinator;
-use hs_journal::Journal;
 use hs_law_sends::laws::valid_clients_may_be_played;
-use hs_records::Workload;
+use hs_records::{Journal, Workload};
 use std::alloc::Global;
 
 /// Follows a journal of the workload's shape as far as that is possible.

@@ -8,8 +8,7 @@ ghost use Rattle.hs_check_follow.specs.Whole.{MayStep, StepsOn, KnowsFollowedAge
 use crate::agent::FollowedAgent;
 use hs_base::{Ask, List, Memory};
 use hs_check_clauses::is_last;
-use hs_journal::Step;
-use hs_records::Workload;
+use hs_records::{Step, Workload};
 
 /// An agent that follows its log, how many steps of the log it has performed, and how many buffers were in the hand and how many
 /// messages it had said behind each pass.

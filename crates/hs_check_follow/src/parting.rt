@@ -3,7 +3,7 @@
 ghost use Rattle.std.specs.Prelude.{◌≡◌, ◌++◌, ◌∷◌, [], true, map, IfOk, OnOk};
 ghost use Rattle.std.specs.List.{flat_map};
 ghost use Rattle.hs_check_clauses.specs.Finding.{AreFound, IsFound};
-ghost use Rattle.hs_journal.specs.Views.{PlainJournal};
+ghost use Rattle.hs_records.specs.Journals.{PlainJournal};
 ghost use Rattle.hs_law_journal.specs.Following.{followed, is_done};
 ghost use Rattle.hs_records.specs.Plain.{PlainWorkload};
 ghost use Rattle.hs_check_follow.specs.Parting.{books_left, HasClientsBehind, IsFoundOf};
@@ -16,8 +16,8 @@ use crate::run::FollowedRun;
 use hs_agent::Agent;
 use hs_base::{List, Memory};
 use hs_check_clauses::{Found, FoundClient, FoundNode};
-use hs_journal::ClientBook;
 use hs_law_journal::laws::runs_are_of_the_journal;
+use hs_records::ClientBook;
 use std::alloc::Global;
 
 /// What the clients noted, in the order of their numbers, and the agents.

@@ -1,7 +1,7 @@
 //! Following a journal.
 
 ghost use Rattle.std.specs.Prelude.{◌≡◌, ◌<◌, length, IfOk, OnOk};
-ghost use Rattle.hs_journal.specs.Views.{journal_of};
+ghost use Rattle.hs_records.specs.Journals.{journal_of};
 ghost use Rattle.hs_law_journal.specs.Following.{Run, is_done};
 ghost use Rattle.hs_records.specs.Plain.{PlainWorkload};
 ghost use Rattle.hs_records.specs.Views.{workload_of};
@@ -10,9 +10,8 @@ ghost use Rattle.hs_check_follow.specs.Whole.{AllAt, Knows, KnowsAt, StepsNode, 
 use crate::coordinator::FollowedCoordinator;
 use crate::node::FollowedNode;
 use hs_base::{List, Memory};
-use hs_journal::Journal;
 use hs_law_journal::laws::{orders_agree, runs_are_of_the_journal, runs_fit};
-use hs_records::Workload;
+use hs_records::{Journal, Workload};
 
 /// All nodes and the coordinator, on the way through a journal.
 #[derive(Drop)]

@@ -5,7 +5,7 @@ ghost use Rattle.hs_base.specs.declared.limits.TheConstants.{MIN_SIZE, MAX_SIZE}
 ghost use Rattle.hs_check_follow.specs.Scripts.{IsClearOf};
 
 use hs_base::{List, Memory};
-use hs_journal::Draw;
+use hs_records::Draw;
 use hs_replay_client::Well;
 use hs_words::{Chunk, Drawn, Held, Stock};
 use std::alloc::Global;

@@ -10,11 +10,10 @@ ghost use Rattle.hs_check_follow.specs.Fillings.{IsSecondPlay, MayPlay, PlaysOn,
 
 use crate::script::Script;
 use hs_base::{AutoRule, ClientId, Memory, Settings};
-use hs_journal::Draw;
 use hs_law_sends::laws::{
     all_is_sent_in_the_end, timed_pages_are_the_pages, timed_pages_are_timely,
 };
-use hs_records::Op;
+use hs_records::{Draw, Op};
 use hs_replay_client::ReplayClient;
 use hs_words::Held;
 use std::alloc::Global;

@@ -3,7 +3,7 @@ use Rattle.std.proofs.Common.{◌≡◌, ◌∙◌, ◌≤◌, ℕ, List, [], �
 use Rattle.hs_base.specs.declared.limits.TheConstants.{MAX_INPUT}
 use Rattle.hs_records.specs.Plain.{PlainWorkload}
 use Rattle.hs_streams.specs.Input.{ReadWhole}
-use Rattle.hs_journal.specs.Views.{PlainJournal}
+use Rattle.hs_records.specs.Journals.{PlainJournal}
 use Rattle.hs_cli.specs.Answers.{IsSubject, IsFoundIn, IsAnswer, IsJudged}
 use Rattle.hs_ledger.specs.declared.ledger.Totals.{Totals}
 use Rattle.hs_ledger.specs.Totals.{totals_of}

@@ -6,7 +6,7 @@ use Rattle.hs_records.specs.Plain.{PlainWorkload}
 use Rattle.hs_workload.specs.Grammar.{Reads}
 use Rattle.hs_journal.specs.Grammar.{Reads as ReadsJournal}
 use Rattle.hs_journal.specs.Laws.{TextsHaveOneJournal}
-use Rattle.hs_journal.specs.Views.{PlainJournal}
+use Rattle.hs_records.specs.Journals.{PlainJournal}
 use Rattle.hs_law_journal.specs.Lawful.{IsLawful}
 use Rattle.hs_check.specs.Parts.{workload_part, journal_part}
 use Rattle.hs_streams.specs.Input.{ReadWhole, ReadBeyond}

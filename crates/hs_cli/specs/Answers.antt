@@ -3,7 +3,7 @@ use Rattle.std.specs.Prelude.{◌≡◌, ◌≤◌, ⊤, ℕ, List, Option, leng
 use Rattle.hs_base.specs.Outside.{Rose}
 use Rattle.hs_base.specs.declared.limits.TheConstants.{MAX_INPUT}
 use Rattle.hs_journal.specs.Grammar.{Reads as ReadsJournal}
-use Rattle.hs_journal.specs.Views.{PlainJournal}
+use Rattle.hs_records.specs.Journals.{PlainJournal}
 use Rattle.hs_law_journal.specs.Lawful.{IsLawful}
 use Rattle.hs_law_outcome.specs.OutcomeText.{outcome_text}
 use Rattle.hs_law_outcome.specs.declared.form.Form.TheVariants.{Text as Lines}

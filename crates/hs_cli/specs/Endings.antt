@@ -8,7 +8,7 @@ use Rattle.hs_records.specs.Plain.{PlainWorkload}
 use Rattle.hs_workload.specs.Grammar.{Reads, workload_text}
 use Rattle.hs_make.specs.Made.{made_workload}
 use Rattle.hs_journal.specs.declared.refusal.JournalRefusal.{JournalRefusal}
-use Rattle.hs_journal.specs.Views.{PlainJournal}
+use Rattle.hs_records.specs.Journals.{PlainJournal}
 use Rattle.hs_journal.specs.Grammar.{Reads as ReadsJournal}
 use Rattle.hs_journal.specs.Faults.{first_fault as first_journal_fault}
 use Rattle.hs_law_journal.specs.Lawful.{IsLawful, first_unlawful}

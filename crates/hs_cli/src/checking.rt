@@ -2,7 +2,7 @@
 
 ghost use Rattle.std.specs.Prelude.{◌≡◌, ◌≤◌, ◌++◌, IfOk, length};
 ghost use Rattle.hs_base.specs.declared.limits.TheConstants.{MAX_INPUT};
-ghost use Rattle.hs_journal.specs.Views.{journal_of};
+ghost use Rattle.hs_records.specs.Journals.{journal_of};
 ghost use Rattle.hs_check.specs.Clauses.{number_of};
 ghost use Rattle.hs_records.specs.Validity.{IsValid};
 ghost use Rattle.hs_records.specs.Views.{workload_of};
@@ -13,11 +13,11 @@ ghost use Rattle.hs_cli.specs.declared.command.Command.TheVariants.{Check};
 use crate::answer::{Answer, done_with, whole};
 use hs_base::{Bytes, Memory};
 use hs_check::{Clause, Verdict, check};
-use hs_journal::{Journal, JournalError, JournalRefusal, read_journal};
+use hs_journal::{JournalError, JournalRefusal, read_journal};
 use hs_json::outcome_parts;
 use hs_law_journal::laws::lawful_is_decided;
 use hs_law_outcome::Form;
-use hs_records::Workload;
+use hs_records::{Journal, Workload};
 use hs_streams::Status;
 use std::alloc::Global;
 

@@ -8,7 +8,7 @@ use Rattle.hs_base.specs.declared.ids.TraceId.{TraceId}
 use Rattle.hs_base.specs.declared.ids.ClientId.{ClientId}
 use Rattle.hs_records.specs.Records.{Segment, Piece}
 use Rattle.hs_records.specs.Pages.{PlainPage}
-use Rattle.hs_journal.specs.declared.journal.Draw.{Draw}
+use Rattle.hs_records.specs.declared.journal.Draw.{Draw}
 use Rattle.hs_client.specs.Core.{Core, Step, Began, Wrote, Needed, Supplied, Ended_, Refused, after_step, new_core, closed, handed, draw_of, number_after}
 use Rattle.hs_words.specs.Buffers.{Buffer}
 use Rattle.hs_client.specs.Calls.{after, AreSteps, next_number, segments_of_steps, open_trace, chunks_supplied, draws_supplied, handed_out, with_last, pages_of_steps, note_of, filled_chunks, IsBook, with_all}

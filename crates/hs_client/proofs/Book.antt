@@ -9,7 +9,7 @@ use Rattle.hs_base.specs.declared.ids.TraceId.{TraceId}
 use Rattle.hs_base.specs.declared.ids.ClientId.{ClientId}
 use Rattle.hs_records.specs.Records.{Piece, Segment}
 use Rattle.hs_records.specs.Pages.{PlainPage, segment_pages, first_record}
-use Rattle.hs_journal.specs.declared.books.PageNote.{PageNote}
+use Rattle.hs_records.specs.declared.books.PageNote.{PageNote}
 use Rattle.hs_words.specs.Chunks.{with_page}
 use Rattle.hs_client.specs.Core.{Core, Current, Began, Wrote, Supplied, after_step, closed, handed, all_pages, one_more, current_with, buffer_with, next_page, piece, MaySupply}
 use Rattle.hs_words.specs.Buffers.{Buffer}

@@ -2,7 +2,7 @@
 use Rattle.std.proofs.Common.{◌≡◌, ℕ, ◌+◌, ◌<◌, ◌≤◌, Option, Some, None, IsSome, refl, subst, arith}
 use Rattle.hs_base.specs.declared.ids.TraceId.{TraceId}
 use Rattle.hs_base.specs.declared.limits.TheConstants.{FRAME_COST, MAX_SIZE}
-use Rattle.hs_journal.specs.declared.books.PageNote.{PageNote}
+use Rattle.hs_records.specs.declared.books.PageNote.{PageNote}
 use Rattle.hs_words.specs.declared.token.Held.{Held}
 use Rattle.hs_client.specs.declared.client.ClientCore.TheInside.{Inside}
 use Rattle.hs_client.specs.Core.{Core, Fits, NeedsPage}

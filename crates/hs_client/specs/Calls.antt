@@ -9,8 +9,8 @@ use Rattle.hs_base.specs.declared.ids.ClientId.{ClientId}
 use Rattle.hs_base.specs.Samples.{owner}
 use Rattle.hs_records.specs.Records.{Piece, Segment}
 use Rattle.hs_records.specs.Pages.{PlainPage, segment_pages, first_record}
-use Rattle.hs_journal.specs.declared.journal.Draw.{Draw}
-use Rattle.hs_journal.specs.declared.books.PageNote.{PageNote}
+use Rattle.hs_records.specs.declared.journal.Draw.{Draw}
+use Rattle.hs_records.specs.declared.books.PageNote.{PageNote}
 use Rattle.hs_words.specs.Pages.{Sheet}
 use Rattle.hs_words.specs.Pages as page
 use Rattle.hs_words.specs.Chunks.{with_page, clear_chunk}

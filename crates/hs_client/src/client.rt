@@ -9,7 +9,7 @@ ghost use Rattle.hs_words.specs.Buffers.{buffer_in, buffer_of};
 use crate::answers::{Begun, Ended, Pointed};
 use hs_base::limits::{FRAME_COST, MAX_SIZE, MIN_SIZE, PIECE_COST};
 use hs_base::{ClientId, Memory, Notes, TraceId};
-use hs_journal::{ClientBook, Draw, PageNote};
+use hs_records::{ClientBook, Draw, PageNote};
 use hs_words::{Drawn, Header, Held, Token};
 use std::alloc::Global;
 use std::marker::Model;

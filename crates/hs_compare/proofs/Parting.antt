@@ -6,7 +6,7 @@ use Rattle.hs_lists.proofs.Alls.{all_each_both}
 use Rattle.hs_base.specs.declared.limits.TheConstants.{MIN_SIZE}
 use Rattle.hs_base.specs.declared.told.Group.{Group}
 use Rattle.hs_base.specs.Ids.{same_trace}
-use Rattle.hs_journal.specs.declared.journal.Draw.TheVariants.{Got, Empty}
+use Rattle.hs_records.specs.declared.journal.Draw.TheVariants.{Got, Empty}
 use Rattle.hs_law_agent.specs.Laws.{claiming_group, StandsByClaim}
 use Rattle.hs_law_agent.specs.Standings.{Taken, trace_of}
 use Rattle.hs_law_agent.specs.State.{claim_of}

@@ -9,8 +9,8 @@ use Rattle.hs_base.specs.declared.ids.NodeId.{NodeId}
 use Rattle.hs_base.specs.declared.told.Ask.{Ask}
 use Rattle.hs_base.specs.declared.told.Told.{Told}
 use Rattle.hs_coord.specs.Following.{Message, Messages, message, is_of, first_of, is_newly_asked}
-use Rattle.hs_journal.specs.declared.journal.Step.{Step}
-use Rattle.hs_journal.specs.declared.journal.Step.TheVariants as steps
+use Rattle.hs_records.specs.declared.journal.Step.{Step}
+use Rattle.hs_records.specs.declared.journal.Step.TheVariants as steps
 use Rattle.hs_law_agent.specs.Stepping.{Given, Missed, Unread, Chunk, Crumbed, Triggered, Asked, Turn, AgentEvent, Took, Gave}
 use Rattle.hs_law_sends.specs.Sending.{ClientSends, client_sends, node_sends}
 use Rattle.hs_law_agent.specs.Bringing.{AllPass, TellsOf, BringsOnly}

@@ -32,8 +32,6 @@ pub use Rattle.hs_compare.specs.declared.lines.Line.{Line}
 pub use Rattle.hs_compare.specs.declared.points.Walk.{Walk}
 pub use Rattle.hs_compare.specs.declared.ring.Noted.{Noted}
 pub use Rattle.hs_compare.specs.declared.script.Script.{Script}
-pub use Rattle.hs_journal.specs.Views.{PlainJournal}
-pub use Rattle.hs_journal.specs.declared.journal.Draw.{Draw}
 pub use Rattle.hs_law_agent.specs.Bringing.{ClaimsAreOfWhatIsBrought, ClaimsOnly}
 pub use Rattle.hs_law_agent.specs.State.{ClaimedTrace}
 pub use Rattle.hs_law_journal.specs.Ends.{rounds_for, rounds_of}
@@ -55,11 +53,13 @@ pub use Rattle.hs_lists.proofs.Parts.{length_map}
 pub use Rattle.hs_lists.proofs.Places.{IsIn, row_is}
 pub use Rattle.hs_lists.proofs.Ranges.{range_append}
 pub use Rattle.hs_records.proofs.Sizes.{operations_few}
+pub use Rattle.hs_records.specs.Journals.{PlainJournal}
 pub use Rattle.hs_records.specs.Pages.{pages_of}
 pub use Rattle.hs_records.specs.Plain.{Begin, Crumb, End, Fire, Operation, PlainWorkload, Point, Sample, settings_of}
 pub use Rattle.hs_records.specs.Records.{numbered_from, numbered_of, NumberedOperation, open_behind, Record, record_at, records_of}
 pub use Rattle.hs_records.specs.Validity.{IsValid}
 pub use Rattle.hs_records.specs.Views.{operation_of, operations_of, workload_of}
+pub use Rattle.hs_records.specs.declared.journal.Draw.{Draw}
 pub use Rattle.hs_records.specs.declared.setting.Setting.TheVariants.{Nodes}
 pub use Rattle.std.proofs.Math.Nat.{mod-lt}
 pub use Rattle.std.proofs.Math.Seq.{drop-cons}

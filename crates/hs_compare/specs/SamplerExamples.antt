@@ -1,7 +1,7 @@
 -- Two worked comparisons, of workloads under their lockstep journals.
 use Rattle.std.specs.Prelude.{◌≡◌, ℕ, refl}
 use Rattle.hs_records.specs.Plain.{PlainWorkload}
-use Rattle.hs_journal.specs.Views.{PlainJournal}
+use Rattle.hs_records.specs.Journals.{PlainJournal}
 use Rattle.hs_law_journal.specs.Journals
 use Rattle.hs_law_journal.specs.Workloads.{evicted_then_claimed, one_token}
 use Rattle.hs_law_outcome.specs.Outcomes.{outcome_of}

@@ -14,9 +14,8 @@ use crate::names::names_of;
 use crate::script::{Script, script_of};
 use hs_base::{ClientId, List, Memory, Settings};
 use hs_check_follow::{FollowedClient, send};
-use hs_journal::Draw;
 use hs_law_sends::laws::items_are_sent_in_order;
-use hs_records::Op;
+use hs_records::{Draw, Op};
 use std::alloc::Global;
 
 /// Whether an operation may send a trigger.

@@ -1,7 +1,7 @@
 //! What other samplers would have kept of a workload.
 
 ghost use Rattle.std.specs.Prelude.{◌≤◌, ◌≡◌, fold, IfOk};
-ghost use Rattle.hs_journal.specs.Views.{journal_of};
+ghost use Rattle.hs_records.specs.Journals.{journal_of};
 ghost use Rattle.hs_law_lockstep.specs.Lockstep.{lockstep};
 ghost use Rattle.hs_report.specs.Outcomes.{IsOutcome};
 ghost use Rattle.hs_compare.specs.Coming.{events_in_order};
@@ -24,9 +24,8 @@ use crate::scripts::scripts_of;
 use crate::walk::walk;
 use hs_base::Memory;
 use hs_check_clauses::count_rounds;
-use hs_journal::Journal;
 use hs_law_lockstep::laws::schedule_is_lawful;
-use hs_records::Workload;
+use hs_records::{Journal, Workload};
 use hs_report::Outcome;
 use std::alloc::Global;
 

@@ -1,7 +1,7 @@
 //! The scripts of all clients.
 
 ghost use Rattle.std.specs.Prelude.{◌<◌, length, IfOk};
-ghost use Rattle.hs_journal.specs.Views.{journal_of};
+ghost use Rattle.hs_records.specs.Journals.{journal_of};
 ghost use Rattle.hs_law_outcome.specs.Outcomes.{client_at};
 ghost use Rattle.hs_law_sends.specs.Sending.{operations_at};
 ghost use Rattle.hs_records.specs.Views.{workload_of};
@@ -13,9 +13,8 @@ use crate::client::client_script;
 use crate::places::client_at;
 use crate::script::Script;
 use hs_base::{List, Memory};
-use hs_journal::Journal;
 use hs_law_sends::laws::valid_clients_may_be_played;
-use hs_records::Workload;
+use hs_records::{Journal, Workload};
 use std::alloc::Global;
 
 /// The script of the client at a place.

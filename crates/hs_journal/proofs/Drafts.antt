@@ -1,8 +1,8 @@
 -- Lists with one that goes on.
 use Rattle.std.proofs.Common.{◌≡◌, ℕ, ◌+◌, ◌/◌, ◌%◌, ◌<◌, suc, List, [], ◌∷◌, ◌++◌, length, map, refl, sym, ap, ◌∙◌, append_assoc, arith}
 use Rattle.std.specs.List.{AllByRecursion}
-use Rattle.hs_journal.specs.declared.journal.Draw.{Draw}
-use Rattle.hs_journal.specs.declared.journal.Step.{Step}
+use Rattle.hs_records.specs.declared.journal.Draw.{Draw}
+use Rattle.hs_records.specs.declared.journal.Step.{Step}
 use Rattle.hs_journal.specs.declared.word.Keyword.TheVariants as keywords
 use Rattle.hs_journal.specs.Statements.{Statement, draw_statement, step_statement}
 use Rattle.hs_journal.specs.Grammar.{draw_statements, log_statements}

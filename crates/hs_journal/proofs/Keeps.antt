@@ -6,12 +6,13 @@ use Rattle.std.specs.Prelude.{⊤}
 use Rattle.std.specs.List.{AllByRecursion}
 use Rattle.hs_lists.proofs.Alls.{all_push}
 use Rattle.hs_base.specs.declared.limits.TheConstants.{MAX_NODES, MAX_CLIENTS}
-use Rattle.hs_journal.specs.declared.journal.Draw.{Draw}
-use Rattle.hs_journal.specs.declared.journal.Step.{Step}
+use Rattle.hs_records.specs.declared.journal.Draw.{Draw}
+use Rattle.hs_records.specs.declared.journal.Step.{Step}
 use Rattle.hs_journal.specs.declared.part.JournalPart.{JournalPart}
 use Rattle.hs_journal.specs.declared.part.JournalPart.TheVariants as places
 use Rattle.hs_journal.specs.Statements.{Statement, draw_statement, step_statement}
-use Rattle.hs_journal.specs.Grammar.{head_statement, draw_statements, log_statements, order_statements, end_statement, IsDraw, IsStep, IsNodeBelow}
+use Rattle.hs_journal.specs.Grammar.{head_statement, draw_statements, log_statements, order_statements, end_statement}
+use Rattle.hs_records.specs.Journals.{IsDraw, IsStep, IsNodeBelow}
 use Rattle.hs_journal.specs.Faults.{is_in_draws, is_in_logs, is_in_order, may_begin_journal, may_begin_draws, may_begin_log}
 use Rattle.hs_journal.specs.Forward.{Draft, fresh, past_of, with_draw, with_step, HasClients, IsSound}
 use Rattle.hs_journal.proofs.Drafts.{all_onto_last, length-onto_last, draws_at, log_at, draw_statements-begun, draw_statements-onto_last, log_statements-begun, log_statements-onto_last}

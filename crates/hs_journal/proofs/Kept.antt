@@ -8,14 +8,15 @@ use Rattle.hs_lists.proofs.Numbers.{nat_le_past, nat_eq_from}
 use Rattle.hs_base.specs.declared.limits.TheConstants.{MAX_NODES, MAX_CLIENTS}
 use Rattle.hs_base.specs.declared.ids.NodeId.{NodeId}
 use Rattle.hs_base.specs.Ranges.{is_out}
-use Rattle.hs_journal.specs.declared.journal.Draw.TheVariants as draws
-use Rattle.hs_journal.specs.declared.journal.Step.TheVariants as steps
+use Rattle.hs_records.specs.declared.journal.Draw.TheVariants as draws
+use Rattle.hs_records.specs.declared.journal.Step.TheVariants as steps
 use Rattle.hs_journal.specs.declared.word.Keyword.{Keyword}
 use Rattle.hs_journal.specs.declared.word.Keyword.TheVariants as keywords
 use Rattle.hs_journal.specs.declared.part.JournalPart.{JournalPart}
 use Rattle.hs_journal.specs.declared.part.JournalPart.TheVariants as places
 use Rattle.hs_journal.specs.Statements.{number_count, told_statement}
-use Rattle.hs_journal.specs.Grammar.{head_statement, draw_statements, log_statements, order_statements, coordinator_statement, end_statement, journal_statements, IsNodeBelow, IsJournal}
+use Rattle.hs_journal.specs.Grammar.{head_statement, draw_statements, log_statements, order_statements, coordinator_statement, end_statement, journal_statements}
+use Rattle.hs_records.specs.Journals.{IsNodeBelow, IsJournal}
 use Rattle.hs_journal.specs.Faults.{numbers_at, may_stand, is_out_of_range, is_out_of_order, is_in_logs, is_ended}
 use Rattle.hs_journal.specs.Forward.{Draft, past_of, after, journal_drafted}
 use Rattle.hs_journal.proofs.Lines.{IsSmall, Taken}

@@ -7,15 +7,15 @@ use Rattle.hs_lists.proofs.Numbers.{nat_le_false}
 use Rattle.hs_base.specs.declared.limits.TheConstants.{MAX_NODES, MAX_CLIENTS, MAX_BUFFERS}
 use Rattle.hs_base.specs.declared.ids.NodeId.{NodeId}
 use Rattle.hs_journal.specs.declared.refusal.JournalReason.{JournalReason}
-use Rattle.hs_journal.specs.declared.journal.Draw.{Draw}
-use Rattle.hs_journal.specs.declared.journal.Draw.TheVariants as draws
-use Rattle.hs_journal.specs.declared.journal.Step.{Step}
-use Rattle.hs_journal.specs.declared.journal.Step.TheVariants as steps
+use Rattle.hs_records.specs.declared.journal.Draw.{Draw}
+use Rattle.hs_records.specs.declared.journal.Draw.TheVariants as draws
+use Rattle.hs_records.specs.declared.journal.Step.{Step}
+use Rattle.hs_records.specs.declared.journal.Step.TheVariants as steps
 use Rattle.hs_journal.specs.declared.word.Keyword.TheVariants as keywords
 use Rattle.hs_journal.specs.declared.part.JournalPart.TheVariants as places
-use Rattle.hs_journal.specs.Views.{PlainJournal}
+use Rattle.hs_records.specs.Journals.{PlainJournal, IsDraw, IsStep, IsNodeBelow, IsJournal}
 use Rattle.hs_journal.specs.Statements.{Statement, statement_line, draw_statement, step_statement, told_statement}
-use Rattle.hs_journal.specs.Grammar.{head_statement, draw_statements, log_statements, order_statements, coordinator_statement, end_statement, journal_lines, IsDraw, IsStep, IsNodeBelow, IsJournal}
+use Rattle.hs_journal.specs.Grammar.{head_statement, draw_statements, log_statements, order_statements, coordinator_statement, end_statement, journal_lines}
 use Rattle.hs_journal.specs.Faults.{numbers_at, is_out_of_range}
 use Rattle.hs_text.specs.Steps.{◌>>=◌}
 use Rattle.hs_text.specs.JudgingLaws.{run}

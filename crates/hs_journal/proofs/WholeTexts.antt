@@ -6,9 +6,9 @@ use Rattle.hs_text.specs.Text.{text_of}
 use Rattle.hs_text.specs.Judging.{first_fault_in}
 use Rattle.hs_text.specs.JudgingLaws.{Makes, faultless_made, run_clean, one_beginning}
 use Rattle.hs_journal.specs.declared.refusal.JournalRefusal.{JournalRefusal}
-use Rattle.hs_journal.specs.Views.{PlainJournal}
+use Rattle.hs_records.specs.Journals.{PlainJournal, IsJournal}
 use Rattle.hs_journal.specs.Statements.{statement_line}
-use Rattle.hs_journal.specs.Grammar.{journal_lines, journal_text, IsJournal, Reads}
+use Rattle.hs_journal.specs.Grammar.{journal_lines, journal_text, Reads}
 use Rattle.hs_journal.specs.Laws.{IsJournalText}
 use Rattle.hs_journal.specs.Faults.{judging, first_fault}
 use Rattle.hs_journal.specs.Forward.{Draft, journal_drafted}

@@ -5,7 +5,7 @@ use Rattle.hs_base.specs.declared.limits.TheConstants.{MAX_BUFFERS}
 use Rattle.hs_text.specs.Text.{text_of}
 use Rattle.hs_text.specs.Spelling.{spelled}
 use Rattle.hs_text.specs.Judging.{first_fault_in}
-use Rattle.hs_journal.specs.declared.journal.Draw.TheVariants as draws
+use Rattle.hs_records.specs.declared.journal.Draw.TheVariants as draws
 use Rattle.hs_journal.specs.declared.refusal.JournalReason.TheVariants as reasons
 use Rattle.hs_journal.specs.Statements.{statement_line, draw_statement}
 use Rattle.hs_journal.specs.Grammar.{second_draw_empty_lines}

@@ -7,10 +7,10 @@ use Rattle.hs_text.specs.Spelling.{spelled}
 use Rattle.hs_text.specs.Opening.{opened}
 use Rattle.hs_base.specs.declared.limits.TheConstants.{MAX_NODES, MAX_CLIENTS}
 use Rattle.hs_base.specs.declared.ids.NodeId.{NodeId}
-use Rattle.hs_journal.specs.declared.journal.Draw.{Draw}
-use Rattle.hs_journal.specs.declared.journal.Draw.TheVariants as draws
-use Rattle.hs_journal.specs.declared.journal.Step.{Step}
-use Rattle.hs_journal.specs.declared.journal.Step.TheVariants as steps
+use Rattle.hs_records.specs.declared.journal.Draw.{Draw}
+use Rattle.hs_records.specs.declared.journal.Draw.TheVariants as draws
+use Rattle.hs_records.specs.declared.journal.Step.{Step}
+use Rattle.hs_records.specs.declared.journal.Step.TheVariants as steps
 use Rattle.hs_journal.specs.declared.refusal.JournalReason.{JournalReason}
 use Rattle.hs_journal.specs.declared.refusal.JournalReason.TheVariants as reasons
 use Rattle.hs_journal.specs.declared.word.Keyword.{Keyword}
@@ -19,7 +19,7 @@ use Rattle.hs_journal.specs.declared.part.JournalPart.{JournalPart}
 use Rattle.hs_journal.specs.declared.part.JournalPart.TheVariants as places
 use Rattle.hs_journal.specs.declared.line.Numbers.{Numbers}
 use Rattle.hs_journal.specs.declared.reader.Reader.{Reader}
-use Rattle.hs_journal.specs.Views.{PlainJournal}
+use Rattle.hs_records.specs.Journals.{PlainJournal}
 use Rattle.hs_journal.specs.Statements.{number_count, keyword_of}
 use Rattle.hs_journal.specs.LookBack.{Past}
 use Rattle.hs_journal.specs.Faults.{is_in_draws, is_in_logs, may_stand, is_out_of_range, is_out_of_order, before_words}

@@ -1,19 +1,16 @@
 -- The text of a journal: the first line with the numbers of nodes and clients, the draws of each client in the order of
 -- node and number, the log of each node, the coordinator's order, and the line `end`. A text reads as a journal that has a
 -- text where it is that text.
-use Rattle.std.specs.Prelude.{◌≡◌, ℕ, ◌+◌, ◌*◌, ◌/◌, ◌%◌, ◌^◌, ◌<◌, List, [], ◌∷◌, ◌++◌, length, map, codes, ⊤, refl}
-use Rattle.std.specs.List.{AllByRecursion}
+use Rattle.std.specs.Prelude.{◌≡◌, ℕ, ◌+◌, ◌/◌, ◌%◌, List, [], ◌∷◌, ◌++◌, map, codes, refl}
 use Rattle.std.specs.Fmt.{digits}
 use Rattle.hs_text.specs.Text.{text_of}
-use Rattle.hs_base.specs.declared.limits.TheConstants.{MAX_NODES, MAX_CLIENTS, MAX_BUFFERS}
 use Rattle.hs_base.specs.declared.ids.NodeId.{NodeId}
-use Rattle.hs_base.specs.Ranges.{Within}
-use Rattle.hs_journal.specs.declared.journal.Draw.{Draw}
-use Rattle.hs_journal.specs.declared.journal.Draw.TheVariants as draws
-use Rattle.hs_journal.specs.declared.journal.Step.{Step}
-use Rattle.hs_journal.specs.declared.journal.Step.TheVariants as steps
+use Rattle.hs_records.specs.declared.journal.Draw.{Draw}
+use Rattle.hs_records.specs.declared.journal.Draw.TheVariants as draws
+use Rattle.hs_records.specs.declared.journal.Step.{Step}
+use Rattle.hs_records.specs.declared.journal.Step.TheVariants as steps
 use Rattle.hs_journal.specs.declared.word.Keyword.TheVariants as keywords
-use Rattle.hs_journal.specs.Views.{PlainJournal}
+use Rattle.hs_records.specs.Journals.{PlainJournal, IsJournal}
 use Rattle.hs_journal.specs.Statements.{Statement, statement_line, draw_statement, step_statement, told_statement}
 
 -- the first line of the version that there is
@@ -54,42 +51,6 @@ journal_lines J = map statement_line (journal_statements J)
 
 abbrev pub journal_text : PlainJournal → List ℕ
 journal_text J = statements_text (journal_statements J)
-
--- ---- which journals have a text
-
-abbrev pub IsDraw : Draw → Type 0
-IsDraw (draws.Got buffer stamp) = (buffer < MAX_BUFFERS) × (stamp < 2 ^ 64)
-IsDraw (draws.Empty stamp) = stamp < 2 ^ 64
-
--- a step of an agent whose node has so many clients
-abbrev pub IsStep : ℕ → Step → Type 0
-IsStep clients (steps.Chunk client) = client < clients
-IsStep clients (steps.Crumb client) = client < clients
-IsStep clients (steps.Trigger client) = client < clients
-IsStep clients steps.Ask = ⊤
-IsStep clients steps.Turn = ⊤
-IsStep clients (steps.Given stamp) = stamp < 2 ^ 64
-IsStep clients (steps.Missed stamp) = stamp < 2 ^ 64
-IsStep clients steps.Unread = ⊤
-
-abbrev pub IsNodeBelow : ℕ → NodeId → Type 0
-IsNodeBelow nodes node = node.0 < nodes
-
--- The counts that the first line names are in their ranges, and there are as many lists of draws and logs as they say.
-pub record HasItsLists (J : PlainJournal) : Type 0 where
-  pub nodes : Within 1 MAX_NODES J.nodes
-  pub clients : Within 1 MAX_CLIENTS J.clients
-  pub draw_lists : length J.draws ≡ J.nodes * J.clients
-  pub log_lists : length J.logs ≡ J.nodes
-
-pub record IsJournal (J : PlainJournal) : Type 0 where
-  pub nodes : Within 1 MAX_NODES J.nodes
-  pub clients : Within 1 MAX_CLIENTS J.clients
-  pub draw_lists : length J.draws ≡ J.nodes * J.clients
-  pub log_lists : length J.logs ≡ J.nodes
-  pub draws : AllByRecursion (AllByRecursion IsDraw) J.draws
-  pub logs : AllByRecursion (AllByRecursion (IsStep J.clients)) J.logs
-  pub told : AllByRecursion (IsNodeBelow J.nodes) J.told
 
 -- the text reads as the journal
 pub record Reads (text : List ℕ) (J : PlainJournal) : Type 0 where

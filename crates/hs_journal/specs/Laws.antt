@@ -1,8 +1,8 @@
 -- That a journal and its text stand for one another: how many texts a journal has and how many journals a text, and that no such
 -- text begins another.
 use Rattle.std.specs.Prelude.{◌≡◌, ℕ, List, [], ◌++◌, None}
-use Rattle.hs_journal.specs.Views.{PlainJournal}
-use Rattle.hs_journal.specs.Grammar.{journal_text, IsJournal, Reads}
+use Rattle.hs_records.specs.Journals.{PlainJournal, IsJournal}
+use Rattle.hs_journal.specs.Grammar.{journal_text, Reads}
 use Rattle.hs_journal.specs.Faults.{first_fault}
 
 -- the text of some journal

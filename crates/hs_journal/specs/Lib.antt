@@ -1,5 +1,4 @@
 pub mod Reasons
-pub mod Views
 pub mod Statements
 pub mod Grammar
 pub mod LookBack
@@ -7,4 +6,3 @@ pub mod Faults
 pub mod FaultExamples
 pub mod Forward
 pub mod Laws
-pub mod Books

@@ -5,10 +5,10 @@ use Rattle.hs_text.specs.Text.{words_of, line_of, numbers_of}
 use Rattle.hs_text.specs.Spelling.{spelled}
 use Rattle.hs_text.specs.Opening.{words_say}
 use Rattle.hs_base.specs.declared.ids.NodeId.{NodeId}
-use Rattle.hs_journal.specs.declared.journal.Draw.{Draw}
-use Rattle.hs_journal.specs.declared.journal.Draw.TheVariants as draws
-use Rattle.hs_journal.specs.declared.journal.Step.{Step}
-use Rattle.hs_journal.specs.declared.journal.Step.TheVariants as steps
+use Rattle.hs_records.specs.declared.journal.Draw.{Draw}
+use Rattle.hs_records.specs.declared.journal.Draw.TheVariants as draws
+use Rattle.hs_records.specs.declared.journal.Step.{Step}
+use Rattle.hs_records.specs.declared.journal.Step.TheVariants as steps
 use Rattle.hs_journal.specs.declared.word.Keyword.{Keyword}
 use Rattle.hs_journal.specs.declared.word.Keyword.TheVariants as keywords
 

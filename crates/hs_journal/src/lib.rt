@@ -1,9 +1,7 @@
-//! The journal of a run, its text, and the books from which it is made (`docs/FORMATS.md`, "The
-//! journal").
+//! The text of a journal: its grammar, and the reader that names the first bad line and its first reason
+//! (`docs/FORMATS.md`, "The journal").
 #![tactic(auto)]
 
-mod books;
-mod journal;
 pub mod laws;
 mod line;
 mod part;
@@ -13,8 +11,7 @@ mod refusal;
 mod word;
 mod writer;
 
-pub use books::{AgentBook, Claim, ClientBook, PageNote, Standing};
-pub use journal::{Draw, Journal, Step};
+pub use hs_records::{AgentBook, Claim, ClientBook, Draw, Journal, PageNote, Standing, Step};
 pub use reading::read_journal;
 pub use refusal::{JournalError, JournalReason, JournalRefusal};
 pub use writer::write_journal;

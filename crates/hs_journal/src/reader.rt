@@ -7,15 +7,15 @@ ghost use Rattle.hs_text.specs.Steps.{Gives};
 ghost use Rattle.hs_journal.specs.Forward.{IsSound, draft_of, past_of, after, fresh, entered, with_draw, with_step, line_step, journal_drafted};
 ghost use Rattle.hs_journal.specs.declared.part.JournalPart.TheVariants.{Start};
 ghost use Rattle.hs_journal.specs.declared.word.Keyword.TheVariants.{Journal as JournalWord};
-ghost use Rattle.hs_journal.specs.Views.{journal_of};
+ghost use Rattle.hs_records.specs.Journals.{journal_of};
 
-use crate::journal::{Draw, Journal, Step};
 use crate::line::{Numbers, numbers_in};
 use crate::part::JournalPart;
 use crate::refusal::JournalReason;
 use crate::word::Keyword;
 use hs_base::limits::{MAX_BUFFERS, MAX_CLIENTS, MAX_NODES};
 use hs_base::{List, Memory, NodeId};
+use hs_records::{Draw, Journal, Step};
 use hs_text::{LineReasons, Stop, open_seen_line};
 use std::alloc::Global;
 

@@ -1,14 +1,14 @@
 //! Reading a journal, a line at a time.
 
 ghost use Rattle.std.specs.Prelude.{◌≡◌, ◌-◌, ◌^◌, ◌<◌, None, IfOk, IfErr, OnOk, MatchResult, length};
-ghost use Rattle.hs_journal.specs.Views.{PlainJournal, journal_of};
+ghost use Rattle.hs_records.specs.Journals.{PlainJournal, journal_of};
 ghost use Rattle.hs_journal.specs.Grammar.{Reads};
 ghost use Rattle.hs_journal.specs.Faults.{first_fault, refusal_at, Refuses};
 ghost use Rattle.hs_journal.specs.declared.refusal.JournalError.TheVariants.{Memory, Refused};
 
-use crate::journal::Journal;
 use crate::reader::Reader;
 use crate::refusal::{JournalError, JournalReason, JournalRefusal};
+use hs_records::Journal;
 use hs_text::{Stop, is_tidy, split_line};
 use std::alloc::Global;
 

@@ -2,13 +2,13 @@
 
 ghost use Rattle.std.specs.Prelude.{◌≡◌, ◌<◌, ◌+◌, ◌*◌, ◌≤◌, ◌++◌, ◌∷◌, [], map, sum, length, IfOk, OnOk};
 ghost use Rattle.hs_base.specs.declared.limits.TheConstants.{MAX_NODES, MAX_CLIENTS};
-ghost use Rattle.hs_journal.specs.Views.{journal_of};
+ghost use Rattle.hs_records.specs.Journals.{journal_of, HasItsLists};
 ghost use Rattle.hs_journal.specs.Statements.{statement_line, draw_statement, step_statement, told_statement};
-ghost use Rattle.hs_journal.specs.Grammar.{HasItsLists, draw_statements, log_statements, statements_text, journal_text};
+ghost use Rattle.hs_journal.specs.Grammar.{draw_statements, log_statements, statements_text, journal_text};
 
-use crate::journal::{Draw, Journal, Step};
 use crate::word::Keyword;
 use hs_base::{Bytes, List, Memory, NodeId};
+use hs_records::{Draw, Journal, Step};
 use hs_text::{Spelled, end_line, push_spaced_numbers};
 use std::alloc::Global;
 

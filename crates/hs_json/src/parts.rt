@@ -4,7 +4,7 @@ ghost use Rattle.std.specs.Prelude.{◌≡◌, [], ◌∷◌, ◌++◌, List, ma
 ghost use Rattle.hs_base.specs.declared.ids.TraceId.{TraceId};
 ghost use Rattle.hs_collect.specs.Collected.{Placed};
 ghost use Rattle.hs_journal.specs.Grammar.{journal_text};
-ghost use Rattle.hs_journal.specs.Views.{PlainJournal, journal_of};
+ghost use Rattle.hs_records.specs.Journals.{PlainJournal, journal_of};
 ghost use Rattle.hs_law_journal.specs.Lawful.{IsLawful};
 ghost use Rattle.hs_law_outcome.specs.OutcomeText.{json_list, ledger_text, outcome_text, report_json};
 ghost use Rattle.hs_law_outcome.specs.declared.form.Form.TheVariants.{Json};

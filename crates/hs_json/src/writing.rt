@@ -2,7 +2,7 @@
 
 ghost use Rattle.std.specs.Prelude.{◌≡◌, ◌++◌, IfOk};
 ghost use Rattle.hs_journal.specs.Grammar.{journal_text};
-ghost use Rattle.hs_journal.specs.Views.{PlainJournal, journal_of};
+ghost use Rattle.hs_records.specs.Journals.{PlainJournal, journal_of};
 ghost use Rattle.hs_law_journal.specs.Lawful.{IsLawful};
 ghost use Rattle.hs_law_outcome.specs.OutcomeText.{outcome_text};
 ghost use Rattle.hs_law_outcome.specs.declared.form.Form.TheVariants.{Json};

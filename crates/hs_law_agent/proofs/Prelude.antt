@@ -7,7 +7,6 @@ pub use Rattle.hs_base.specs.declared.told.Group.{Group}
 pub use Rattle.hs_base.specs.declared.told.Told.{Told}
 pub use Rattle.hs_base.specs.declared.told.Trigger.{Trigger}
 pub use Rattle.hs_base.specs.declared.told.Why.TheVariants.{Answer, Fired}
-pub use Rattle.hs_journal.specs.declared.journal.Step.{Step}
 pub use Rattle.hs_law_agent.specs.Abandoning.{abandon, abandon_group, abandon_within, next_to_go, pinned_groups}
 pub use Rattle.hs_law_agent.specs.Claiming.{claim_each, claim_trace, claim_unclaimed, traces_of}
 pub use Rattle.hs_law_agent.specs.Evicting.{evict, evict_from, evict_trace, is_over, touch}
@@ -21,6 +20,7 @@ pub use Rattle.hs_lists.proofs.Alls.{all_append, all_append_option, all_filter, 
 pub use Rattle.hs_lists.proofs.Counts.{one_few, one_if}
 pub use Rattle.hs_lists.proofs.Filters.{filter_all, filter_few, filter_none}
 pub use Rattle.hs_records.specs.Plain.{PlainSettings}
+pub use Rattle.hs_records.specs.declared.journal.Step.{Step}
 pub use Rattle.hs_sched.specs.Visits.{count_sent}
 pub use Rattle.hs_sched.specs.declared.share.Share.{Share}
 pub use Rattle.hs_words.specs.Pages.{Sheet}

@@ -4,8 +4,8 @@ use Rattle.hs_base.specs.declared.told.Fate.TheVariants as fates
 use Rattle.hs_base.specs.declared.told.Told.{Told}
 use Rattle.hs_base.specs.declared.told.Why.TheVariants.{Fired}
 use Rattle.hs_base.specs.Samples.{one_rule, t, golden as g, twice as g2}
-use Rattle.hs_journal.specs.declared.books.Standing.{Standing}
-use Rattle.hs_journal.specs.declared.journal.Step.TheVariants as steps
+use Rattle.hs_records.specs.declared.books.Standing.{Standing}
+use Rattle.hs_records.specs.declared.journal.Step.TheVariants as steps
 use Rattle.hs_law_agent.specs.Standings.{Pinned, Reported, Abandoned}
 use Rattle.hs_law_agent.specs.State.{AgentState}
 use Rattle.hs_law_agent.specs.Stepping.{AgentEvent, after}

@@ -2,7 +2,7 @@
 use Rattle.std.specs.Prelude.{◌≡◌, [], ◌∷◌, refl}
 use Rattle.hs_base.specs.declared.told.Fate.TheVariants as fates
 use Rattle.hs_base.specs.Samples.{one_rule, t}
-use Rattle.hs_journal.specs.declared.journal.Step.TheVariants as steps
+use Rattle.hs_records.specs.declared.journal.Step.TheVariants as steps
 use Rattle.hs_words.specs.Pages.{Sheet, page_bytes}
 use Rattle.hs_law_agent.specs.Standings.{sample_sheet}
 use Rattle.hs_law_agent.specs.Stepping.{Took, Chunk, after}

@@ -4,9 +4,9 @@ use Rattle.std.specs.Prelude.{ℕ, List, map, filter_map, slice_get, Option, opt
 use Rattle.hs_base.specs.declared.told.Fate.{Fate}
 use Rattle.hs_base.specs.declared.told.Fate.TheVariants as fates
 use Rattle.hs_base.specs.Ranks.{trace_rank}
-use Rattle.hs_journal.specs.declared.books.Standing.{Standing}
-use Rattle.hs_journal.specs.declared.books.Claim.{Claim}
-use Rattle.hs_journal.specs.Books.{PlainAgentBook}
+use Rattle.hs_records.specs.declared.books.Standing.{Standing}
+use Rattle.hs_records.specs.declared.books.Claim.{Claim}
+use Rattle.hs_records.specs.Books.{PlainAgentBook}
 use Rattle.hs_words.specs.Pages.{page_bytes}
 use Rattle.hs_law_agent.specs.Standings.{ChunkStanding, Indexed, Pinned, Reported, Evicted, Abandoned, Taken}
 use Rattle.hs_law_agent.specs.State.{AgentState, ClaimedTrace}

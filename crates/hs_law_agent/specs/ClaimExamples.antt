@@ -3,7 +3,7 @@ use Rattle.std.specs.Prelude.{◌≡◌, List, [], ◌∷◌, map, refl}
 use Rattle.hs_base.specs.declared.told.Told.{Told}
 use Rattle.hs_base.specs.declared.told.Why.TheVariants.{Fired, Answer, Late}
 use Rattle.hs_base.specs.Samples.{rule, one_rule, t}
-use Rattle.hs_journal.specs.declared.journal.Step.TheVariants as steps
+use Rattle.hs_records.specs.declared.journal.Step.TheVariants as steps
 use Rattle.hs_law_agent.specs.Standings.{Indexed, Pinned, Reported, Evicted}
 use Rattle.hs_law_agent.specs.State.{AgentState, ClaimedTrace}
 use Rattle.hs_law_agent.specs.Stepping.{AgentEvent, after}

@@ -7,7 +7,7 @@ use Rattle.std.specs.Option.{option_map, option_to_list}
 use Rattle.hs_base.specs.declared.ids.TraceId.{TraceId}
 use Rattle.hs_base.specs.declared.told.Group.{Group}
 use Rattle.hs_base.specs.Ids.{same_trace}
-use Rattle.hs_journal.specs.declared.journal.Step.{Step}
+use Rattle.hs_records.specs.declared.journal.Step.{Step}
 use Rattle.hs_records.specs.Plain.{PlainSettings}
 use Rattle.hs_sched.specs.declared.share.Share.{Share}
 use Rattle.hs_sched.specs.Visits.{budget_of}

@@ -7,7 +7,7 @@ use Rattle.hs_base.specs.declared.told.Group.{Group}
 use Rattle.hs_base.specs.declared.told.Crumb.{Crumb}
 use Rattle.hs_base.specs.declared.told.Told.{Told}
 use Rattle.hs_base.specs.Ids.{same_trace}
-use Rattle.hs_journal.specs.declared.journal.Step.{Step}
+use Rattle.hs_records.specs.declared.journal.Step.{Step}
 use Rattle.hs_pins.specs.Remembered.{Tried}
 pub use Rattle.hs_pins.specs.Remembered.{is_abandoned}
 use Rattle.hs_records.specs.Plain.{PlainSettings}

@@ -12,8 +12,8 @@ use Rattle.hs_base.specs.declared.told.Group.{Group}
 use Rattle.hs_base.specs.declared.told.Told.{Told}
 use Rattle.hs_base.specs.declared.told.Trigger.{Trigger}
 use Rattle.hs_base.specs.declared.told.Why.TheVariants.{Fired, Answer}
-use Rattle.hs_journal.specs.declared.journal.Step.{Step}
-use Rattle.hs_journal.specs.declared.journal.Step.TheVariants as steps
+use Rattle.hs_records.specs.declared.journal.Step.{Step}
+use Rattle.hs_records.specs.declared.journal.Step.TheVariants as steps
 use Rattle.hs_pins.specs.Buckets.{level_found}
 use Rattle.hs_pins.specs.Remembered.{Tried, moments_of}
 use Rattle.hs_records.specs.Plain.{PlainSettings}

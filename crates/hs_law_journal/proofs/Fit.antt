@@ -5,7 +5,7 @@ use Rattle.hs_law_journal.proofs.Prelude.{AllByRecursion, flat_map, range_with_l
 use Rattle.std.proofs.lemmas.List.Elements.{recursion_from_All}
 use Rattle.hs_auto.specs.declared.sampled.Sampled.TheVariants as answers
 use Rattle.hs_base.specs.Rules.{fired_by}
-use Rattle.hs_journal.specs.declared.journal.Step.TheVariants as steps
+use Rattle.hs_records.specs.declared.journal.Step.TheVariants as steps
 use Rattle.hs_records.specs.Plain as plain
 use Rattle.hs_records.specs.Validity.{IsOperation, IsClient}
 use Rattle.hs_law_journal.specs.Fitting.{MayTake}

@@ -3,7 +3,7 @@ use Rattle.std.proofs.Common.{◌≡◌, inl, inr, ℕ, ◌<◌, ◌≤◌, Bool
 use Rattle.hs_law_journal.proofs.Prelude.{AllByRecursion, flat_map, range_with_len, option_and_then, option_map_or, slice_get-map, slice_get_within, length-map, same_Some, all_append, all_each, all_set, all_at, mapped_from, Messages, Step, PlainJournal, EventsAddThis, AgentState, Chunk, Crumbed, Triggered, Asked, Turn, Answered, Given, Missed, Unread, AgentEvent, Took, Gave, after_event, PlainSettings, PlainWorkload, Sent, ClientSends, client_sends, node_sends, Queue, Chunks, Crumbs, Triggers, Asks, taken, asks_to, asks_behind, next_of, event_of, perform, NodeRun, Run, node_start, run_start, Performs, Leads, Stays, Goes}
 use Rattle.std.proofs.lemmas.Grind.{flat_map-append}
 use Rattle.std.proofs.lemmas.List.FromFn.{length-range_with_len}
-use Rattle.hs_journal.specs.declared.journal.Step.TheVariants as steps
+use Rattle.hs_records.specs.declared.journal.Step.TheVariants as steps
 use Rattle.hs_law_agent.specs.State.{start}
 use Rattle.hs_law_agent.specs.Stepping.{after_from, after}
 use Rattle.hs_law_sends.specs.OneMore.{items_of}

@@ -3,7 +3,7 @@
 use Rattle.std.proofs.Common.{◌≡◌, ℕ, ◌<◌, List, [], ◌∷◌, ◌++◌, length, refl, sym, ap, subst, ◌∙◌, Option, Some, None, inl, inr, arith, map, filter_map, option_map, slice_get, append-nil}
 use Rattle.hs_law_journal.proofs.Prelude.{AllByRecursion, range_with_len, map-append, filter_map-append, all_set, all_at, Messages, Step, PlainJournal, PlainSettings, PlainWorkload, NodeRun, Run, event_of, step_node, node_start, run_start, Performs, Leads, Stays, Goes, EventsAddThis, AgentState, Input, Chunk, Crumbed, Triggered, Asked, Turn, Answered, Given, Missed, Unread, AgentEvent, Took, Gave, after_event}
 use Rattle.std.specs.List.{cons_option}
-use Rattle.hs_journal.specs.declared.journal.Step.TheVariants as steps
+use Rattle.hs_records.specs.declared.journal.Step.TheVariants as steps
 use Rattle.hs_law_journal.specs.Gives.{given_stamp, GivesAsNoted, GivesAreNoted}
 use Rattle.hs_law_journal.proofs.Extending.{noted_step}
 use Rattle.hs_law_journal.proofs.Steps.{step_from, heard_from}

@@ -10,7 +10,7 @@ use Rattle.hs_base.specs.declared.settings.TriggerRule.{TriggerRule}
 use Rattle.hs_base.specs.declared.told.Group.{Group}
 use Rattle.hs_base.specs.declared.told.Why.TheVariants.{Fired, Answer}
 use Rattle.hs_coord.specs.Following.{is_of, first_of, is_newly_asked}
-use Rattle.hs_journal.specs.declared.journal.Step.TheVariants as steps
+use Rattle.hs_records.specs.declared.journal.Step.TheVariants as steps
 use Rattle.hs_law_agent.specs.Laws.{claimed_by, admitted_by, AllPass, IsPassed, AddsFew, EventsAddFew, SaysWhatItTells}
 use Rattle.hs_law_agent.specs.Messages.{has_crumb, told_of, late_of}
 use Rattle.hs_base.specs.declared.limits.TheConstants.{TOKEN}

@@ -2,7 +2,7 @@
 use Rattle.std.proofs.Common.{◌≡◌, true, refl, eq-eqb, List, [], ◌∷◌, false, ℕ, ◌<◌, arith, nat_lt, ltb-true, ◌++◌, sym, ap, ◌∙◌, append_assoc, append-nil, ◌+◌, suc, ◌-◌, ◌*◌, ◌≤◌}
 use Rattle.hs_law_journal.proofs.Prelude.{and_from, and_parts, filter_map-append, sum_by-append, AllByRecursion, all_each, one_if, Step, Ask, same_steps, is_turn, is_offer, asks_behind, ask_by, Queue, takes, taken}
 use Rattle.std.proofs.Math.Nat.{div-lt_iff_lt-mul, suc-mul}
-use Rattle.hs_journal.specs.declared.journal.Step.TheVariants as steps
+use Rattle.hs_records.specs.declared.journal.Step.TheVariants as steps
 use Rattle.hs_coord.specs.Messages.{Message, Messages}
 use Rattle.hs_law_journal.specs.Passes.{same_step}
 use Rattle.hs_law_journal.specs.Shape.{rise_above, step_stamp, log_stamps}

@@ -11,7 +11,7 @@ use Rattle.hs_lists.proofs.Alls.{all_replicate}
 use Rattle.hs_lists.proofs.Filters.{filter_all, filter_none}
 use Rattle.hs_lists.proofs.Numbers.{nat_eq_below}
 use Rattle.hs_base.specs.declared.limits.TheConstants.{MAX_TAKEN}
-use Rattle.hs_journal.specs.declared.journal.Step.TheVariants as steps
+use Rattle.hs_records.specs.declared.journal.Step.TheVariants as steps
 use Rattle.hs_law_journal.specs.Passes.{ends_between, put_step, passes_of, client_queues, queues_of, arranged, is_whole_pass}
 use Rattle.hs_law_journal.proofs.Logs.{same_steps_refl, IsTake}
 use Rattle.hs_law_journal.specs.Doings.{joined, steps_of}

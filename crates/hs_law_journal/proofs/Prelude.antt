@@ -11,9 +11,6 @@ pub use Rattle.hs_base.specs.declared.told.Crumb.{Crumb}
 pub use Rattle.hs_base.specs.declared.told.Told.{Told}
 pub use Rattle.hs_base.specs.declared.told.Trigger.{Trigger}
 pub use Rattle.hs_coord.specs.Following.{Message, message, Messages}
-pub use Rattle.hs_journal.specs.Views.{PlainJournal}
-pub use Rattle.hs_journal.specs.declared.journal.Draw.{Draw}
-pub use Rattle.hs_journal.specs.declared.journal.Step.{Step}
 pub use Rattle.hs_law_agent.specs.Laws.{EventsAddThis, noted_as, StepsSayWhatTheyTell}
 pub use Rattle.hs_law_agent.specs.Leading.{CrumbsLeadBelow}
 pub use Rattle.hs_law_agent.specs.State.{AgentState}
@@ -30,9 +27,12 @@ pub use Rattle.hs_lists.proofs.Alls.{all_append, all_at, all_each, all_set}
 pub use Rattle.hs_lists.proofs.Counts.{one_if}
 pub use Rattle.hs_lists.proofs.Options.{mapped_from, option_unmap}
 pub use Rattle.hs_lists.proofs.Places.{get_front, get_other, get_set}
+pub use Rattle.hs_records.specs.Journals.{PlainJournal}
 pub use Rattle.hs_records.specs.Plain.{Begin, End, Fire, Operation, PlainSettings, PlainWorkload, Point, Sample}
 pub use Rattle.hs_records.specs.Records.{numbered_from, NumberedOperation, open_behind}
 pub use Rattle.hs_records.specs.Validity.{IsValid}
+pub use Rattle.hs_records.specs.declared.journal.Draw.{Draw}
+pub use Rattle.hs_records.specs.declared.journal.Step.{Step}
 pub use Rattle.hs_words.specs.Pages.{Sheet}
 pub use Rattle.std.proofs.lemmas.Bool.{and_from, and_parts, cases_eq}
 pub use Rattle.std.proofs.lemmas.List.{length-map, map-append, nil_from_length}

@@ -2,7 +2,7 @@
 -- that its agent said before. More messages heard make no step less ready.
 use Rattle.std.proofs.Common.{◌≡◌, ℕ, List, [], ◌∷◌, ◌++◌, refl, sym, ap, ◌∙◌, Option, Some, None, append_assoc, append-nil, option_map, slice_get}
 use Rattle.hs_law_journal.proofs.Prelude.{option_to_list, get_front, mapped_from, NodeId, Ask, Told, Message, Messages, Step, StepsSayWhatTheyTell, AgentState, AgentEvent, Took, Gave, Asked, told_by, after_event, PlainSettings, Asks, taken, ask_by, asks_behind, asks_to, NodeRun, Run, event_of, perform, step_of, step_node, message_of, hear}
-use Rattle.hs_journal.specs.declared.journal.Step.TheVariants as steps
+use Rattle.hs_records.specs.declared.journal.Step.TheVariants as steps
 
 -- ---- options
 

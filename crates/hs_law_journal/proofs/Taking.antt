@@ -5,7 +5,7 @@ use Rattle.std.proofs.Math.Seq.{take-append_seam}
 use Rattle.hs_lists.proofs.Alls.{all_take, all_front, all_back}
 use Rattle.hs_lists.proofs.Numbers.{nat_eq_itself}
 use Rattle.hs_lists.proofs.Ranges.{range_found}
-use Rattle.hs_journal.specs.declared.journal.Draw.TheVariants.{Got, Empty}
+use Rattle.hs_records.specs.declared.journal.Draw.TheVariants.{Got, Empty}
 use Rattle.hs_law_agent.specs.Laws.{PagesRise, sheets_of, brought_by}
 use Rattle.hs_law_journal.specs.Doings.{chunk_in, chunks_in}
 use Rattle.hs_law_journal.specs.Taking.{is_by, sheets_sent, TakesInOrder, ChunksAreTakenInOrder, TakenPagesRise}

@@ -3,7 +3,7 @@
 -- Nothing waits any more in a queue of a client, among the asks or among the messages, and nothing is pinned.
 use Rattle.std.specs.Prelude.{◌≡◌, ℕ, ◌+◌, ◌-◌, ◌/◌, Bool, ◌&&◌, ◌==◌, nat_le, max, List, length, map, fold, count_by, zip, refl}
 use Rattle.std.specs.List.{range_with_len, list_all}
-use Rattle.hs_journal.specs.declared.journal.Step.{Step}
+use Rattle.hs_records.specs.declared.journal.Step.{Step}
 use Rattle.hs_records.specs.Plain.{PlainWorkload}
 use Rattle.hs_law_sends.specs.Sending.{ClientSends}
 use Rattle.hs_law_journal.specs.Following.{Chunks, Crumbs, Triggers, Asks, taken, asks_to, is_from, NodeRun, Run, is_done, log_at}

@@ -8,9 +8,9 @@ use Rattle.std.specs.Option.{option_and_then}
 use Rattle.hs_base.specs.declared.ids.NodeId.{NodeId}
 use Rattle.hs_base.specs.declared.told.Ask.{Ask}
 use Rattle.hs_coord.specs.Following.{Message, Messages, message, first_of, is_newly_asked}
-use Rattle.hs_journal.specs.declared.journal.Step.{Step}
-use Rattle.hs_journal.specs.declared.journal.Step.TheVariants as steps
-use Rattle.hs_journal.specs.Views.{PlainJournal}
+use Rattle.hs_records.specs.declared.journal.Step.{Step}
+use Rattle.hs_records.specs.declared.journal.Step.TheVariants as steps
+use Rattle.hs_records.specs.Journals.{PlainJournal}
 use Rattle.hs_law_agent.specs.State.{AgentState, start}
 use Rattle.hs_law_agent.specs.Stepping.{Answered, Given, Missed, Unread, Chunk, Crumbed, Triggered, Asked, Turn, AgentEvent, Took, Gave, after_event}
 use Rattle.hs_records.specs.Plain.{PlainSettings, PlainWorkload}

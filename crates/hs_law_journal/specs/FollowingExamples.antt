@@ -4,7 +4,7 @@ use Rattle.hs_base.specs.declared.ids.NodeId.{NodeId}
 use Rattle.hs_base.specs.declared.told.Ask.{Ask}
 use Rattle.hs_base.specs.declared.told.Why.TheVariants.{Fired, Answer}
 use Rattle.hs_coord.specs.Messages.{Message, sample}
-use Rattle.hs_journal.specs.declared.journal.Draw.TheVariants.{Got}
+use Rattle.hs_records.specs.declared.journal.Draw.TheVariants.{Got}
 use Rattle.hs_law_journal.specs.Following.{Chunks, Crumbs, Triggers, Asks, takes, taken, asks_to, NodeRun, followed, is_done}
 use Rattle.hs_law_journal.specs.Journals
 use Rattle.hs_law_journal.specs.Samples.{journal, alone, chunk, crumb, ask, turn, given}

@@ -1,7 +1,7 @@
 -- For the worked examples: the journals of the small workloads, as one thread in lockstep makes them.
 use Rattle.std.specs.Prelude.{[], ◌∷◌}
-use Rattle.hs_journal.specs.declared.journal.Draw.TheVariants.{Got, Empty}
-use Rattle.hs_journal.specs.Views.{PlainJournal}
+use Rattle.hs_records.specs.declared.journal.Draw.TheVariants.{Got, Empty}
+use Rattle.hs_records.specs.Journals.{PlainJournal}
 use Rattle.hs_law_journal.specs.Samples.{journal, alone, chunk, crumb, trigger, ask, turn, given}
 
 abbrev pub of_nothing : PlainJournal

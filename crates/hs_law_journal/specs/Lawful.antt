@@ -2,7 +2,7 @@
 -- before it: what a give gives is known once the journal was followed. The first that fails is what is said of a journal.
 use Rattle.std.specs.Prelude.{◌≡◌, ℕ, Bool, true, not, List, [], ◌∷◌, Option, option_map, find}
 use Rattle.std.specs.List.{AllByRecursion}
-use Rattle.hs_journal.specs.Views.{PlainJournal}
+use Rattle.hs_records.specs.Journals.{PlainJournal}
 use Rattle.hs_records.specs.Plain.{PlainWorkload}
 use Rattle.hs_words.specs.PoolHistory.{IsPoolHistory}
 use Rattle.hs_law_journal.specs.Ends.{is_followed, has_rounds, is_bare}

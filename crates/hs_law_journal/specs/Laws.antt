@@ -3,7 +3,7 @@
 -- it met lead to, so all that is proved of the agent's model holds of it.
 use Rattle.std.specs.Prelude.{◌≡◌, ℕ, true, List, None}
 use Rattle.std.specs.List.{AllByRecursion}
-use Rattle.hs_journal.specs.Views.{PlainJournal}
+use Rattle.hs_records.specs.Journals.{PlainJournal}
 use Rattle.hs_law_agent.specs.Stepping.{after}
 use Rattle.hs_records.specs.Plain.{PlainSettings, PlainWorkload}
 use Rattle.hs_words.specs.PoolHistory.{PoolEvent, IsPoolHistory}

@@ -2,7 +2,7 @@
 -- node, or the next message that the coordinator takes. A run is at rest where nothing is ready. All orders that lead to rest lead
 -- to the same run, so a journal has one outcome.
 use Rattle.std.specs.Prelude.{◌≡◌, ◌⊎◌, ℕ, true, Some, set, slice_get}
-use Rattle.hs_journal.specs.Views.{PlainJournal}
+use Rattle.hs_records.specs.Journals.{PlainJournal}
 use Rattle.hs_records.specs.Plain.{PlainSettings, PlainWorkload}
 use Rattle.hs_law_journal.specs.Following.{NodeRun, Run, run_start, step_node, hear, followed, is_done}
 

@@ -6,7 +6,7 @@ use Rattle.std.specs.Prelude.{◌≡◌, ℕ, zero, suc, ◌+◌, ◌-◌, ◌*�
 use Rattle.std.specs.List.{range_with_len, list_all}
 use Rattle.hs_base.specs.declared.limits.TheConstants.{MAX_TAKEN}
 use Rattle.hs_coord.specs.Following.{Messages}
-use Rattle.hs_journal.specs.declared.journal.Step.{Step}
+use Rattle.hs_records.specs.declared.journal.Step.{Step}
 use Rattle.hs_records.specs.Plain.{PlainSettings}
 use Rattle.hs_law_sends.specs.Drawn.{DrawnPage, stamp_of}
 use Rattle.hs_law_sends.specs.Sending.{Sent, ClientSends, sent_within}

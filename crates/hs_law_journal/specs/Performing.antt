@@ -4,7 +4,7 @@ use Rattle.std.specs.Prelude.{◌≡◌, ℕ, List, [], ◌∷◌, ◌++◌, Opt
 use Rattle.std.specs.Option.{option_and_then}
 use Rattle.hs_base.specs.declared.ids.NodeId.{NodeId}
 use Rattle.hs_coord.specs.Following.{Message, Messages}
-use Rattle.hs_journal.specs.declared.journal.Step.{Step}
+use Rattle.hs_records.specs.declared.journal.Step.{Step}
 use Rattle.hs_records.specs.Plain.{PlainSettings}
 use Rattle.hs_law_journal.specs.Following.{NodeRun, event_of, perform, message_of, asks_to, ask_by}
 

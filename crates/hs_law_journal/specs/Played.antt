@@ -1,7 +1,7 @@
 -- A workload beside a journal and the run in which the journal was followed: what the clauses of the lawful journal look at.
 use Rattle.std.specs.Prelude.{ℕ, List, take}
 use Rattle.std.specs.List.{range_with_len}
-use Rattle.hs_journal.specs.Views.{PlainJournal}
+use Rattle.hs_records.specs.Journals.{PlainJournal}
 use Rattle.hs_law_agent.specs.State.{AgentState}
 use Rattle.hs_law_agent.specs.Stepping.{after}
 use Rattle.hs_records.specs.Plain.{PlainSettings, PlainWorkload}

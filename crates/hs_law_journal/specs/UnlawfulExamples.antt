@@ -1,8 +1,8 @@
 -- For each clause small journals that fail it, and none of the clauses asked before it.
 use Rattle.std.specs.Prelude.{◌≡◌, List, [], ◌∷◌, ◌++◌, Some, refl}
-use Rattle.hs_journal.specs.declared.journal.Draw.{Draw}
-use Rattle.hs_journal.specs.declared.journal.Draw.TheVariants.{Got, Empty}
-use Rattle.hs_journal.specs.declared.journal.Step.TheVariants.{Chunk}
+use Rattle.hs_records.specs.declared.journal.Draw.{Draw}
+use Rattle.hs_records.specs.declared.journal.Draw.TheVariants.{Got, Empty}
+use Rattle.hs_records.specs.declared.journal.Step.TheVariants.{Chunk}
 use Rattle.hs_records.specs.Plain.{PlainWorkload}
 use Rattle.hs_law_sends.specs.Samples.{settings, workload, segment}
 use Rattle.hs_law_journal.specs.Lawful.{first_unlawful}

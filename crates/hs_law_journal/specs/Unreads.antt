@@ -5,7 +5,7 @@
 use Rattle.std.specs.Prelude.{◌≡◌, ℕ, ◌+◌, ◌-◌, ◌*◌, ◌/◌, Bool, false, not, ◌&&◌, ◌==◌, nat_lt, nat_le, List, length, map, take, filter, zip, count_by, slice_get, refl}
 use Rattle.std.specs.List.{range_with_len, list_all, list_any}
 use Rattle.std.specs.Option.{option_map_or}
-use Rattle.hs_journal.specs.declared.journal.Step.{Step}
+use Rattle.hs_records.specs.declared.journal.Step.{Step}
 use Rattle.hs_law_agent.specs.State.{AgentState, GivenPlace}
 use Rattle.hs_records.specs.Plain.{PlainSettings}
 use Rattle.hs_law_sends.specs.Drawn.{DrawnPage, has_buffer, stamp_of}

@@ -5,7 +5,7 @@ use Rattle.hs_law_agent.specs.Stepping.{Given, step_of_answer}
 use Rattle.hs_law_journal.specs.LoopPasses.{step_from}
 use Rattle.hs_law_journal.specs.Passes.{client_queues}
 use Rattle.hs_law_journal.specs.Played.{clients_of}
-use Rattle.hs_journal.specs.declared.journal.Step.TheVariants as steps
+use Rattle.hs_records.specs.declared.journal.Step.TheVariants as steps
 
 module _ (W : PlainWorkload) (m : Machine) (node : NodeRun) (i : ℕ) where
   abbrev takes_count : {A : Type 0} → Queue → List (Sent A) → ℕ → ℕ

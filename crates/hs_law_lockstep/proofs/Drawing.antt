@@ -3,7 +3,7 @@
 use Rattle.std.proofs.Common.{◌≡◌, ◌⊎◌, inl, inr, ℕ, zero, suc, ◌+◌, ◌<◌, ◌≤◌, Bool, true, false, cond, List, [], ◌∷◌, ◌++◌, length, refl, sym, ap, subst, ◌∙◌, Some, None, arith, map, filter, drop, reverse, slice_get, append_assoc, append-nil, length-append}
 use Rattle.hs_law_lockstep.proofs.Prelude.{AllByRecursion, cons_option, option_and_then, map-append, reverse-append, filter-append, flat_map-append, slice_get_within, same_Some, get_front, get_mid, ClientId, Draw, Step, GivenPlace, DrawnPage, stamp_of, has_buffer, drawn_from, Sent, ClientSends, sheet_of, sent_chunks, TimedPage, Sheet, PoolEvent, Got, Empty, queue_after, StampedPoolEvent, drawn_event, event_drawn, rise, Chunks, taken, next_draws}
 use Rattle.std.proofs.lemmas.List.{reverse-reverse}
-use Rattle.hs_journal.specs.declared.journal.Draw.TheVariants as draws
+use Rattle.hs_records.specs.declared.journal.Draw.TheVariants as draws
 use Rattle.hs_law_lockstep.proofs.Growing.{events_back, history_of, IsPooled, IsOut, IsAnswered, next, after, back, answered, longer, got_kept, got_out, got_stays, empty_kept, empty_stays}
 use Rattle.hs_law_lockstep.proofs.Holding.{page_in, pages_in, gives_in, events_in, event_at, event_there, WasGiven, IsDrawn, GiveAnswers, ClientHolds, Holds, InFront, Behind, in_either, rises_more, FoundPage, page_found, at_page, all_answers}
 

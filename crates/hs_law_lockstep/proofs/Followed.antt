@@ -4,7 +4,7 @@ use Rattle.std.proofs.Common.{◌≡◌, ℕ, zero, suc, ◌+◌, ◌-◌, ◌/�
 use Rattle.hs_law_lockstep.proofs.Prelude.{AllByRecursion, flat_map, range_with_len, both_true, option_map_or, length-map, length-replicate, length-range_with_len, slice_get-map, slice_get_within, all_by_place, all_map, all_append, all_each, all_at, drop_length, count_append, list_all_from, NodeId, Messages, Draw, Step, PlainJournal, PlainWorkload, draws_at, operations_at, node_behind, run_behind, IsOfJournal, Queue, takes, taken, is_from, NodeRun, Run, log_at, node_start, run_start, followed, Leads, Stays, is_offer, pool_events, supply, said_at, same_supply, Known, Machine, machine_start, done_at, draws_in, pages_started, client_goes, pass_steps, give_steps, with_steps, agents_take, agents_give, told_of, coordinator_hears}
 use Rattle.hs_lists.proofs.Ranges.{range_found}
 use Rattle.hs_lists.proofs.Parts.{drop_front}
-use Rattle.hs_journal.specs.declared.journal.Step.TheVariants as steps
+use Rattle.hs_records.specs.declared.journal.Step.TheVariants as steps
 use Rattle.hs_law_journal.specs.Extending.{HasMore, GoesOn, NodesAreOfJournal}
 use Rattle.hs_law_journal.specs.Following.{is_done}
 use Rattle.hs_law_journal.specs.Supply.{TakesWhatIsThere}

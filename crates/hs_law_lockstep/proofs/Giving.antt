@@ -2,7 +2,7 @@
 use Rattle.std.proofs.Common.{◌≡◌, ℕ, zero, suc, ◌+◌, ◌<◌, ◌≤◌, ◌^◌, List, [], ◌∷◌, ◌++◌, length, refl, sym, ap, subst, ◌∙◌, Some, arith, map, option_map, drop, take, reverse, slice_get, append-nil}
 use Rattle.hs_law_lockstep.proofs.Prelude.{range_with_len, option_and_then, map-append, length-reverse, reverse-append, length-range_with_len, same_Some, all_at, Messages, Step, Gave, PlainSettings, PlainWorkload, PoolEvent, Given, IsHistoryBack, MayFollow, NodeRun, event_of, perform, followed, StampedPoolEvent, by_stamp, pool_events, pool_history, Known, Machine, give_steps, agents_give, node_at, heard_in, after_steps, IsReached}
 use Rattle.std.proofs.lemmas.List.{length-drop}
-use Rattle.hs_journal.specs.declared.journal.Step.TheVariants as steps
+use Rattle.hs_records.specs.declared.journal.Step.TheVariants as steps
 use Rattle.hs_law_agent.specs.Stepping as model
 use Rattle.hs_law_lockstep.specs.Parts.{GivesNext, AgentGives}
 use Rattle.hs_law_lockstep.proofs.Followed.{left_is, give_there, StepsThere}

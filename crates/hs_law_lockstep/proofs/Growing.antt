@@ -4,7 +4,7 @@ use Rattle.std.proofs.Common.{◌≡◌, ℕ, zero, suc, ◌+◌, ◌<◌, ◌�
 use Rattle.hs_law_lockstep.proofs.Prelude.{AllByRecursion, flat_map, range_with_len, both_true, map-append, reverse-append, filter-append, count_cons, count_append, all_append, all_each, PoolEvent, Got, Empty, Given, Missed, is_got, is_given, queue_after, MayFollow, IsHistoryBack, StampedPoolEvent, by_stamp, answers_draw}
 use Rattle.std.proofs.lemmas.Bool.{eqb-false}
 use Rattle.hs_lists.proofs.Counts.{one_of_below, one_if as one}
-use Rattle.hs_journal.specs.declared.journal.Draw.TheVariants as draws
+use Rattle.hs_records.specs.declared.journal.Draw.TheVariants as draws
 use Rattle.hs_law_journal.specs.Pooled.{has_buffer, is_touched}
 
 -- what happened, the latest first

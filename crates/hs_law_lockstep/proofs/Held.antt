@@ -2,8 +2,8 @@
 -- gives bears the next stamps.
 use Rattle.std.proofs.Common.{◌≡◌, ℕ, zero, suc, ◌+◌, ◌<◌, ◌≤◌, Bool, true, false, cond, List, [], ◌∷◌, ◌++◌, length, refl, sym, ap, subst, ◌∙◌, Option, Some, None, arith, map, filter, filter_map, option_map, slice_get, eqb, eq-eqb, append-nil}
 use Rattle.hs_law_lockstep.proofs.Prelude.{cons_option, option_and_then, option_map_or, slice_get-map, same_Some, option_unmap, one_if, count_cons, count_append, Messages, Draw, Step, count_of, PlacesMatch, ListsHaveTheirChunks, sheets_of, brought_by, noted_as, EventsAddThis, Taken, stands, AgentState, GivenPlace, Input, Chunk, Crumbed, Triggered, Asked, Turn, AgentEvent, Took, Gave, after_event, PlainSettings, DrawnPage, has_buffer, Sent, ClientSends, sheet_of, sent_chunks, Sheet, Chunks, Crumbs, Triggers, Asks, taken, takes, asks_to, NodeRun, next_of, event_of, perform, ComesByEvents, is_offer, StampedPoolEvent, drawn_event, buffer_of, page_of, given_page, missed_event, node_pages, pool_events, step_stamp}
-use Rattle.hs_journal.specs.declared.journal.Draw.TheVariants as draws
-use Rattle.hs_journal.specs.declared.journal.Step.TheVariants as steps
+use Rattle.hs_records.specs.declared.journal.Draw.TheVariants as draws
+use Rattle.hs_records.specs.declared.journal.Step.TheVariants as steps
 use Rattle.hs_law_agent.specs.Laws.{given_places, EventsGoOn}
 use Rattle.hs_law_agent.specs.Standings.{is_let_go}
 use Rattle.hs_law_agent.specs.Stepping as model

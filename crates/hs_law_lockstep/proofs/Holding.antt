@@ -4,8 +4,8 @@ use Rattle.std.proofs.Common.{◌≡◌, ◌⊎◌, inl, inr, ℕ, zero, suc, �
 use Rattle.hs_law_lockstep.proofs.Prelude.{AllByRecursion, flat_map, cons_option, option_and_then, both_true, map-append, same_Some, get_front, get_mid, one_if, count_cons, count_append, all_append, all_front, Step, GivenPlace, DrawnPage, stamp_of, Sent, ClientSends, sheet_of, sent_chunks, Sheet, Given, Chunks, taken, takes, StampedPoolEvent, drawn_event, buffer_of, missed_event, step_stamp, log_stamps, rise}
 use Rattle.std.proofs.lemmas.List.Elements.{filter_map-append}
 use Rattle.hs_lists.proofs.Places.{get_behind}
-use Rattle.hs_journal.specs.declared.journal.Draw.TheVariants as draws
-use Rattle.hs_journal.specs.declared.journal.Step.TheVariants as steps
+use Rattle.hs_records.specs.declared.journal.Draw.TheVariants as draws
+use Rattle.hs_records.specs.declared.journal.Step.TheVariants as steps
 use Rattle.hs_law_journal.specs.Pooled.{has_buffer}
 use Rattle.hs_law_journal.specs.Shape.{rise_above}
 use Rattle.hs_law_lockstep.proofs.Growing.{stamps_of, IsPooled, IsOut, IsAnswered, answered, given_kept, given_answers, given_stays}

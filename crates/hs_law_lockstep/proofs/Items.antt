@@ -5,7 +5,7 @@ use Rattle.hs_lists.proofs.Places.{zipped_at}
 use Rattle.hs_base.specs.declared.settings.AutoRule.{AutoRule}
 use Rattle.hs_base.specs.declared.told.Crumb.{Crumb}
 use Rattle.hs_base.specs.declared.told.Trigger.{Trigger}
-use Rattle.hs_journal.specs.declared.journal.Step.TheVariants as steps
+use Rattle.hs_records.specs.declared.journal.Step.TheVariants as steps
 use Rattle.hs_law_sends.specs.Sending.{crumb_in, trigger_in, triggers_behind}
 use Rattle.hs_law_lockstep.proofs.Takes.{gives}
 

@@ -4,7 +4,7 @@ use Rattle.std.proofs.Common.{◌≡◌, ◌≢◌, ℕ, zero, suc, ◌+◌, ◌
 use Rattle.hs_law_lockstep.proofs.Prelude.{AllByRecursion, flat_map, range_with_len, option_map_or, leb-true, length-map, map-append, length-reverse, length-range_with_len, div-mul-add, all_by_place, all_map, all_append, all_each, all_at, unwrap_set, unwrap_other, ClientId, Draw, Step, PlainJournal, sheets_of, Operation, PlainWorkload, DrawnPage, stamp_of, drawn_from, drawn_pages, ClientSends, sent_chunks, client_sends, node_sends, operations_at, draws_at, place_of, TimedPage, timed_pages, queue_after, node_behind, IsOfJournal, NodeRun, Run, node_start, followed, is_offer, drawn_event, pool_events, pool_history, rise, Known, Machine, machine_start, done_at, next_draws, draws_by, draws_in, pages_started, client_goes, pass_steps, give_steps, agents_take, agents_give, coordinator_hears, passes}
 use Rattle.std.proofs.lemmas.Bool.{leb-false}
 use Rattle.std.proofs.lemmas.List.{set_past}
-use Rattle.hs_journal.specs.declared.journal.Step.TheVariants as steps
+use Rattle.hs_records.specs.declared.journal.Step.TheVariants as steps
 use Rattle.hs_law_sends.specs.Sending.{sends_of}
 use Rattle.hs_law_lockstep.proofs.Drawing.{grown, draws_keep}
 use Rattle.hs_law_lockstep.proofs.Followed.{IsDone, number_is, draws_are, passed, enough_of, left_is, steps_there, StepsThere, take_keeps, give_keeps, hear_there, hear_keeps, client_keeps, begins, starts_at, nodes_of_journal}

@@ -21,7 +21,7 @@ use Rattle.hs_law_run.proofs.Workloads.{fit_of}
 use Rattle.hs_law_run.specs.Facts.{MeetsInRounds}
 use Rattle.hs_law_run.specs.Stories.{added}
 use Rattle.std.proofs.lemmas.List.Elements.{filter_map-append}
-use Rattle.hs_journal.specs.declared.journal.Step.TheVariants as steps
+use Rattle.hs_records.specs.declared.journal.Step.TheVariants as steps
 use Rattle.hs_records.specs.declared.setting.Setting.TheVariants as settings
 use Rattle.hs_law_lockstep.proofs.Gone as gone_is
 use Rattle.hs_law_lockstep.specs.Reaching as reaching

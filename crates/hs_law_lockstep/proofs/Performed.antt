@@ -1,7 +1,7 @@
 -- A node that walks through all its steps comes to where these steps lead when they are performed one after another, with nothing left.
 use Rattle.std.proofs.Common.{◌≡◌, List, [], ◌∷◌, refl, sym, ap, subst, ◌∙◌, Option, Some, None, option_map}
 use Rattle.hs_law_lockstep.proofs.Prelude.{option_and_then, same_Some, Messages, Step, AgentEvent, PlainSettings, NodeRun, event_of, perform, after_steps}
-use Rattle.hs_journal.specs.declared.journal.Step.TheVariants as steps
+use Rattle.hs_records.specs.declared.journal.Step.TheVariants as steps
 use Rattle.hs_law_journal.proofs.Steps.{step_from}
 use Rattle.hs_law_lockstep.proofs.Walks.{Walks, Walked, IsThrough, Stands, Steps, step_is}
 

@@ -7,9 +7,9 @@ pub use Rattle.hs_base.specs.declared.limits.TheConstants.{MAX_OPERATIONS, MAX_T
 pub use Rattle.hs_base.specs.declared.settings.TriggerRule.{TriggerRule}
 pub use Rattle.hs_base.specs.declared.told.Ask.{Ask}
 pub use Rattle.hs_coord.specs.Following.{Message, message, Messages}
-pub use Rattle.hs_journal.specs.Views.{PlainJournal}
-pub use Rattle.hs_journal.specs.declared.journal.Draw.{Draw}
-pub use Rattle.hs_journal.specs.declared.journal.Step.{Step}
+pub use Rattle.hs_records.specs.Journals.{PlainJournal}
+pub use Rattle.hs_records.specs.declared.journal.Draw.{Draw}
+pub use Rattle.hs_records.specs.declared.journal.Step.{Step}
 pub use Rattle.hs_law_agent.specs.Laws.{brought_by, CanReport, count_of, EventsAddThis, ListsHaveTheirChunks, noted_as, PlacesMatch, sheets_of}
 pub use Rattle.hs_law_agent.specs.Standings.{stands, Taken}
 pub use Rattle.hs_law_agent.specs.State.{AgentState, GivenPlace}

@@ -2,7 +2,7 @@
 -- off, if something was pinned.
 use Rattle.std.proofs.Common.{◌≡◌, ◌⊎◌, inl, inr, ℕ, ◌+◌, ◌<◌, ◌≤◌, false, List, [], ◌∷◌, length, refl, sym, ap, subst, ◌∙◌, Some, arith, slice_get, length-append}
 use Rattle.hs_law_lockstep.proofs.Prelude.{HaveWeights, range_with_len, length-map, length-range_with_len, slice_get-map, same_Some, all_by_place, all_map, all_append, all_at, option_unmap, MIN_SIZE, Step, noted_as, CanReport, AgentState, AgentEvent, PlainWorkload, client_sends, node_sends, node_behind, NodeRun, Run, followed, event_of, perform, is_offer, pool_events, IsLaidOut, Known, Machine, pass_steps, give_steps, agents_take, agents_give, coordinator_hears, passes}
-use Rattle.hs_journal.specs.declared.journal.Step.TheVariants as steps
+use Rattle.hs_records.specs.declared.journal.Step.TheVariants as steps
 use Rattle.hs_law_lockstep.proofs.Followed.{number_is, enough_of, left_is, steps_there, StepsThere, hear_there, IsDone}
 use Rattle.hs_law_journal.proofs.Groups.{Spoken, all_spoken}
 use Rattle.hs_law_lockstep.proofs.Held.{IsHeld}

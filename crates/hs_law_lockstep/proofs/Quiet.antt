@@ -7,7 +7,7 @@ use Rattle.hs_law_lockstep.proofs.Takes.{before_turn, all_takes}
 use Rattle.hs_law_lockstep.proofs.Told.{all_events_are}
 use Rattle.hs_law_run.specs.Unread.{IsRead}
 use Rattle.hs_law_lockstep.specs.Told.{gone, events_at, node_doings}
-use Rattle.hs_journal.specs.declared.journal.Step.TheVariants as steps
+use Rattle.hs_records.specs.declared.journal.Step.TheVariants as steps
 
 all_noted : (events : List AgentEvent) (log : List Step) → map noted_as events ≡ log → AllByRecursion (λ (step : Step). is_unread step ≡ false) log → AllByRecursion IsRead events
 all_noted events log e all = unmapped events (subst (AllByRecursion (λ (step : Step). is_unread step ≡ false)) (sym e) all)

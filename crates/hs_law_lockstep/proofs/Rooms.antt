@@ -2,7 +2,7 @@
 -- most those that were said and not heard.
 use Rattle.std.proofs.Common.{◌≡◌, ℕ, zero, suc, ◌+◌, ◌-◌, ◌<◌, ◌≤◌, min, Bool, true, false, cond, List, [], ◌∷◌, ◌++◌, length, replicate, refl, ap, ◌∙◌, Option, Some, None, arith, map, zip, slice_get, count_by, eqb, eqb-true}
 use Rattle.hs_law_lockstep.proofs.Prelude.{flat_map, range_with_len, option_map_or, one_if, count_cons, count_append, filter_few, NodeId, MAX_TAKEN, Step, PlainWorkload, ClientSends, place_of, sent_within, Queue, Chunks, Crumbs, Triggers, Asks, takes, taken, asks_to, is_from, NodeRun, Run, sent_to, supply, said_at, Machine, takes_from, takes_of, takes_all, pass_steps, told_of, done_at}
-use Rattle.hs_journal.specs.declared.journal.Step.TheVariants as steps
+use Rattle.hs_records.specs.declared.journal.Step.TheVariants as steps
 use Rattle.hs_law_lockstep.proofs.Walks.{is_node}
 
 module _ {X : Type 0} where

@@ -1,7 +1,7 @@
 -- What an agent takes in a pass: steps that take from a queue, and no others before its turn.
 use Rattle.std.proofs.Common.{ℕ, List, map, ◌++◌, length, zip}
 use Rattle.hs_law_lockstep.proofs.Prelude.{AllByRecursion, range_with_len, all_append, all_replicate, all_flat_map, Step, PlainWorkload, ClientSends, place_of, sent_within, Chunks, Crumbs, Triggers, Asks, NodeRun, Run, asks_to, Machine, takes_from, takes_of, takes_all, done_at}
-use Rattle.hs_journal.specs.declared.journal.Step.TheVariants as steps
+use Rattle.hs_records.specs.declared.journal.Step.TheVariants as steps
 
 -- what is taken before the turn
 abbrev pub before_turn : PlainWorkload → Machine → Run → NodeRun → List Step

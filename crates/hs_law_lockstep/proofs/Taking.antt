@@ -1,7 +1,7 @@
 -- What the agents take, step by step: each node comes to where its steps lead, one after another, and its pool stands still meanwhile.
 use Rattle.std.proofs.Common.{◌≡◌, ℕ, false, List, [], ◌∷◌, refl, sym, ap, subst, ◌∙◌, Some, arith, map, slice_get}
 use Rattle.hs_law_lockstep.proofs.Prelude.{AllByRecursion, slice_get_within, same_Some, all_by_place, all_map, all_append, all_at, get_there, Messages, Step, PlainSettings, PlainWorkload, ClientSends, node_behind, NodeRun, Run, perform, followed, is_offer, pool_history, Known, Machine, pass_steps, with_steps, agents_take, node_at, after_steps, IsReached}
-use Rattle.hs_journal.specs.declared.journal.Step.TheVariants as steps
+use Rattle.hs_records.specs.declared.journal.Step.TheVariants as steps
 use Rattle.hs_law_lockstep.specs.Parts.{AgentTakes, AgentsTakeSo}
 use Rattle.hs_law_lockstep.proofs.Followed.{IsDone, count_nodes, enough_of, left_is, StepsThere, steps_there}
 use Rattle.hs_law_lockstep.proofs.Growing.{history_of}

@@ -2,7 +2,7 @@
 -- take is ready as long as there is enough of it, and an offer as long as the hand has a buffer.
 use Rattle.std.proofs.Common.{◌≡◌, ℕ, zero, suc, ◌+◌, ◌<◌, ◌≤◌, Bool, true, false, List, [], ◌∷◌, ◌++◌, length, refl, sym, ap, subst, ◌∙◌, Option, Some, None, arith, map, option_map, slice_get, count_by, append_assoc, append-nil, eq-eqb, nat_eq, inl, inr}
 use Rattle.hs_law_lockstep.proofs.Prelude.{AllByRecursion, range_with_len, option_and_then, option_map_or, one_if, count_cons, count_append, get_mid, get_there, NodeId, Message, Messages, message, Step, AgentState, AgentEvent, Took, Gave, Chunk, Crumbed, Triggered, Asked, Turn, PlainSettings, Sent, ClientSends, StepsAreNoted, Queue, Chunks, Crumbs, Triggers, Asks, takes, taken, asks_to, is_from, NodeRun, Run, next_of, event_of, perform, step_of, step_node, hear, Leads, Stays, Goes, is_offer, supply, said_at, same_supply}
-use Rattle.hs_journal.specs.declared.journal.Step.TheVariants as steps
+use Rattle.hs_records.specs.declared.journal.Step.TheVariants as steps
 use Rattle.hs_law_agent.specs.Stepping.{Given, give_back}
 use Rattle.hs_law_lockstep.proofs.Lists.{set_at}
 

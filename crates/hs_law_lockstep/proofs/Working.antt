@@ -3,7 +3,7 @@
 use Rattle.std.proofs.Common.{◌≡◌, ◌⊎◌, inl, inr, ℕ, zero, suc, ◌+◌, ◌<◌, ◌≤◌, true, false, List, [], ◌∷◌, ◌++◌, length, refl, sym, ap, subst, ◌∙◌, Option, Some, None, arith, option_map, slice_get, eq-eqb, length-append}
 use Rattle.hs_law_lockstep.proofs.Prelude.{option_and_then, same_Some, option_unmap, one_if, count_cons, count_append, Messages, Step, noted_as, EventsAddThis, CanReport, AgentState, Input, Chunk, Crumbed, Triggered, Asked, Turn, AgentEvent, Took, Gave, after_event, PlainSettings, ClientSends, Queue, Chunks, Crumbs, Triggers, Asks, takes, taken, asks_to, NodeRun, next_of, event_of, perform, is_offer, sum_to, sum_le, sum_lt}
 use Rattle.std.specs.Option.{option_to_list}
-use Rattle.hs_journal.specs.declared.journal.Step.TheVariants as steps
+use Rattle.hs_records.specs.declared.journal.Step.TheVariants as steps
 use Rattle.hs_law_agent.specs.Laws.{borne, EventsAddFew, StepsSayWhatTheyTell, TurnsReport}
 use Rattle.hs_law_agent.specs.Stepping.{told_by}
 use Rattle.hs_law_agent.specs.Stepping as model

@@ -2,7 +2,7 @@
 -- what clients send, agents tell and the coordinator asks names nodes and trigger ids of the workload.
 use Rattle.std.specs.Prelude.{◌≡◌, ℕ, ◌<◌, ◌^◌, List, length, Some}
 use Rattle.std.specs.List.{AllByRecursion}
-use Rattle.hs_journal.specs.declared.journal.Step.{Step}
+use Rattle.hs_records.specs.declared.journal.Step.{Step}
 use Rattle.hs_law_agent.specs.Leading.{IsToldBelow}
 use Rattle.hs_law_agent.specs.Stepping.{Input, Took}
 use Rattle.hs_records.specs.Plain.{PlainWorkload}

@@ -1,6 +1,6 @@
 -- The lockstep journals of small workloads: those that the examples of the lawful journal print.
 use Rattle.std.specs.Prelude.{◌≡◌, [], ◌∷◌, refl}
-use Rattle.hs_journal.specs.declared.journal.Draw.TheVariants.{Got, Empty}
+use Rattle.hs_records.specs.declared.journal.Draw.TheVariants.{Got, Empty}
 use Rattle.hs_law_journal.specs.Workloads.{nothing, one_point, three_points, three_traces, touched_again, trigger_first, evicted_then_claimed, two_ids, one_token, short_of_pins, four_nodes, no_pins, refused_trigger}
 use Rattle.hs_law_journal.specs.Journals
 use Rattle.hs_law_lockstep.specs.Lockstep.{lockstep, next_draws}

@@ -1,7 +1,7 @@
 -- The book of a node's client stands at the client's place, and a page of the node's clients that has a buffer is one of that book.
 use Rattle.std.proofs.Common.{◌≡◌, ◌⊎◌, inl, inr, ℕ, zero, suc, ◌+◌, ◌*◌, ◌/◌, ◌%◌, ◌<◌, ◌≤◌, true, false, List, [], ◌∷◌, length, All, Contains, refl, sym, ap, subst, ◌∙◌, Option, Some, None, arith, map, option_map, slice_get, div-lt_iff_lt-mul, div-add-mod', suc-mul}
 use Rattle.hs_law_outcome.proofs.Prelude.{slice_index_or, AllByRecursion, range_with_len, option_and_then, length-map, length-range_with_len, All-from_recursion, slice_get-map, same_Some, option_unmap, range_at, ClientId, Draw, Got, PlainAgentBook, PlainJournal, page_standing, book_of, Taken, PlainWorkload, DrawnPage, has_buffer, drawn_from, ClientSends, client_sends, node_sends, draws_at, place_of, TimedPage, Sheet, IsOfJournal, RunsAreOfTheJournal, NodeRun, followed, FollowingPlaysOut, StandingsAreOfGotPages, HasItsClients, IsOfDrawnPage, TakenPagesWereDrawn, client_at, client_book, client_books, agent_books}
-use Rattle.hs_journal.specs.declared.journal.Draw.TheVariants.{Empty}
+use Rattle.hs_records.specs.declared.journal.Draw.TheVariants.{Empty}
 use Rattle.hs_ledger.specs.Books.{IsOfGotPage}
 use Rattle.hs_law_outcome.proofs.ClientBooks.{compare}
 

@@ -3,7 +3,7 @@
 use Rattle.std.proofs.Common.{◌≡◌, inl, inr, ℕ, zero, suc, ◌<◌, true, List, [], ◌∷◌, ◌++◌, length, refl, sym, subst, Some, None, set, option_map, slice_get, count_by, eqb-true, nat_eq}
 use Rattle.hs_law_outcome.proofs.Prelude.{AllByRecursion, list_all, and_parts, nil_from_length, same_Some, slice_get_within, option_unmap, NodeId, Message, Messages, message, Step, Chunk, Crumbed, Triggered, AgentEvent, Took, PlainSettings, ClientSends, Chunks, Crumbs, Triggers, NodeRun, Run, event_of, next_of, perform, step_node, is_from, is_done, Performs, Leads, Stays, Goes}
 use Rattle.std.proofs.lemmas.List.{length-set}
-use Rattle.hs_journal.specs.declared.journal.Step.TheVariants as steps
+use Rattle.hs_records.specs.declared.journal.Step.TheVariants as steps
 use Rattle.hs_law_journal.specs.Following.{step_of, message_of, hear}
 use Rattle.hs_law_outcome.proofs.GotPages.{then_parts}
 

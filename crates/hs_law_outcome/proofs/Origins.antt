@@ -4,7 +4,7 @@ use Rattle.hs_law_outcome.proofs.Prelude.{AllByRecursion, flat_map, range_with_l
 use Rattle.std.proofs.Math.Nat.{div-lt_iff_lt-mul}
 use Rattle.hs_lists.proofs.Places.{get_behind}
 use Rattle.hs_lists.proofs.Parts.{take_length}
-use Rattle.hs_journal.specs.declared.journal.Draw.TheVariants.{Empty}
+use Rattle.hs_records.specs.declared.journal.Draw.TheVariants.{Empty}
 use Rattle.hs_ledger.specs.Books.{end_of, is_of}
 use Rattle.hs_law_outcome.specs.Origins.{HasItsCause, EachFateHasItsCause}
 use Rattle.hs_law_outcome.proofs.Entries.{ends_at}

@@ -19,13 +19,6 @@ pub use Rattle.hs_client.specs.Calls.{note_of, sheet_for, written}
 pub use Rattle.hs_collect.specs.Collected.{GoesOn, is_piece_of, is_same, KeepsRuns, page_pieces, pieces_from, Placed, Precedes}
 pub use Rattle.hs_coord.proofs.KeptLemmas.{first_bit, same_group-true}
 pub use Rattle.hs_coord.specs.Following.{first_of, has_ask, has_crumb, is_answer, is_asked, is_first_sender, is_newly_asked, Message, message, Messages, same_group}
-pub use Rattle.hs_journal.specs.Books.{PlainAgentBook, PlainClientBook}
-pub use Rattle.hs_journal.specs.Views.{PlainJournal}
-pub use Rattle.hs_journal.specs.declared.books.PageNote.{PageNote}
-pub use Rattle.hs_journal.specs.declared.books.Standing.{Standing}
-pub use Rattle.hs_journal.specs.declared.journal.Draw.{Draw}
-pub use Rattle.hs_journal.specs.declared.journal.Draw.TheVariants.{Got}
-pub use Rattle.hs_journal.specs.declared.journal.Step.{Step}
 pub use Rattle.hs_law_agent.specs.Books.{book_of, page_standing}
 pub use Rattle.hs_law_agent.specs.Laws.{ClientsPagesRise, count_of, EventsAddFew, EventsGoOn, LimitsHold, PlacesMatch, sheets_at, sheets_of, StepsSayWhatTheyTell}
 pub use Rattle.hs_law_agent.specs.Messages.{told_of}
@@ -65,10 +58,17 @@ pub use Rattle.hs_lists.proofs.Options.{mapped_from, option_map_parts, option_un
 pub use Rattle.hs_lists.proofs.Parts.{map_flat}
 pub use Rattle.hs_lists.proofs.Places.{get_front, get_there, IsIn}
 pub use Rattle.hs_lists.proofs.Ranges.{range_at, range_found}
+pub use Rattle.hs_records.specs.Books.{PlainAgentBook, PlainClientBook}
+pub use Rattle.hs_records.specs.Journals.{PlainJournal}
 pub use Rattle.hs_records.specs.Laws.{AllFollow, AreNumberedFrom, CarriesRecords, end_from, end_of, PagesHoldThePieces, pieces_of_records, pieces_on, RiseFrom, Traces, traces_of}
 pub use Rattle.hs_records.specs.Pages.{first_record, pages_of, PlainPage}
 pub use Rattle.hs_records.specs.Plain.{Operation, PlainSettings, PlainWorkload}
 pub use Rattle.hs_records.specs.Records.{AreBracketed, payload_pieces, Piece, Record, record_pieces, records_of}
+pub use Rattle.hs_records.specs.declared.books.PageNote.{PageNote}
+pub use Rattle.hs_records.specs.declared.books.Standing.{Standing}
+pub use Rattle.hs_records.specs.declared.journal.Draw.{Draw}
+pub use Rattle.hs_records.specs.declared.journal.Draw.TheVariants.{Got}
+pub use Rattle.hs_records.specs.declared.journal.Step.{Step}
 pub use Rattle.hs_words.specs.Pages.{Sheet}
 pub use Rattle.hs_words.specs.PoolHistory.{Empty, Given, is_empty, is_given, is_got, is_missed, IsHistoryBack, IsPoolHistory, Missed, PoolEvent, queue_after}
 pub use Rattle.std.proofs.Math.Bool.{or-false}

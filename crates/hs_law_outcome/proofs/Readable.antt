@@ -4,9 +4,9 @@ use Rattle.hs_law_outcome.proofs.Prelude.{AllByRecursion, flat_map, range_with_l
 use Rattle.hs_lists.proofs.Counts.{count_map, one_if as one}
 use Rattle.hs_base.specs.declared.limits.TheConstants.{MAX_NODES, MAX_CLIENTS, MAX_BUFFERS}
 use Rattle.hs_base.specs.Ranges.{Within}
-use Rattle.hs_journal.specs.declared.journal.Draw.TheVariants as draws
-use Rattle.hs_journal.specs.declared.journal.Step.TheVariants as steps
-use Rattle.hs_journal.specs.Grammar.{IsDraw, IsStep, IsNodeBelow}
+use Rattle.hs_records.specs.declared.journal.Draw.TheVariants as draws
+use Rattle.hs_records.specs.declared.journal.Step.TheVariants as steps
+use Rattle.hs_records.specs.Journals.{IsDraw, IsStep, IsNodeBelow}
 use Rattle.hs_words.specs.PoolHistory.{Got}
 use Rattle.hs_words.specs.PoolHistory as pool
 use Rattle.hs_law_outcome.specs.Readable.{HasRoom, HasShape, JournalsHaveTheShape, LawfulJournalsCanBeRead}

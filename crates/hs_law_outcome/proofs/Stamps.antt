@@ -5,8 +5,8 @@ use Rattle.hs_law_outcome.proofs.Prelude.{AllByRecursion, flat_map, range_with_l
 use Rattle.std.proofs.lemmas.List.Sums.{count_by-le-length}
 use Rattle.hs_lists.proofs.Parts.{flat_alike}
 use Rattle.hs_lists.proofs.Counts.{one_if as one, none_below_zero}
-use Rattle.hs_journal.specs.declared.journal.Draw.TheVariants as draws
-use Rattle.hs_journal.specs.declared.journal.Step.TheVariants as steps
+use Rattle.hs_records.specs.declared.journal.Draw.TheVariants as draws
+use Rattle.hs_records.specs.declared.journal.Step.TheVariants as steps
 use Rattle.hs_words.specs.PoolHistory as pool
 use Rattle.hs_law_journal.specs.Gives.{given_stamp, GivesAsNoted}
 use Rattle.hs_law_journal.specs.Pooled.{given_page, buffer_of, answers_draw, gives_answer}

@@ -3,7 +3,7 @@
 use Rattle.std.proofs.Common.{◌≡◌, ◌⊎◌, inl, inr, ℕ, zero, suc, ◌+◌, ◌<◌, ◌≤◌, Bool, true, false, ◌&&◌, ◌||◌, cond, List, [], ◌∷◌, length, refl, sym, ap, subst, ◌∙◌, Option, Some, None, arith, map, filter, option_map, slice_get, unwrap_or, count_by, leb, ltb, leb-true, ltb-true, le-leb, lt-ltb, eqb-true, nat_eq, find, zip}
 use Rattle.hs_law_outcome.proofs.Prelude.{AllByRecursion, cons_option, range_with_len, list_all, option_map_or, and_parts, flat_map-map, same_Some, slice_get_within, IsIn, get_there, all_at, all_flat_map, all_flat_range, all_unmap, ClientId, TraceId, Fate, Group, same_trace, note_of, sheet_for, Draw, Got, PlainClientBook, PlainJournal, Entry, PageNote, record_count, FatedPage, page_fate, fated_by, fated_pages, has_piece_of, is_discarded, record_fate, entry_on, record_entry, book_entries, is_reported, count_of, sheets_at, PlacesMatch, ChunkStanding, Indexed, Pinned, Reported, Evicted, Abandoned, Taken, trace_of, stands, AgentState, ClaimedTrace, claim_of, is_claimed, end_of, PlainPage, first_record, pages_of, PlainWorkload, has_buffer, TimedPagesAreThePages, ClientSends, operations_at, draws_at, place_of, Sheet, took_all, is_left_bare, IsOfJournal, NodesAreOfJournal, RunsAreOfTheJournal, Asks, taken, asks_to, is_from, NodeRun, Run, followed, IsLawful, FollowingPlaysOut, ChunksAreTakenInOrder, KeepsItsModel, AgentsKeepTheirModel, HasAllItsPages, ReportedRecordsHaveAllPages, HasItsClients, IsOfDrawnPage, TakenPagesWereDrawn, WasTaken, Gives, client_at, client_book, agent_books, reported_at, outcome_of, EndsItsTraces}
 use Rattle.hs_base.specs.declared.told.Fate.TheVariants as fate
-use Rattle.hs_journal.specs.declared.journal.Draw.TheVariants.{Empty}
+use Rattle.hs_records.specs.declared.journal.Draw.TheVariants.{Empty}
 use Rattle.hs_ledger.specs.Books.{end_of as note_end}
 use Rattle.hs_law_agent.specs.Books.{fate_of}
 use Rattle.hs_law_agent.specs.Laws.{claiming_group, StandsByClaim}

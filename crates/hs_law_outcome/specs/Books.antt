@@ -1,7 +1,7 @@
 -- That the books of a lawful journal fit together, so that a ledger can be made of them. A page for which a client got a buffer
 -- is sent, and in the end its node's agent has taken all that was sent, each chunk once: so the page has one standing there.
 use Rattle.std.specs.Prelude.{◌≡◌, ℕ, ◌<◌, ◌^◌, length, filter, All, refl}
-use Rattle.hs_journal.specs.Views.{PlainJournal}
+use Rattle.hs_records.specs.Journals.{PlainJournal}
 use Rattle.hs_ledger.specs.Books.{BooksFit, HaveStandings, is_of, standings_at}
 use Rattle.hs_records.specs.Plain.{PlainWorkload}
 use Rattle.hs_law_journal.specs.Following.{followed}

@@ -5,7 +5,7 @@
 use Rattle.std.specs.Prelude.{◌≡◌, ℕ, ◌≤◌, List, [], ◌∷◌, ◌++◌, reverse, count_by, true}
 use Rattle.std.specs.List.{AllByRecursion}
 use Rattle.hs_base.specs.declared.ids.TraceId.{TraceId}
-use Rattle.hs_journal.specs.Views.{PlainJournal}
+use Rattle.hs_records.specs.Journals.{PlainJournal}
 use Rattle.hs_law_agent.specs.Laws.{count_of, given_places, PlacesMatch, IsWithin, IsClaimedOrTouched, AllStandByClaim, AllWereOver}
 use Rattle.hs_law_agent.specs.Standings.{is_evicted, is_let_go, stands, is_of_trace}
 use Rattle.hs_law_agent.specs.State.{AgentState, GivenPlace, is_claimed}

@@ -1,9 +1,9 @@
 -- The books of the clients of a workload, as the journal has their draws. They come in order of node and number, each with a draw for
 -- each page, and the pages of each hold its records without a gap.
 use Rattle.std.specs.Prelude.{◌≡◌, ◌≤◌, true, length, All, sum_by}
-use Rattle.hs_journal.specs.declared.books.PageNote.{PageNote}
-use Rattle.hs_journal.specs.Books.{PlainClientBook, PlainAgentBook}
-use Rattle.hs_journal.specs.Views.{PlainJournal}
+use Rattle.hs_records.specs.declared.books.PageNote.{PageNote}
+use Rattle.hs_records.specs.Books.{PlainClientBook, PlainAgentBook}
+use Rattle.hs_records.specs.Journals.{PlainJournal}
 use Rattle.hs_ledger.specs.Books.{AreInOrder, AreNumbered, IsOfGotPage, record_count}
 use Rattle.hs_records.specs.Plain.{PlainWorkload}
 use Rattle.hs_law_journal.specs.Following.{followed}

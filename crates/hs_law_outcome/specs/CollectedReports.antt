@@ -10,8 +10,8 @@ use Rattle.hs_base.specs.declared.told.Fate.TheVariants.{Null}
 use Rattle.hs_base.specs.Samples.{t, one_rule}
 use Rattle.hs_client.specs.Calls.{sheet_for}
 use Rattle.hs_collect.specs.Collected.{Placed, is_same, pieces_of, IsWhole, AreWholes, CanBeAdded, KeepsRuns}
-use Rattle.hs_journal.specs.declared.journal.Draw.TheVariants.{Got, Empty}
-use Rattle.hs_journal.specs.Views.{PlainJournal}
+use Rattle.hs_records.specs.declared.journal.Draw.TheVariants.{Got, Empty}
+use Rattle.hs_records.specs.Journals.{PlainJournal}
 use Rattle.hs_ledger.specs.declared.ledger.Entry.{Entry}
 use Rattle.hs_ledger.specs.Totals.{is_reported}
 use Rattle.hs_law_agent.specs.Standings.{Taken}

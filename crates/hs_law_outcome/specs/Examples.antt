@@ -4,8 +4,8 @@ use Rattle.hs_base.specs.declared.told.Fate.{Fate}
 use Rattle.hs_base.specs.declared.told.Fate.TheVariants.{Null, Live, Reported, Evicted, Abandoned}
 use Rattle.hs_base.specs.Samples.{t, one_rule, golden, twice}
 use Rattle.hs_collect.specs.Collected.{Placed}
-use Rattle.hs_journal.specs.declared.journal.Draw.TheVariants.{Got}
-use Rattle.hs_journal.specs.Views.{PlainJournal}
+use Rattle.hs_records.specs.declared.journal.Draw.TheVariants.{Got}
+use Rattle.hs_records.specs.Journals.{PlainJournal}
 use Rattle.hs_ledger.specs.declared.ledger.Entry.{Entry}
 use Rattle.hs_records.specs.Plain.{PlainWorkload}
 use Rattle.hs_law_sends.specs.Samples.{settings, workload, fire, segment}

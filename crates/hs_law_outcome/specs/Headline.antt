@@ -9,8 +9,8 @@ use Rattle.hs_base.specs.Ids.{same_trace}
 use Rattle.hs_base.specs.Samples.{golden, twice}
 use Rattle.hs_collect.specs.Collected.{Placed, pieces_of, AreWholes, KeepsRuns}
 use Rattle.hs_coord.specs.Following.{Messages, is_of, is_asked, is_answer_from, is_answered, has_ask}
-use Rattle.hs_journal.specs.Books.{PlainAgentBook}
-use Rattle.hs_journal.specs.Views.{PlainJournal}
+use Rattle.hs_records.specs.Books.{PlainAgentBook}
+use Rattle.hs_records.specs.Journals.{PlainJournal}
 use Rattle.hs_ledger.specs.Books.{HaveStandings, IsOfGotPage}
 use Rattle.hs_ledger.specs.declared.ledger.Entry.{Entry}
 use Rattle.hs_ledger.specs.Totals.{is_reported, totals_of, parts_of}

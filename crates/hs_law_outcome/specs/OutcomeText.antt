@@ -8,7 +8,7 @@ use Rattle.hs_base.specs.declared.told.Fate.{Fate}
 use Rattle.hs_base.specs.declared.told.Fate.TheVariants.{Null, Live, Reported, Evicted, Abandoned}
 use Rattle.hs_collect.specs.Collected.{Placed}
 use Rattle.hs_journal.specs.Grammar.{journal_text}
-use Rattle.hs_journal.specs.Views.{PlainJournal}
+use Rattle.hs_records.specs.Journals.{PlainJournal}
 use Rattle.hs_ledger.specs.declared.ledger.Entry.{Entry}
 use Rattle.hs_ledger.specs.declared.ledger.Totals.{Totals}
 use Rattle.hs_ledger.specs.Totals.{totals_of}

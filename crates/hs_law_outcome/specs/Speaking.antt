@@ -8,7 +8,7 @@ use Rattle.hs_base.specs.declared.ids.GroupId.{GroupId}
 use Rattle.hs_coord.specs.Following.{Messages, is_of, is_asked, has_ask, is_answer_from, is_answered}
 use Rattle.hs_coord.specs.Messages.{nodes_where}
 use Rattle.hs_coord.specs.Orderly.{IsOrderly, IsClosed}
-use Rattle.hs_journal.specs.Views.{PlainJournal}
+use Rattle.hs_records.specs.Journals.{PlainJournal}
 use Rattle.hs_records.specs.Plain.{PlainWorkload}
 use Rattle.hs_law_journal.specs.Following.{Run, run_start, followed}
 use Rattle.hs_law_journal.specs.Journals.{of_four_nodes}

@@ -1,6 +1,6 @@
 -- That a workload comes to the same in either version, which only says how wide traces are written.
 use Rattle.std.specs.Prelude.{◌≡◌, ℕ}
-use Rattle.hs_journal.specs.Views.{PlainJournal}
+use Rattle.hs_records.specs.Journals.{PlainJournal}
 use Rattle.hs_records.specs.Plain.{PlainWorkload}
 use Rattle.hs_law_outcome.specs.Outcomes.{outcome_of}
 use Rattle.hs_law_outcome.specs.Reports.{reports_of}

@@ -2,7 +2,7 @@
 use Rattle.std.proofs.Common.{◌≡◌, ◌⊎◌, inl, inr, ℕ, zero, suc, ◌+◌, ◌<◌, ◌≤◌, Bool, true, false, ◌==◌, cond, List, [], ◌∷◌, ◌++◌, length, refl, sym, ap, subst, ◌∙◌, Some, arith, map, filter, slice_get, eq-eqb, eqb-true, nat_eq, append-nil}
 use Rattle.hs_law_run.proofs.Prelude.{AllByRecursion, flat_map, range_with_len, flat_map-append, length-append, map-append, flat_range_alike, all_front, all_back, get_front, map_flat, Draw, PlainJournal, PlainWorkload, DrawnPage, stamp_of, ClientSends, client_sends, draws_at, place_of, Deed, Answer, answer_to, answers_by, drawn_in, is_any_given, IsDeedAt, IsDraw, PoolEvent, is_missed, by_stamp, NodeDoings, draw_answer, IsPooled}
 use Rattle.hs_lists.proofs.Places.{get_last}
-use Rattle.hs_journal.specs.declared.journal.Draw.TheVariants as draws
+use Rattle.hs_records.specs.declared.journal.Draw.TheVariants as draws
 use Rattle.hs_words.specs.Ends as ends
 use Rattle.hs_words.specs.PoolHistory as pool
 use Rattle.hs_law_run.proofs.Answers.{own, answers, at_stamp, drawers, drawers_last, drawers_earlier, just_one}

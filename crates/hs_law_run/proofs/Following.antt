@@ -7,7 +7,7 @@ use Rattle.std.proofs.lemmas.List.Sums.{sum_by-cons, sum_by-append}
 use Rattle.hs_lists.proofs.Places.{get_front_same, get_there}
 use Rattle.hs_lists.proofs.Counts.{one_if as one}
 use Rattle.hs_base.specs.declared.told.Told.{Told}
-use Rattle.hs_journal.specs.declared.journal.Step.TheVariants as steps
+use Rattle.hs_records.specs.declared.journal.Step.TheVariants as steps
 use Rattle.hs_law_agent.specs.Laws.{EventsGoOn, StepsSayWhatTheyTell}
 use Rattle.hs_law_agent.specs.State as model
 use Rattle.hs_law_agent.specs.Stepping.{Turn, told_by}

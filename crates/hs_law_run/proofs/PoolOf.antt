@@ -1,7 +1,7 @@
 -- The pool of a node of a run of so many rounds, over the passes of its agent.
 use Rattle.hs_law_run.proofs.Prelude.{AllByRecursion, range_with_len, PlainJournal, sheets_of, AgentEvent, PlainWorkload, count_started, draws_at, place_of, ops_of, Deed, IsTogether, NodeDoings, events_in, last_state, draw_answer, Lent, AreTurns, done_by, PoolEndsGoOn}
 use Rattle.std.specs.Prelude.{◌≡◌, ℕ, suc, ◌*◌, ◌<◌, ◌≤◌, List, [], length, map, reverse, slice_get, Some}
-use Rattle.hs_journal.specs.declared.journal.Draw.TheVariants as draws
+use Rattle.hs_records.specs.declared.journal.Draw.TheVariants as draws
 use Rattle.hs_law_run.specs.Ends.{PoolEnds, PoolEndsMeet}
 
 -- The lease names the draw that the journal notes for the page.

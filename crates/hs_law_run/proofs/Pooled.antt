@@ -1,7 +1,7 @@
 -- What is known of a pool in the end makes it a pool of the journal.
 use Rattle.std.proofs.Common.{◌≡◌, ◌⊎◌, ℕ, zero, suc, ◌+◌, ◌<◌, ◌≤◌, Bool, true, false, List, length, reverse, refl, sym, ap, subst, ◌∙◌, Option, Some, None, arith, map, filter, slice_get, nat_lt, ltb-true, ltb-false, option_map}
 use Rattle.hs_law_run.proofs.Prelude.{AllByRecursion, range_with_len, option_and_then, length-map, length-reverse, length-range_with_len, slice_get-map, same_Some, all_at, filter_few, range_at, take_length, PlainJournal, EventsAddThis, Taken, AgentEvent, PlainWorkload, DrawnPage, ClientSends, client_sends, draws_at, place_of, ops_of, timed_pages, Deed, Answer, answers_in, answers_by, is_any_given, is_missed, Sheet, NodeRun, page_of, joined, NodeDoings, all_events, events_in, node_at_end, draw_answer, give_of, give_at, IsPooled, Lent, AreTurns, done_by}
-use Rattle.hs_journal.specs.declared.journal.Draw.TheVariants as draws
+use Rattle.hs_records.specs.declared.journal.Draw.TheVariants as draws
 use Rattle.hs_words.specs.Ends.{AreAnswers}
 use Rattle.hs_words.specs.PoolHistory as pool
 use Rattle.hs_law_run.specs.Pools.{answers_to}

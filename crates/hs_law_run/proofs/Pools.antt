@@ -2,8 +2,8 @@
 use Rattle.std.proofs.Common.{◌≡◌, ◌⊎◌, inl, inr, ℕ, zero, suc, ◌+◌, ◌<◌, ◌≤◌, Bool, true, false, ◌&&◌, ◌==◌, cond, List, [], ◌∷◌, ◌++◌, length, reverse, refl, sym, ap, subst, ◌∙◌, Option, Some, None, arith, map, filter, filter_map, option_map, count_by, eq-eqb, nat_eq, append-nil}
 use Rattle.hs_law_run.proofs.Prelude.{AllByRecursion, cons_option, flat_map, range_with_len, list_all, option_and_then, and_from, flat_map-append, length-append, length-map, map-append, reverse-append, filter-append, length-filter, flat_range_alike, list_all_range_below, all_at, map_flat, Draw, Step, PlainJournal, EventsAddThis, GivenPlace, PlainWorkload, DrawnPage, stamp_of, ClientSends, client_sends, draws_at, place_of, Deed, Answer, events_of, answer_to, answers_by, put_if, is_any_given, PoolEvent, is_missed, IsHistoryBack, NodeRun, Run, log_at, StampedPoolEvent, by_stamp, given_page, pool_events, rise, log_stamps, NodeDoings, all_events, steps_of, journal_of, node_at_end, DoingsAreFollowed, draw_answer, give_of, give_at, miss_in, IsPooled}
 use Rattle.std.proofs.lemmas.List.{reverse-reverse}
-use Rattle.hs_journal.specs.declared.journal.Draw.TheVariants as draws
-use Rattle.hs_journal.specs.declared.journal.Step.TheVariants as steps
+use Rattle.hs_records.specs.declared.journal.Draw.TheVariants as draws
+use Rattle.hs_records.specs.declared.journal.Step.TheVariants as steps
 use Rattle.hs_words.specs.PoolHistory.{IsPoolHistory}
 use Rattle.hs_words.specs.PoolHistory as pool
 use Rattle.hs_law_journal.specs.Pooled.{event_drawn, drawn_event, buffer_of, given_event, missed_event, pool_history}

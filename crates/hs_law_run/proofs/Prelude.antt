@@ -3,9 +3,6 @@ pub use Rattle.hs_base.specs.declared.ids.ClientId.{ClientId}
 pub use Rattle.hs_base.specs.declared.ids.NodeId.{NodeId}
 pub use Rattle.hs_base.specs.declared.limits.TheConstants.{MAX_TAKEN}
 pub use Rattle.hs_coord.specs.Messages.{Message, message, Messages}
-pub use Rattle.hs_journal.specs.Views.{PlainJournal}
-pub use Rattle.hs_journal.specs.declared.journal.Draw.{Draw}
-pub use Rattle.hs_journal.specs.declared.journal.Step.{Step}
 pub use Rattle.hs_law_agent.specs.Laws.{EventsAddThis, noted_as, sheets_of}
 pub use Rattle.hs_law_agent.specs.Standings.{Taken}
 pub use Rattle.hs_law_agent.specs.State.{AgentState, GivenPlace, start}
@@ -41,10 +38,13 @@ pub use Rattle.hs_lists.proofs.Parts.{map_flat, reverse_cons, take_length}
 pub use Rattle.hs_lists.proofs.Places.{get_front, get_some}
 pub use Rattle.hs_lists.proofs.Ranges.{flat_range_alike, list_all_range_below, map_range_at, range_at}
 pub use Rattle.hs_lists.proofs.Tests.{list_all_from, list_any_none}
+pub use Rattle.hs_records.specs.Journals.{PlainJournal}
 pub use Rattle.hs_records.specs.Pages.{pages_of}
 pub use Rattle.hs_records.specs.Plain.{Operation, PlainSettings, PlainWorkload}
 pub use Rattle.hs_records.specs.Records.{AreBracketed}
 pub use Rattle.hs_records.specs.Validity.{IsValid}
+pub use Rattle.hs_records.specs.declared.journal.Draw.{Draw}
+pub use Rattle.hs_records.specs.declared.journal.Step.{Step}
 pub use Rattle.hs_words.proofs.Deeds.{at_below, draw_is_at}
 pub use Rattle.hs_words.specs.Ends.{Answer, answer_to, answered, answers_by, answers_in, Deed, drawn_in, events_of, GiverTurn, is_any_given, IsDeedAt, IsDraw, IsTogether, met, put_if, told_in, unread}
 pub use Rattle.hs_words.specs.Pages.{Sheet}

@@ -1,7 +1,7 @@
 -- The draw whose entry an unread offer would fill is that of a page at the offer's place.
 use Rattle.std.proofs.Common.{◌≡◌, inl, inr, ℕ, zero, suc, ◌+◌, ◌-◌, ◌*◌, ◌<◌, ◌≤◌, Bool, true, false, ◌==◌, cond, List, [], ◌∷◌, ◌++◌, length, reverse, refl, sym, ap, subst, ◌∙◌, Option, Some, None, arith, map, filter, option_map, slice_get, take, zip, not, ◌&&◌, nat_lt, nat_le, ltb-true, ltb-false, le-leb, eq-eqb, eqb-true, count_by, append_assoc}
 use Rattle.hs_law_run.proofs.Prelude.{AllByRecursion, flat_map, range_with_len, list_any, list_all, and_from, and_parts, length-map, length-append, length-reverse, take-map, map-append, slice_get-map, same_Some, Draw, PlainJournal, noted_as, EventsAddThis, sheets_of, Taken, AgentState, GivenPlace, start, after, after_from, after_event, Sheet, IsUnreadAt, IsPooledUnread, DoingsAreFollowed, PlainSettings, PlainWorkload, DrawnPage, stamp_of, drawn_from, Deed, Answer, answer_to, answers_in, told_in, is_any_given, IsDeedAt, IsDraw, PoolEvent, NodeRun, Run, by_stamp, page_of, given_page, pool_events, round_of, state_behind, is_turn, is_unread, Step, draw_is_at, NodeDoings, all_events, steps_of, journal_of, node_at_end, draw_answer, give_of, give_at, IsPooled, pages_at, ClientId, ClientSends, client_sends, operations_at, draws_at, place_of, TimedPage, timed_pages, log_stamps, rise, rise_above, option_and_then, option_map_or, all_front, all_back, all_each, all_append, all_map, all_at, all_reverse, get_front, list_any_none}
-use Rattle.hs_journal.specs.declared.journal.Draw.TheVariants as draws
+use Rattle.hs_records.specs.declared.journal.Draw.TheVariants as draws
 use Rattle.hs_law_agent.specs.Laws.{brought_by}
 use Rattle.hs_law_agent.specs.Stepping as stepping
 use Rattle.hs_law_run.specs.Unread.{UnreadCouldBe}

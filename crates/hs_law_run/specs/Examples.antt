@@ -1,7 +1,7 @@
 -- Small runs, and what their facts come to: a client with one point, and the node that evicts a trace and claims it when it comes again.
 use Rattle.std.specs.Prelude.{◌≡◌, [], ◌∷◌, length, map, refl}
 use Rattle.std.proofs.Common.{lit≤}
-use Rattle.hs_journal.specs.declared.journal.Draw.TheVariants.{Got}
+use Rattle.hs_records.specs.declared.journal.Draw.TheVariants.{Got}
 use Rattle.hs_law_sends.specs.Drawn.{DrawnPage}
 use Rattle.hs_law_journal.specs.Following.{followed}
 use Rattle.hs_law_journal.specs.Journals.{of_one_point}

@@ -3,7 +3,7 @@
 -- above all that was answered.
 use Rattle.std.specs.Prelude.{◌≡◌, ◌<◌, ◌==◌, true, false, List, ◌∷◌, ◌++◌, map, reverse, filter, filter_map, count_by}
 use Rattle.std.specs.List.{AllByRecursion, list_any}
-use Rattle.hs_journal.specs.Views.{PlainJournal}
+use Rattle.hs_records.specs.Journals.{PlainJournal}
 use Rattle.hs_law_agent.specs.Laws.{noted_as}
 use Rattle.hs_law_agent.specs.Stepping.{Unread, AgentEvent, Gave, after}
 use Rattle.hs_records.specs.Plain.{PlainWorkload}

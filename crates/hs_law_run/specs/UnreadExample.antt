@@ -3,9 +3,9 @@
 -- it misses three times, once for each void number, and the fourth offer comes round to the entry of the second client, which has not
 -- collected its chunk. In the next pass both are given.
 use Rattle.std.specs.Prelude.{◌≡◌, ℕ, List, [], ◌∷◌, ◌++◌, replicate, None, refl}
-use Rattle.hs_journal.specs.declared.journal.Draw.TheVariants as draws
-use Rattle.hs_journal.specs.declared.journal.Step.TheVariants as steps
-use Rattle.hs_journal.specs.Views.{PlainJournal}
+use Rattle.hs_records.specs.declared.journal.Draw.TheVariants as draws
+use Rattle.hs_records.specs.declared.journal.Step.TheVariants as steps
+use Rattle.hs_records.specs.Journals.{PlainJournal}
 use Rattle.hs_law_agent.specs.Stepping.{Chunk, Turn as Turned, Given, Missed, Unread, AgentEvent, Took, Gave}
 use Rattle.hs_records.specs.Plain.{Point, End, PlainWorkload}
 use Rattle.hs_law_sends.specs.Samples.{settings, on_nodes, workload, begin, segment}

@@ -6,8 +6,6 @@ pub use Rattle.hs_base.specs.declared.limits.TheConstants.{MIN_SIZE}
 pub use Rattle.hs_base.specs.declared.settings.AutoRule.{AutoRule}
 pub use Rattle.hs_base.specs.declared.told.Trigger.{Trigger}
 pub use Rattle.hs_client.specs.Calls.{sheet_for}
-pub use Rattle.hs_journal.specs.declared.journal.Draw.{Draw}
-pub use Rattle.hs_journal.specs.declared.journal.Draw.TheVariants.{Empty, Got}
 pub use Rattle.hs_law_sends.specs.Drawn.{drawn_from}
 pub use Rattle.hs_law_sends.specs.Laws.{IsTimely, TimedPagesAreTimely}
 pub use Rattle.hs_law_sends.specs.OneMore.{AreWatching}
@@ -20,6 +18,8 @@ pub use Rattle.hs_records.specs.Laws.{CarriesRecords, CarryRecords, traces_of}
 pub use Rattle.hs_records.specs.Pages.{cost_of, fits, page_room, pages_of, PlainPage, runs_within, segment_pages}
 pub use Rattle.hs_records.specs.Plain.{Begin, Crumb, End, Fire, Operation, Point, Sample}
 pub use Rattle.hs_records.specs.Records.{AreBracketed, coming, numbered_from, numbered_of, NumberedOperation, open_behind, payload_pieces, Piece, pieces_until_end, records_of, Segment, segments_from, segments_of}
+pub use Rattle.hs_records.specs.declared.journal.Draw.{Draw}
+pub use Rattle.hs_records.specs.declared.journal.Draw.TheVariants.{Empty, Got}
 pub use Rattle.hs_words.specs.Pages.{Sheet}
 pub use Rattle.std.proofs.lemmas.Bool.{le-ltb, lt-ltb}
 pub use Rattle.std.proofs.lemmas.List.{append-nil}

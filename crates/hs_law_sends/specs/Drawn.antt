@@ -4,8 +4,8 @@ use Rattle.std.specs.Prelude.{ℕ, ◌+◌, Bool, true, false, List, [], ◌∷�
 use Rattle.hs_base.specs.declared.ids.ClientId.{ClientId}
 use Rattle.hs_records.specs.Plain.{Operation}
 use Rattle.hs_records.specs.Pages.{PlainPage}
-use Rattle.hs_journal.specs.declared.journal.Draw.{Draw}
-use Rattle.hs_journal.specs.declared.journal.Draw.TheVariants.{Got, Empty}
+use Rattle.hs_records.specs.declared.journal.Draw.{Draw}
+use Rattle.hs_records.specs.declared.journal.Draw.TheVariants.{Got, Empty}
 use Rattle.hs_law_sends.specs.Timing.{TimedPage, timed_pages}
 
 -- a page with its client, its number there, its draw, and the operations that start and send it

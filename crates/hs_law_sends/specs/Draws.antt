@@ -1,8 +1,8 @@
 -- What draws get from a pool, one behind another with nothing at the pool in between, and what they are in its history. A client draws
 -- once for each page that it starts.
 use Rattle.std.specs.Prelude.{◌≡◌, ℕ, zero, suc, ◌+◌, nat_lt, List, [], ◌∷◌, length, map, filter, replicate, reverse, refl}
-use Rattle.hs_journal.specs.declared.journal.Draw.{Draw}
-use Rattle.hs_journal.specs.declared.journal.Draw.TheVariants as draws
+use Rattle.hs_records.specs.declared.journal.Draw.{Draw}
+use Rattle.hs_records.specs.declared.journal.Draw.TheVariants as draws
 use Rattle.hs_records.specs.Plain.{Operation, Point, End}
 use Rattle.hs_words.specs.PoolHistory.{PoolEvent, Got, Empty, Given, queue_after}
 use Rattle.hs_law_sends.specs.Samples.{begin, fire}

@@ -5,7 +5,7 @@ use Rattle.hs_base.specs.declared.ids.ClientId.{ClientId}
 use Rattle.hs_base.specs.declared.limits.TheConstants.{MIN_SIZE}
 use Rattle.hs_client.specs.Calls.{AreSteps, after, segments_of_steps, draws_supplied, chunks_supplied, handed_out, filled_chunks, t1, clear, new_64}
 use Rattle.hs_client.specs.Core.{Core, Step, Began, Needed, Supplied, Ended_, new_core}
-use Rattle.hs_journal.specs.declared.journal.Draw.{Draw}
+use Rattle.hs_records.specs.declared.journal.Draw.{Draw}
 use Rattle.hs_records.specs.Plain.{Operation, Point, End}
 use Rattle.hs_records.specs.Records.{AreBracketed, segments_of}
 use Rattle.hs_words.specs.Buffers.{Buffer}

@@ -4,7 +4,7 @@ use Rattle.std.proofs.Common.{lit≤}
 use Rattle.hs_base.specs.declared.ids.ClientId.{ClientId}
 use Rattle.hs_base.specs.declared.limits.TheConstants.{MIN_SIZE}
 use Rattle.hs_base.specs.declared.settings.AutoRule.{AutoRule}
-use Rattle.hs_journal.specs.declared.journal.Draw.{Draw}
+use Rattle.hs_records.specs.declared.journal.Draw.{Draw}
 use Rattle.hs_records.specs.Plain.{Operation}
 use Rattle.hs_records.specs.Records.{AreBracketed}
 use Rattle.hs_law_sends.specs.Drawn.{drawn_pages}

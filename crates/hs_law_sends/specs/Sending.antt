@@ -14,8 +14,8 @@ use Rattle.hs_auto.specs.Firing.{Sample, sampled}
 use Rattle.hs_auto.specs.declared.sampled.Sampled.{Sampled}
 use Rattle.hs_auto.specs.declared.sampled.Sampled.TheVariants as answers
 use Rattle.hs_client.specs.Calls.{sheet_for}
-use Rattle.hs_journal.specs.declared.journal.Draw.{Draw}
-use Rattle.hs_journal.specs.Views.{PlainJournal}
+use Rattle.hs_records.specs.declared.journal.Draw.{Draw}
+use Rattle.hs_records.specs.Journals.{PlainJournal}
 use Rattle.hs_records.specs.Plain.{Operation, PlainSettings, PlainWorkload}
 use Rattle.hs_records.specs.Plain as plain
 use Rattle.hs_records.specs.Records.{NumberedOperation, numbered_of}

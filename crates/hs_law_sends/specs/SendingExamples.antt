@@ -4,8 +4,8 @@ use Rattle.hs_base.specs.declared.ids.TraceId.{TraceId}
 use Rattle.hs_base.specs.declared.settings.AutoRule.TheVariants.{Exception, Queue}
 use Rattle.hs_base.specs.declared.told.Trigger.{Trigger}
 use Rattle.hs_base.specs.Samples.{t}
-use Rattle.hs_journal.specs.declared.journal.Draw.{Draw}
-use Rattle.hs_journal.specs.declared.journal.Draw.TheVariants.{Got, Empty}
+use Rattle.hs_records.specs.declared.journal.Draw.{Draw}
+use Rattle.hs_records.specs.declared.journal.Draw.TheVariants.{Got, Empty}
 use Rattle.hs_records.specs.Plain.{Operation, End, Sample, Point}
 use Rattle.hs_words.specs.Pages.{Sheet}
 use Rattle.hs_law_sends.specs.Sending.{Sent, ClientSends, sends_of, sent_within, sent_crumbs, sent_triggers}

@@ -6,8 +6,8 @@ use Rattle.hs_base.specs.declared.ids.ClientId.{ClientId}
 use Rattle.hs_base.specs.declared.limits.TheConstants.{MIN_SIZE}
 use Rattle.hs_base.specs.declared.settings.AutoRule.{AutoRule}
 use Rattle.hs_base.specs.Samples.{owner}
-use Rattle.hs_journal.specs.declared.journal.Draw.{Draw}
-use Rattle.hs_journal.specs.declared.journal.Draw.TheVariants.{Got}
+use Rattle.hs_records.specs.declared.journal.Draw.{Draw}
+use Rattle.hs_records.specs.declared.journal.Draw.TheVariants.{Got}
 use Rattle.hs_records.specs.Pages.{PlainPage, pages_of}
 use Rattle.hs_records.specs.Plain.{Operation, Begin, Point, End}
 use Rattle.hs_records.specs.Records.{AreBracketed}

@@ -1,7 +1,7 @@
 -- Pages that are not numbered: a record left out, a first page that does not begin with the record 0, and a record that
 -- goes on in another trace.
 use Rattle.std.proofs.Common.{ℕ, [], ◌∷◌, ap, inl, inr, arith}
-use Rattle.hs_journal.specs.declared.books.PageNote.{PageNote}
+use Rattle.hs_records.specs.declared.books.PageNote.{PageNote}
 use Rattle.hs_ledger.specs.Books.{AreNumbered}
 
 abbrev page_of : ℕ → ℕ → ℕ → PageNote

@@ -1,7 +1,7 @@
 -- Pages whose records are numbered from 0: where a further page begins, and that the numbers rise.
 use Rattle.std.proofs.Common.{◌≡◌, ◌⊎◌, ℕ, ◌+◌, ◌≤◌, List, [], ◌∷◌, ◌++◌, All, refl, inl, inr, arith}
 use Rattle.std.proofs.lemmas.List.Elements.{All-tail}
-use Rattle.hs_journal.specs.declared.books.PageNote.{PageNote}
+use Rattle.hs_records.specs.declared.books.PageNote.{PageNote}
 use Rattle.hs_ledger.specs.Books.{end_of, AllFollow, AreNumbered, count_from, record_count}
 
 abbrev pub IsCounted : PageNote → Type 0

@@ -8,7 +8,7 @@ use Rattle.std.proofs.lemmas.Bool.Decides.{nat_tests}
 use Rattle.hs_lists.proofs.Filters.{find_passes}
 use Rattle.hs_base.specs.declared.ids.ClientId.{ClientId}
 use Rattle.hs_base.specs.declared.told.Fate.{Fate}
-use Rattle.hs_journal.specs.declared.books.PageNote.{PageNote}
+use Rattle.hs_records.specs.declared.books.PageNote.{PageNote}
 use Rattle.hs_ledger.specs.declared.ledger.Entry.{Entry}
 use Rattle.hs_ledger.specs.Books.{end_of, AllFollow, AreNumbered, count_from, record_count}
 use Rattle.hs_ledger.specs.Fates.{FatedPage, has_piece_of, is_discarded, record_fate, entry_on}

@@ -7,8 +7,8 @@ use Rattle.std.proofs.lemmas.List.Elements.{All-tail}
 use Rattle.std.proofs.lemmas.List.Sums.{sum_by-cons, get_or-le-sum_by}
 use Rattle.hs_base.specs.declared.ids.ClientId.{ClientId}
 use Rattle.hs_base.specs.declared.told.Fate.{Fate}
-use Rattle.hs_journal.specs.declared.books.ClientBook.{ClientBook}
-use Rattle.hs_journal.specs.Books.{PlainClientBook, PlainAgentBook, client_book_of}
+use Rattle.hs_records.specs.declared.books.ClientBook.{ClientBook}
+use Rattle.hs_records.specs.Books.{PlainClientBook, PlainAgentBook, client_book_of}
 use Rattle.hs_ledger.specs.declared.ledger.Entry.{Entry}
 use Rattle.hs_ledger.specs.Books.{AreNumbered, record_count, BookFits, BooksFit, IsOfGotPage}
 use Rattle.hs_ledger.specs.Fates.{FatedPage, fated_by, has_piece_of, page_fate, fated_pages, entry_on, record_entry, book_entries, entries_of}

@@ -5,10 +5,10 @@ use Rattle.std.specs.Prelude.{◌≡◌, ◌⊎◌, ℕ, ◌+◌, ◌<◌, ◌�
 use Rattle.std.proofs.Common.{inl, inr}
 use Rattle.std.specs.List.{flat_map}
 use Rattle.hs_base.specs.declared.ids.ClientId.{ClientId}
-use Rattle.hs_journal.specs.declared.journal.Draw.TheVariants.{Got}
-use Rattle.hs_journal.specs.declared.books.PageNote.{PageNote}
-use Rattle.hs_journal.specs.declared.books.Standing.{Standing}
-use Rattle.hs_journal.specs.Books.{PlainClientBook, PlainAgentBook}
+use Rattle.hs_records.specs.declared.journal.Draw.TheVariants.{Got}
+use Rattle.hs_records.specs.declared.books.PageNote.{PageNote}
+use Rattle.hs_records.specs.declared.books.Standing.{Standing}
+use Rattle.hs_records.specs.Books.{PlainClientBook, PlainAgentBook}
 
 -- a client comes before another: by node, and at one node by number
 abbrev pub IsBefore : ClientId → ClientId → Type 0

@@ -6,11 +6,11 @@ use Rattle.std.specs.List.{flat_map, find, range_with_len}
 use Rattle.hs_base.specs.declared.ids.ClientId.{ClientId}
 use Rattle.hs_base.specs.declared.told.Fate.{Fate}
 use Rattle.hs_base.specs.declared.told.Fate.TheVariants.{Null, Live, Reported, Evicted, Abandoned}
-use Rattle.hs_journal.specs.declared.journal.Draw.{Draw}
-use Rattle.hs_journal.specs.declared.journal.Draw.TheVariants.{Got, Empty}
-use Rattle.hs_journal.specs.declared.books.PageNote.{PageNote}
-use Rattle.hs_journal.specs.declared.books.Standing.{Standing}
-use Rattle.hs_journal.specs.Books.{PlainClientBook, PlainAgentBook}
+use Rattle.hs_records.specs.declared.journal.Draw.{Draw}
+use Rattle.hs_records.specs.declared.journal.Draw.TheVariants.{Got, Empty}
+use Rattle.hs_records.specs.declared.books.PageNote.{PageNote}
+use Rattle.hs_records.specs.declared.books.Standing.{Standing}
+use Rattle.hs_records.specs.Books.{PlainClientBook, PlainAgentBook}
 use Rattle.hs_ledger.specs.declared.ledger.Entry.{Entry}
 use Rattle.hs_ledger.specs.Books.{end_of, record_count, is_of, standings_at}
 

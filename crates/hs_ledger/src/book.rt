@@ -9,7 +9,7 @@ ghost use Rattle.hs_ledger.specs.Making.{page_eq, drawn_fate, joined_fate, last_
 use crate::ledger::Entry;
 use crate::standings::{PageId, page_fate};
 use hs_base::{ClientId, Fate, Memory, RecordId};
-use hs_journal::{ClientBook, PageNote};
+use hs_records::{ClientBook, PageNote};
 use std::collections::HashMap;
 
 /// Whether pieces of this fate are lost.

@@ -1,7 +1,7 @@
 //! The ledger of a run.
 
 ghost use Rattle.std.specs.Prelude.{◌≡◌, ◌+◌, ◌<◌, length, IfOk, OnErr, map, sum_by};
-ghost use Rattle.hs_journal.specs.Books.{client_book_of, agent_book_of};
+ghost use Rattle.hs_records.specs.Books.{client_book_of, agent_book_of};
 ghost use Rattle.hs_ledger.specs.Books.{BooksFit, record_count};
 ghost use Rattle.hs_ledger.specs.Fates.{entries_of};
 ghost use Rattle.hs_ledger.specs.Totals.{totals_of, parts_of};
@@ -10,7 +10,7 @@ use crate::book::add_book;
 use crate::ledger::{Ledger, Totals};
 use crate::standings::page_fates;
 use hs_base::{List, Memory};
-use hs_journal::{AgentBook, ClientBook};
+use hs_records::{AgentBook, ClientBook};
 use std::alloc::Global;
 
 /// The number behind that of a client's last record.

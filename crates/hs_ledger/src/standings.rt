@@ -3,12 +3,12 @@
 ghost use Rattle.std.specs.Prelude.{◌≡◌, ◌<◌, length, IfOk, OnOk, OnErr, None, map};
 ghost use Rattle.std.specs.HashMap.{get};
 ghost use Rattle.hs_base.specs.declared.ids.ClientId.{ClientId};
-ghost use Rattle.hs_journal.specs.Books.{agent_book_of};
+ghost use Rattle.hs_records.specs.Books.{agent_book_of};
 ghost use Rattle.hs_ledger.specs.declared.standings.PageId.{PageId};
 ghost use Rattle.hs_ledger.specs.Making.{page_eq, newest, all_standings, drawn_fate};
 
 use hs_base::{ClientId, Fate, Memory};
-use hs_journal::{AgentBook, Draw, Standing};
+use hs_records::{AgentBook, Draw, Standing};
 use std::alloc::Global;
 use std::collections::HashMap;
 

@@ -2,7 +2,7 @@
 use Rattle.std.proofs.Common.{◌≡◌, ℕ, ◌+◌, Bool, true, false, List, [], ◌∷◌, ◌++◌, map, reverse, Option, Some, None, refl, sym, ap, ap₂, ◌∙◌}
 use Rattle.hs_live.proofs.Prelude.{append-nil, is_some, option_to_list, ClientId, TraceId, Operation, Begin, Point, End, Fire, Sample, segments_of, PoolEvent, Got, Empty, Answer, Buffer, Core, Step, handed, AreSteps, IsBook, after, segments_of_steps, with_all, sent, Leased, PlainClient, Made, new_of, noted, buffer_got, buffers_by, HasDone}
 use Rattle.std.specs.List.{flat_map}
-use Rattle.hs_journal.specs.declared.journal.Draw.{Draw}
+use Rattle.hs_records.specs.declared.journal.Draw.{Draw}
 use Rattle.hs_records.specs.Plain as plain
 use Rattle.hs_records.specs.Records.{AreBracketed}
 use Rattle.hs_records.specs.Pages.{PlainPage, segment_pages, pages_of}

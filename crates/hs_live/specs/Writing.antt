@@ -6,8 +6,8 @@ use Rattle.hs_base.specs.declared.ids.ClientId.{ClientId}
 use Rattle.hs_base.specs.declared.settings.AutoRule.{AutoRule}
 use Rattle.hs_base.specs.declared.limits.TheConstants.{MIN_SIZE}
 use Rattle.hs_records.specs.Records.{Piece, Segment}
-use Rattle.hs_journal.specs.declared.journal.Draw.{Draw}
-use Rattle.hs_journal.specs.declared.journal.Draw.TheVariants as draws
+use Rattle.hs_records.specs.declared.journal.Draw.{Draw}
+use Rattle.hs_records.specs.declared.journal.Draw.TheVariants as draws
 use Rattle.hs_words.specs.Pools.{PoolName}
 use Rattle.hs_words.specs.PoolHistory.{PoolEvent, Got, Empty, Given, Missed}
 use Rattle.hs_words.specs.Ends.{Answer}

@@ -2,8 +2,8 @@
 
 use crate::key::ClientKey;
 use hs_base::{Crumb, Trigger};
-use hs_journal::ClientBook;
 use hs_link::Sender;
+use hs_records::ClientBook;
 use hs_ring::{Drawer, Lease};
 use hs_words::Held;
 

@@ -6,3 +6,5 @@ pub mod Records
 pub mod Settings
 pub mod Validity
 pub mod Views
+pub mod Books
+pub mod Journals

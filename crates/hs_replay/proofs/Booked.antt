@@ -7,7 +7,7 @@ use Rattle.hs_lists.proofs.Tests.{list_all_at}
 use Rattle.hs_lists.proofs.Bools.{second_true}
 use Rattle.hs_lists.proofs.Places.{take_more}
 use Rattle.hs_client.specs.Calls.{note_of}
-use Rattle.hs_journal.specs.declared.books.AgentBook.{AgentBook}
+use Rattle.hs_records.specs.declared.books.AgentBook.{AgentBook}
 use Rattle.hs_law_outcome.specs.Outcomes.{client_at, client_books, agent_books}
 use Rattle.hs_records.specs.Pages.{pages_of}
 

@@ -5,7 +5,7 @@ use Rattle.std.proofs.lemmas.List.{length-drop}
 use Rattle.hs_lists.proofs.Parts.{length_map}
 use Rattle.hs_agent.specs.Placing.{place_of}
 use Rattle.hs_agent.specs.Runs.{Run, first_place}
-use Rattle.hs_journal.specs.declared.journal.Step.TheVariants as steps
+use Rattle.hs_records.specs.declared.journal.Step.TheVariants as steps
 use Rattle.hs_law_journal.specs.Pooled.{buffer_of, pool_events}
 use Rattle.hs_law_lockstep.specs.Lockstep.{give_steps}
 use Rattle.hs_law_lockstep.specs.Parts.{GivesNext, AgentGives}

@@ -14,11 +14,6 @@ pub use Rattle.hs_base.specs.declared.told.Told.{Told}
 pub use Rattle.hs_base.specs.declared.told.Trigger.{Trigger}
 pub use Rattle.hs_coord.specs.Following.{Message, Messages}
 pub use Rattle.hs_coord.specs.Kept.{HasTaken, PlainCoordinator}
-pub use Rattle.hs_journal.specs.Books.{agent_book_of, client_book_of, PlainAgentBook, PlainClientBook}
-pub use Rattle.hs_journal.specs.Views.{PlainJournal}
-pub use Rattle.hs_journal.specs.declared.books.ClientBook.{ClientBook}
-pub use Rattle.hs_journal.specs.declared.journal.Draw.{Draw}
-pub use Rattle.hs_journal.specs.declared.journal.Step.{Step}
 pub use Rattle.hs_law_agent.specs.Books.{book_of}
 pub use Rattle.hs_law_agent.specs.Laws.{EventsAddThis, EventsGoOn, sheets_of, StepsSayWhatTheyTell}
 pub use Rattle.hs_law_agent.specs.State.{AgentState}
@@ -45,9 +40,14 @@ pub use Rattle.hs_lists.proofs.Places.{get_mid, get_push_cases, get_set_cases, g
 pub use Rattle.hs_lists.proofs.Ranges.{map_range_from, range_append}
 pub use Rattle.hs_lists.proofs.Tests.{list_all_by_place, list_all_fails}
 pub use Rattle.hs_pool.specs.Pool.{IsAfter, Pool}
+pub use Rattle.hs_records.specs.Books.{agent_book_of, client_book_of, PlainAgentBook, PlainClientBook}
+pub use Rattle.hs_records.specs.Journals.{PlainJournal}
 pub use Rattle.hs_records.specs.Plain.{Operation, PlainSettings, PlainWorkload, settings_of}
 pub use Rattle.hs_records.specs.Validity.{IsValid}
 pub use Rattle.hs_records.specs.Views.{operation_of, workload_of}
+pub use Rattle.hs_records.specs.declared.books.ClientBook.{ClientBook}
+pub use Rattle.hs_records.specs.declared.journal.Draw.{Draw}
+pub use Rattle.hs_records.specs.declared.journal.Step.{Step}
 pub use Rattle.hs_records.specs.declared.operation.Op.{Op}
 pub use Rattle.hs_records.specs.declared.operation.Workload.{Workload}
 pub use Rattle.hs_replay.specs.All.{AllAt, AllClosed, AllHeard, clients_gone, HasHeard, NodesAt, NodesBetween, TellsLeft}

@@ -1,7 +1,7 @@
 -- The next item of a queue, taken out for the agent: the step that takes it is ready, and the other parts stand where they stood.
 use Rattle.std.proofs.Common.{◌≡◌, ℕ, ◌+◌, ◌<◌, true, false, List, [], ◌∷◌, ◌++◌, length, set, Option, Some, inl, inr, refl, sym, ap, subst, ◌∙◌, arith, option_map, eq-eqb, nat_eq, length-set}
 use Rattle.hs_replay.proofs.Prelude.{ne_eqb, slice_get, option_and_then, get_set_cases, map_range_from, sheet_in, Crumb, Trigger, Step, Chunks, Crumbs, Triggers, takes, taken, NodeRun, event_of, page_of, taken_still, Machine, done_at, heard_in, AgentEvent, Took, Chunk, Crumbed, Triggered, ReplayClientIsAt, PlainReplayClient, PlainWorkload, DrawnPage, ClientSends, client_sends, node_sends, draws_at, operations_at, place_of, Sheet, ReplayClientStands, ReplayClientsStand, IsLent}
-use Rattle.hs_journal.specs.declared.journal.Step.TheVariants as steps
+use Rattle.hs_records.specs.declared.journal.Step.TheVariants as steps
 use Rattle.hs_law_journal.specs.Following.{Queue, next_of}
 use Rattle.hs_law_journal.specs.Pooled.{buffer_of as buffer_in_draw}
 use Rattle.hs_replay_client.specs.Places.{IsChunkAt}

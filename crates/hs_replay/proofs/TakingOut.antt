@@ -3,7 +3,7 @@ use Rattle.std.proofs.Common.{◌≡◌, ℕ, ◌<◌, false, List, [], ◌∷�
 use Rattle.hs_replay.proofs.Prelude.{slice_get, slice_get_within, get_mid, Input, Ask, Crumb, Trigger, ChangesAt, Step, Chunks, Crumbs, Triggers, Asks, takes, taken, NodeRun, asks_to, Machine, done_at, heard_in, Took, Chunk, Crumbed, Triggered, TakesChunk, TakesCrumb, TakesTrigger, PlainReplayClient, PlainWorkload, draws_at, operations_at, place_of, Held, buffer_of, sheet_in, pool_history, taken_still, Sheet, PlainReplayNode, IsAmid, IsReady, IsDrained, IsThere, Remain, ReplayClientsStand, ReplayNodeStands}
 use Rattle.std.specs.Prelude.{IsSome}
 use Rattle.hs_agent.specs.declared.input.Input.TheVariants as inputs
-use Rattle.hs_journal.specs.declared.journal.Step.TheVariants as steps
+use Rattle.hs_records.specs.declared.journal.Step.TheVariants as steps
 use Rattle.hs_law_agent.specs.Stepping.{Asked}
 use Rattle.hs_replay.specs.declared.queue.Queue.TheVariants as queues
 use Rattle.hs_replay.proofs.Counting.{taken_once}

@@ -1,7 +1,7 @@
 -- What a node leaves: the book of its agent, and those of its clients, when all operations are done and nothing is pinned.
 use Rattle.std.specs.Prelude.{◌≡◌, ℕ, List, [], length, map, slice_get, Some}
 use Rattle.hs_client.specs.Calls.{note_of}
-use Rattle.hs_journal.specs.Books.{PlainClientBook, PlainAgentBook}
+use Rattle.hs_records.specs.Books.{PlainClientBook, PlainAgentBook}
 use Rattle.hs_law_journal.specs.Following.{NodeRun}
 use Rattle.hs_law_lockstep.specs.Lockstep.{Machine}
 use Rattle.hs_law_lockstep.specs.Parts.{node_at}

@@ -2,8 +2,8 @@
 use Rattle.std.specs.Prelude.{◌≡◌, [], ◌∷◌, map, refl}
 use Rattle.hs_base.specs.Listing.{listing}
 use Rattle.hs_base.specs.declared.told.Fate.TheVariants.{Live}
-use Rattle.hs_journal.specs.declared.journal.Draw.TheVariants.{Got}
-use Rattle.hs_journal.specs.Books.{agent_book_of, client_book_of}
+use Rattle.hs_records.specs.declared.journal.Draw.TheVariants.{Got}
+use Rattle.hs_records.specs.Books.{agent_book_of, client_book_of}
 use Rattle.hs_law_journal.specs.Following.{followed}
 use Rattle.hs_law_journal.specs.Samples.{chunk, turn}
 use Rattle.hs_law_journal.specs.Workloads.{one_point}

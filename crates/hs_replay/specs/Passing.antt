@@ -4,7 +4,7 @@ use Rattle.std.specs.List.{flat_map, range_with_len}
 use Rattle.hs_agent.specs.declared.input.Input.{Input}
 use Rattle.hs_agent.specs.declared.input.Input.TheVariants as inputs
 use Rattle.hs_agent.specs.Runs.{IsChunkFor, input_of}
-use Rattle.hs_journal.specs.declared.journal.Step.{Step}
+use Rattle.hs_records.specs.declared.journal.Step.{Step}
 use Rattle.hs_law_journal.specs.Following.{NodeRun, event_of, taken, asks_to}
 use Rattle.hs_law_journal.specs.Pooled.{pool_history}
 use Rattle.hs_law_lockstep.specs.Lockstep.{Machine, done_at, takes_from, give_steps}

@@ -1,7 +1,7 @@
 -- The queues from which an agent takes, as the code names them.
 use Rattle.std.specs.Prelude.{ℕ, ◌<◌}
-use Rattle.hs_journal.specs.declared.journal.Step.{Step}
-use Rattle.hs_journal.specs.declared.journal.Step.TheVariants as steps
+use Rattle.hs_records.specs.declared.journal.Step.{Step}
+use Rattle.hs_records.specs.declared.journal.Step.TheVariants as steps
 use Rattle.hs_law_journal.specs.Following as following
 use Rattle.hs_replay.specs.declared.queue.Queue.{Queue}
 use Rattle.hs_replay.specs.declared.queue.Queue.TheVariants as queues

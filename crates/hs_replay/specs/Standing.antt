@@ -8,7 +8,7 @@ use Rattle.hs_agent.specs.Keeping.{PlainAgent}
 use Rattle.hs_agent.specs.Points.{sheet_in}
 use Rattle.hs_agent.specs.Runs as agents
 use Rattle.hs_coord.specs.Following.{Messages}
-use Rattle.hs_journal.specs.declared.journal.Step.{Step}
+use Rattle.hs_records.specs.declared.journal.Step.{Step}
 use Rattle.hs_law_journal.specs.Following.{Chunks, Crumbs, Triggers, Asks, taken, asks_to, is_from, NodeRun}
 use Rattle.hs_law_journal.specs.Pooled.{buffer_of, page_of, pool_history}
 use Rattle.hs_law_lockstep.specs.Lockstep.{Machine, done_at}

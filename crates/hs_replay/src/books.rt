@@ -8,8 +8,8 @@ ghost use Rattle.hs_replay.specs.Noted.{AreNoted};
 
 use crate::node::ReplayNode;
 use hs_base::{List, Memory};
-use hs_journal::{AgentBook, ClientBook};
 use hs_law_lockstep::laws::machines_are_whole;
+use hs_records::{AgentBook, ClientBook};
 use std::alloc::Global;
 
 /// The books of all clients, in the order of node and number, and those of all agents, in the order of node.

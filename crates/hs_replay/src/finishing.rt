@@ -3,7 +3,7 @@
 ghost use Rattle.std.specs.Prelude.{◌≡◌, ℕ, [], ◌++◌, map, None, IfOk, OnOk};
 ghost use Rattle.std.specs.List.{range_with_len};
 ghost use Rattle.hs_agent.specs.Runs.{Follows, Knows, Run, state_of};
-ghost use Rattle.hs_journal.specs.Books.{agent_book_of, client_book_of};
+ghost use Rattle.hs_records.specs.Books.{agent_book_of, client_book_of};
 ghost use Rattle.hs_law_lockstep.specs.Lockstep.{Machine};
 ghost use Rattle.hs_law_agent.specs.Books.{book_of};
 ghost use Rattle.hs_records.specs.Plain.{PlainWorkload};
@@ -12,7 +12,7 @@ ghost use Rattle.hs_replay.specs.Finishing.{HasEnded, HaveEnded, IsBookAt, clien
 use crate::node::ReplayNode;
 use hs_agent::{Agent, Finished};
 use hs_base::{List, Memory};
-use hs_journal::{AgentBook, ClientBook};
+use hs_records::{AgentBook, ClientBook};
 use hs_replay_client::ReplayClient;
 
 impl ReplayNode {

@@ -6,8 +6,8 @@ ghost use Rattle.hs_law_lockstep.specs.Lockstep.{Machine, agents_take, agents_gi
 ghost use Rattle.hs_replay.specs.Standing.{NodeIsAt};
 ghost use Rattle.hs_law_agent.specs.Stepping.{Took};
 ghost use Rattle.hs_agent.specs.Runs.{input_of};
-ghost use Rattle.hs_journal.specs.declared.journal.Step.{Step};
-ghost use Rattle.hs_journal.specs.declared.journal.Step.TheVariants.{Turn};
+ghost use Rattle.hs_records.specs.declared.journal.Step.{Step};
+ghost use Rattle.hs_records.specs.declared.journal.Step.TheVariants.{Turn};
 ghost use Rattle.hs_records.specs.Plain.{PlainWorkload};
 ghost use Rattle.hs_words.specs.Buffers.{buffer_in};
 ghost use Rattle.hs_replay_client.specs.ReplayClients.{PlainReplayClient};

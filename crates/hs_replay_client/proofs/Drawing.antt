@@ -1,7 +1,7 @@
 -- Draws one behind another.
 use Rattle.std.proofs.Common.{◌≡◌, ℕ, zero, suc, ◌+◌, List, [], ◌∷◌, ◌++◌, length, map, drop, reverse, refl, sym, ap, ap₂, ◌∙◌, subst, arith, append_assoc, length-append}
 use Rattle.hs_replay_client.proofs.Prelude.{append-nil, reverse-append, length-map, map-append, Draw, Drawn, PoolEvent, queue_after, Pool, IsAfter, draws_behind, event_drawn, length_next, note_drawn, OnlyDraws}
-use Rattle.hs_journal.specs.declared.journal.Draw.TheVariants as noted
+use Rattle.hs_records.specs.declared.journal.Draw.TheVariants as noted
 use Rattle.hs_words.specs.declared.token.Drawn.TheVariants as drawn
 use Rattle.hs_words.specs.PoolHistory.{Got, Empty}
 use Rattle.hs_words.specs.PoolAnswers as answers

@@ -4,7 +4,7 @@ use Rattle.hs_replay_client.proofs.Prelude.{append-nil, take_all, is_some, flat_
 use Rattle.hs_client.specs.Core.{all_pages}
 use Rattle.hs_client.specs.Calls.{note_of}
 use Rattle.hs_client.proofs.Bare.{after_keeps}
-use Rattle.hs_journal.specs.Books.{PlainClientBook}
+use Rattle.hs_records.specs.Books.{PlainClientBook}
 use Rattle.hs_records.specs.Pages.{pages_of, segment_pages}
 use Rattle.hs_law_sends.proofs.OneMore.{none_open}
 use Rattle.hs_replay_client.proofs.Standing.{recorded}

@@ -1,7 +1,7 @@
 -- The chunks of the pages that are sent first. The pages of a client are sent in their order, so these are a front of its pages.
 use Rattle.std.proofs.Common.{◌≡◌, ℕ, ◌+◌, ◌≤◌, Bool, true, false, List, [], ◌∷◌, map, filter, refl, sym, ap, ◌∙◌, arith}
 use Rattle.hs_replay_client.proofs.Prelude.{ltb-false, le-ltb, nat_lt, flat_map, ClientId, Draw, filled_chunks, clear_chunk, DrawnPage, pages_within, Unleased, buffer_got, chunk_of}
-use Rattle.hs_journal.specs.declared.journal.Draw.TheVariants as noted
+use Rattle.hs_records.specs.declared.journal.Draw.TheVariants as noted
 use Rattle.hs_client.specs.Calls.{filled}
 use Rattle.hs_records.specs.Pages.{PlainPage}
 use Rattle.hs_law_sends.specs.Drawn.{drawn_from}

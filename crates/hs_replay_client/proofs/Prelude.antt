@@ -9,7 +9,6 @@ pub use Rattle.hs_base.specs.declared.told.Crumb.{Crumb}
 pub use Rattle.hs_base.specs.declared.told.Trigger.{Trigger}
 pub use Rattle.hs_client.specs.Calls.{after, AreSteps, draws_supplied, filled_chunks, IsBook, May, segments_of_steps, with_all}
 pub use Rattle.hs_client.specs.Core.{after_step, Began, Core, draw_of, Ended_, handed, Needed, new_core, number_after, Refused, Step, Supplied, supplied, Wrote}
-pub use Rattle.hs_journal.specs.declared.journal.Draw.{Draw}
 pub use Rattle.hs_law_sends.proofs.Adding.{at, OneMore}
 pub use Rattle.hs_law_sends.proofs.Order.{length_next}
 pub use Rattle.hs_law_sends.specs.Drawn.{DrawnPage}
@@ -29,6 +28,7 @@ pub use Rattle.hs_records.specs.Plain.{Begin, End, Fire, Operation, PlainSetting
 pub use Rattle.hs_records.specs.Records.{coming, numbered_of, Piece, piece_count, piece_limit, record_pieces, Segment, segments_from, segments_of}
 pub use Rattle.hs_records.specs.Validity.{client_pieces, operation_pieces}
 pub use Rattle.hs_records.specs.Views.{operation_of}
+pub use Rattle.hs_records.specs.declared.journal.Draw.{Draw}
 pub use Rattle.hs_records.specs.declared.operation.Op.{Op}
 pub use Rattle.hs_replay_client.specs.Doing.{Does, Gone, HasDone, MayDo}
 pub use Rattle.hs_replay_client.specs.Inside.{working_in, writing_in}

@@ -5,8 +5,8 @@ use Rattle.hs_base.specs.declared.settings.AutoRule.TheVariants.{Exception}
 use Rattle.hs_base.specs.Samples.{t, owner}
 use Rattle.hs_client.specs.Core.{new_core}
 use Rattle.hs_client.specs.Calls.{with_all}
-use Rattle.hs_journal.specs.declared.journal.Draw.{Draw}
-use Rattle.hs_journal.specs.declared.journal.Draw.TheVariants.{Got, Empty}
+use Rattle.hs_records.specs.declared.journal.Draw.{Draw}
+use Rattle.hs_records.specs.declared.journal.Draw.TheVariants.{Got, Empty}
 use Rattle.hs_records.specs.Plain.{Point, End}
 use Rattle.hs_records.specs.Records.{Piece, Segment, coming}
 use Rattle.hs_law_sends.specs.Samples.{begin, fire, plain, two_fills}

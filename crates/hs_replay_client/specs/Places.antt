@@ -8,9 +8,9 @@ use Rattle.hs_base.specs.declared.limits.TheConstants.{MAX_OPERATIONS}
 use Rattle.hs_base.specs.declared.told.Crumb.{Crumb}
 use Rattle.hs_base.specs.declared.told.Trigger.{Trigger}
 use Rattle.hs_client.specs.Calls.{note_of}
-use Rattle.hs_journal.specs.Books.{PlainClientBook}
-use Rattle.hs_journal.specs.declared.journal.Draw.{Draw}
-use Rattle.hs_journal.specs.declared.journal.Draw.TheVariants as draws
+use Rattle.hs_records.specs.Books.{PlainClientBook}
+use Rattle.hs_records.specs.declared.journal.Draw.{Draw}
+use Rattle.hs_records.specs.declared.journal.Draw.TheVariants as draws
 use Rattle.hs_pool.specs.Pool.{Pool, IsAfter, HasSize}
 use Rattle.hs_records.specs.Plain.{Operation, PlainSettings}
 use Rattle.hs_records.specs.Pages.{pages_of}

@@ -1,7 +1,7 @@
 -- The pool of a node as a well: it is ready while its buffers have the size and stamps are left, and each draw takes the next buffer of
 -- its queue, with nothing else at the pool.
 use Rattle.std.specs.Prelude.{◌≡◌, ℕ, ◌+◌, ◌<◌, ◌^◌, List, [], ◌∷◌, ◌++◌, map}
-use Rattle.hs_journal.specs.declared.journal.Draw.{Draw}
+use Rattle.hs_records.specs.declared.journal.Draw.{Draw}
 use Rattle.hs_pool.specs.Pool.{Pool, IsAfter, HasSize}
 use Rattle.hs_law_sends.specs.Draws.{draws_behind, event_drawn}
 use Rattle.hs_words.specs.PoolHistory.{PoolEvent}

@@ -2,7 +2,7 @@
 
 ghost use Rattle.std.specs.Prelude.{◌≡◌, ◌+◌, ◌≤◌, ◌<◌, ◌^◌, [], length, map, IfOk, OnOk};
 ghost use Rattle.hs_base.specs.declared.limits.TheConstants.{MAX_OPERATIONS, MIN_SIZE};
-ghost use Rattle.hs_journal.specs.Books.{client_book_of};
+ghost use Rattle.hs_records.specs.Books.{client_book_of};
 ghost use Rattle.hs_records.specs.Plain.{settings_of};
 ghost use Rattle.hs_words.specs.Buffers.{buffer_in};
 ghost use Rattle.hs_records.specs.Validity.{operation_pieces, client_pieces};
@@ -16,13 +16,12 @@ use crate::writer::Writer;
 use hs_auto::Auto;
 use hs_base::{AutoRule, ClientId, Crumb, List, Memory, Settings, Trigger};
 use hs_client::{ClientCore, any_steps_make_the_book};
-use hs_journal::ClientBook;
 use hs_law_sends::laws::{
     cores_hand_out_so_far, items_are_sent_in_order, the_first_crumbs_are_sent,
     the_first_triggers_are_sent, timed_pages_are_timely,
 };
 use hs_pool::PlainPool;
-use hs_records::{Op, piece_count};
+use hs_records::{ClientBook, Op, piece_count};
 use hs_words::Held;
 use std::alloc::Global;
 use std::collections::VecDeque;

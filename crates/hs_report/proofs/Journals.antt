@@ -3,10 +3,10 @@ use Rattle.std.proofs.Common.{◌≡◌, ℕ, ◌+◌, true, eqb, List, [], ◌�
 use Rattle.hs_report.proofs.Prelude.{AllByRecursion, flat_map, range_with_len, option_map, slice_get, nat_tests, map-append, first_true, second_true, PlainClientBook, PlainAgentBook, agent_book_of, AgentBook, Claim, PlainJournal, PlainWorkload, Sheet, page_bytes, claimed_by, all_claimed, sent_by, all_sent}
 use Rattle.std.specs.List.{filter_map, cons_option, list_all}
 use Rattle.hs_base.specs.declared.ids.NodeId.{NodeId}
-use Rattle.hs_journal.specs.Books.{client_book_of}
-use Rattle.hs_journal.specs.declared.books.ClientBook.{ClientBook}
-use Rattle.hs_journal.specs.declared.journal.Draw.{Draw}
-use Rattle.hs_journal.specs.declared.journal.Step.{Step}
+use Rattle.hs_records.specs.Books.{client_book_of}
+use Rattle.hs_records.specs.declared.books.ClientBook.{ClientBook}
+use Rattle.hs_records.specs.declared.journal.Draw.{Draw}
+use Rattle.hs_records.specs.declared.journal.Step.{Step}
 use Rattle.hs_law_journal.specs.Following.{NodeRun, followed, log_at}
 use Rattle.hs_law_journal.specs.Extending.{IsOfJournal, RunsAreOfTheJournal}
 use Rattle.hs_law_journal.specs.Orders.{FollowingPlaysOut}

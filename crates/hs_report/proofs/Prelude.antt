@@ -6,11 +6,7 @@ pub use Rattle.hs_base.specs.declared.ids.TraceId.{TraceId}
 pub use Rattle.hs_base.specs.declared.told.Fate.{Fate}
 pub use Rattle.hs_collect.specs.Collected.{AreCollected, AreWholes, CanBeAdded, first_seen, is_same, pieces_of, Placed}
 pub use Rattle.hs_collect.specs.Views.{placed_of, Sheets}
-pub use Rattle.hs_journal.specs.Books.{agent_book_of, PlainAgentBook, PlainClientBook}
-pub use Rattle.hs_journal.specs.Grammar.{HasItsLists, journal_text}
-pub use Rattle.hs_journal.specs.Views.{journal_of, PlainJournal}
-pub use Rattle.hs_journal.specs.declared.books.AgentBook.{AgentBook}
-pub use Rattle.hs_journal.specs.declared.books.Claim.{Claim}
+pub use Rattle.hs_journal.specs.Grammar.{journal_text}
 pub use Rattle.hs_law_journal.specs.Lawful.{IsLawful}
 pub use Rattle.hs_law_outcome.specs.CollectedReports.{CollectedRecordsAreWhole, reported_wholes, was_reported}
 pub use Rattle.hs_law_outcome.specs.OutcomeText.{entry_line, fate_words, gap_line, placed_line, report_lines}
@@ -22,8 +18,12 @@ pub use Rattle.hs_ledger.specs.Totals.{is_reported}
 pub use Rattle.hs_ledger.specs.declared.ledger.Entry.{Entry}
 pub use Rattle.hs_lists.proofs.Bools.{first_true, second_true}
 pub use Rattle.hs_lists.proofs.Filters.{filter_weaker}
+pub use Rattle.hs_records.specs.Books.{agent_book_of, PlainAgentBook, PlainClientBook}
+pub use Rattle.hs_records.specs.Journals.{HasItsLists, journal_of, PlainJournal}
 pub use Rattle.hs_records.specs.Plain.{PlainWorkload}
 pub use Rattle.hs_records.specs.Validity.{IsValid}
+pub use Rattle.hs_records.specs.declared.books.AgentBook.{AgentBook}
+pub use Rattle.hs_records.specs.declared.books.Claim.{Claim}
 pub use Rattle.hs_report.specs.Claims.{all_claimed, claimed_by}
 pub use Rattle.hs_report.specs.Fates.{AreFatesOf, has_entry}
 pub use Rattle.hs_report.specs.Kept.{is_kept, kept_of}

@@ -1,6 +1,6 @@
 -- What a journal has that has a text.
 use Rattle.hs_report.proofs.Prelude.{HasItsLists, PlainJournal}
-use Rattle.hs_journal.specs.Grammar.{IsJournal}
+use Rattle.hs_records.specs.Journals.{IsJournal}
 
 -- a journal that has a text has its lists
 pub has_its_lists : (J : PlainJournal) → IsJournal J → HasItsLists J

@@ -2,8 +2,8 @@
 use Rattle.std.specs.Prelude.{List, map}
 use Rattle.std.specs.List.{flat_map}
 use Rattle.hs_base.specs.declared.ids.TraceId.{TraceId}
-use Rattle.hs_journal.specs.declared.books.AgentBook.{AgentBook}
-use Rattle.hs_journal.specs.declared.books.Claim.{Claim}
+use Rattle.hs_records.specs.declared.books.AgentBook.{AgentBook}
+use Rattle.hs_records.specs.declared.books.Claim.{Claim}
 
 abbrev pub claimed_by : AgentBook → List TraceId
 claimed_by book = map (λ (claim : Claim). claim.trace) book.claims.items

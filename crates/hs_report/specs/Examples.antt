@@ -12,9 +12,9 @@ use Rattle.hs_base.specs.declared.told.Fate.TheVariants.{Reported}
 use Rattle.hs_base.specs.Samples.{t, one_rule}
 use Rattle.hs_collect.specs.Collected.{Placed, AreCollected, AreWholes, IsWhole, pieces_of}
 use Rattle.hs_collect.specs.Views.{Collection}
-use Rattle.hs_journal.specs.declared.journal.Draw.TheVariants.{Got}
+use Rattle.hs_records.specs.declared.journal.Draw.TheVariants.{Got}
 use Rattle.hs_journal.specs.Grammar.{journal_lines}
-use Rattle.hs_journal.specs.Views.{PlainJournal}
+use Rattle.hs_records.specs.Journals.{PlainJournal}
 use Rattle.hs_law_journal.specs.Journals.{of_trigger_first, of_short_of_pins}
 use Rattle.hs_law_journal.specs.Lawful.{first_unlawful}
 use Rattle.hs_law_journal.specs.Samples.{journal, chunk, trigger, turn, given}

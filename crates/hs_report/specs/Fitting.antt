@@ -3,7 +3,7 @@
 use Rattle.std.specs.Prelude.{◌<◌, ◌^◌, length}
 use Rattle.std.specs.List.{AllByRecursion}
 use Rattle.hs_journal.specs.Grammar.{Reads, journal_text}
-use Rattle.hs_journal.specs.Views.{PlainJournal}
+use Rattle.hs_records.specs.Journals.{PlainJournal}
 use Rattle.hs_law_journal.specs.Lawful.{IsLawful}
 use Rattle.hs_law_outcome.specs.Outcomes.{outcome_of}
 use Rattle.hs_law_outcome.specs.Records.{all_records}

@@ -1,8 +1,8 @@
 -- The journal that books have: their draws, their logs, and the order of the messages that were heard.
 use Rattle.std.specs.Prelude.{map}
-use Rattle.hs_journal.specs.declared.books.AgentBook.{AgentBook}
-use Rattle.hs_journal.specs.declared.books.ClientBook.{ClientBook}
-use Rattle.hs_journal.specs.Views.{PlainJournal}
+use Rattle.hs_records.specs.declared.books.AgentBook.{AgentBook}
+use Rattle.hs_records.specs.declared.books.ClientBook.{ClientBook}
+use Rattle.hs_records.specs.Journals.{PlainJournal}
 use Rattle.hs_report.specs.declared.outcome.Books.{Books}
 
 abbrev pub journal_by : Books → PlainJournal

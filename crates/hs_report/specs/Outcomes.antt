@@ -2,8 +2,8 @@
 -- reported pages collect, node by node, as they were reported.
 use Rattle.std.specs.Prelude.{◌≡◌, map}
 use Rattle.hs_collect.specs.Collected.{AreCollected}
-use Rattle.hs_journal.specs.Books.{client_book_of, agent_book_of}
-use Rattle.hs_journal.specs.Views.{PlainJournal, journal_of}
+use Rattle.hs_records.specs.Books.{client_book_of, agent_book_of}
+use Rattle.hs_records.specs.Journals.{PlainJournal, journal_of}
 use Rattle.hs_law_journal.specs.Following.{followed}
 use Rattle.hs_law_journal.specs.Lawful.{IsLawful}
 use Rattle.hs_ledger.specs.Totals.{totals_of}

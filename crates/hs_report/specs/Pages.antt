@@ -7,7 +7,7 @@ use Rattle.hs_base.specs.declared.ids.ClientId.{ClientId}
 use Rattle.hs_base.specs.declared.ids.TraceId.{TraceId}
 use Rattle.hs_collect.specs.Collected.{IsReordering, first_seen, is_by}
 use Rattle.hs_collect.specs.Views.{Sheets}
-use Rattle.hs_journal.specs.declared.books.AgentBook.{AgentBook}
+use Rattle.hs_records.specs.declared.books.AgentBook.{AgentBook}
 use Rattle.hs_words.specs.Pages.{Sheet, IsPage, page_bytes}
 use Rattle.hs_report.specs.declared.pages.Reported.{Reported}
 

@@ -5,7 +5,7 @@ ghost use Rattle.hs_law_outcome.specs.Outcomes.{rising_traces};
 ghost use Rattle.hs_report.specs.Claims.{all_claimed};
 
 use hs_base::{List, Memory, TraceId};
-use hs_journal::{AgentBook, Claim};
+use hs_records::{AgentBook, Claim};
 use std::alloc::Global;
 
 /// Appends the traces of these claims.

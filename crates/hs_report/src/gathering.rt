@@ -2,7 +2,7 @@
 
 ghost use Rattle.std.specs.Prelude.{◌≡◌, List, map, IfOk};
 ghost use Rattle.hs_collect.specs.Collected.{AreCollected};
-ghost use Rattle.hs_journal.specs.Views.{PlainJournal, journal_of};
+ghost use Rattle.hs_records.specs.Journals.{PlainJournal, journal_of};
 ghost use Rattle.hs_law_outcome.specs.Outcomes.{outcome_of};
 ghost use Rattle.hs_ledger.specs.Totals.{totals_of};
 ghost use Rattle.hs_records.specs.Plain.{PlainWorkload};
@@ -15,10 +15,10 @@ use crate::outcome::{Books, Outcome};
 use crate::pages::collected;
 use hs_base::{List, Memory, TraceId};
 use hs_collect::Collector;
-use hs_journal::{AgentBook, ClientBook, Draw, Journal, Step};
 use hs_law_journal::laws::{following_plays_out, runs_are_of_the_journal};
 use hs_law_outcome::laws::{books_fit, journals_have_the_shape, reported_pages_can_be_collected};
 use hs_ledger::{Ledger, make_ledger};
+use hs_records::{AgentBook, ClientBook, Draw, Journal, Step};
 use std::alloc::Global;
 
 /// The draws of all clients, by client.

@@ -2,8 +2,8 @@
 
 use hs_base::{List, NodeId, TraceId};
 use hs_collect::Collector;
-use hs_journal::{AgentBook, ClientBook, Journal};
 use hs_ledger::Ledger;
+use hs_records::{AgentBook, ClientBook, Journal};
 
 /// What was noted in a run.
 #[derive(Drop)]

@@ -10,7 +10,7 @@ ghost use Rattle.hs_report.specs.Pages.{SpellAll, JoinsAs, AreRead, AreReported,
 
 use hs_base::{Bytes, ClientId, Memory, TraceId};
 use hs_collect::{Collector, reordered_pages_collect_the_same, runs_decide_the_records};
-use hs_journal::AgentBook;
+use hs_records::AgentBook;
 use hs_words::{pages_have_bytes_of_their_own, read_page};
 use indexmap::IndexSet;
 use std::alloc::Global;

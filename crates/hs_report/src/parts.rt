@@ -4,8 +4,8 @@ ghost use Rattle.std.specs.Prelude.{◌≡◌, [], ◌∷◌, ◌++◌, List, ma
 ghost use Rattle.std.specs.List.{flat_map};
 ghost use Rattle.hs_base.specs.declared.ids.TraceId.{TraceId};
 ghost use Rattle.hs_collect.specs.Collected.{Placed};
-ghost use Rattle.hs_journal.specs.Grammar.{HasItsLists, journal_text};
-ghost use Rattle.hs_journal.specs.Views.{PlainJournal, journal_of};
+ghost use Rattle.hs_records.specs.Journals.{HasItsLists, PlainJournal, journal_of};
+ghost use Rattle.hs_journal.specs.Grammar.{journal_text};
 ghost use Rattle.hs_law_journal.specs.Lawful.{IsLawful};
 ghost use Rattle.hs_law_outcome.specs.OutcomeText.{ledger_text, outcome_text, report_lines};
 ghost use Rattle.hs_law_outcome.specs.declared.form.Form.TheVariants.{Text};
@@ -25,8 +25,9 @@ use crate::text::push_reports;
 use crate::writing::{push_count_line, room_for, sort_out};
 use hs_base::{Bytes, Memory};
 use hs_collect::Collector;
-use hs_journal::{Journal, write_journal};
+use hs_journal::write_journal;
 use hs_ledger::Ledger;
+use hs_records::Journal;
 use std::alloc::Global;
 
 /// The text of an outcome: that of its journal, and what stands behind it.

@@ -2,7 +2,7 @@
 
 ghost use Rattle.std.specs.Prelude.{◌≡◌, ◌≤◌, ◌*◌, [], ◌∷◌, ◌++◌, List, length, filter, IfOk, OnOk};
 ghost use Rattle.hs_journal.specs.Grammar.{journal_text};
-ghost use Rattle.hs_journal.specs.Views.{PlainJournal, journal_of};
+ghost use Rattle.hs_records.specs.Journals.{PlainJournal, journal_of};
 ghost use Rattle.hs_law_journal.specs.Lawful.{IsLawful};
 ghost use Rattle.hs_ledger.specs.declared.ledger.Entry.{Entry};
 ghost use Rattle.hs_law_outcome.specs.OutcomeText.{ledger_text, outcome_text, total_line};

@@ -2,7 +2,7 @@
 -- is pinned.
 use Rattle.std.proofs.Common.{◌≡◌, ℕ, zero, suc, ◌+◌, ◌*◌, ◌<◌, ◌≤◌, ◌==◌, List, [], ◌∷◌, ◌++◌, length, refl, sym, ap, ◌∙◌, arith, map, replicate}
 use Rattle.hs_run.proofs.Prelude.{flat_map, length-append, map-append, noted_as, Step, after, AgentEvent, asks_in, crumbs_in, steps_of, triggers_in, PlainSettings, PlainWorkload, NodeWork}
-use Rattle.hs_journal.specs.declared.journal.Step.TheVariants as steps
+use Rattle.hs_records.specs.declared.journal.Step.TheVariants as steps
 use Rattle.hs_law_agent.specs.Laws.{CanReport, EventsAddFew, StepsSayWhatTheyTell, TurnsReport, EventsGoOn}
 use Rattle.hs_law_agent.specs.State.{AgentState, start}
 use Rattle.hs_law_agent.specs.Stepping.{Input, Chunk, Crumbed, Triggered, Asked, Turn, Answered, Given, Missed, Unread, Took, Gave, after_from, after_event, step_of_answer}

@@ -2,8 +2,8 @@
 use Rattle.std.proofs.Common.{◌≡◌, ℕ, List, map, ap, sym, subst, ◌∙◌, slice_get}
 use Rattle.hs_run.proofs.Prelude.{Result, IfOk, Listing, NodeId, Messages, PlainAgentBook, PlainClientBook, client_book_of, agent_book_of, PlainWorkload, Books, Drawing, PlainCoordinatorActor, PlainClosedAgent, RunState, RunStands, Came, IsValid, workload_of, Workload, ClosingBegins, PoolsAreKept, RunsAreLawful, JournalsNoteRounds, ClosingAt, ClosedAt, sents_at, HaveClosedLinks, MayFinish, HaveFinished, AreBooksBehind, AreGathered, RoundsOver, ActingNode, sites_of}
 use Rattle.hs_base.specs.declared.ids.Memory.{Memory}
-use Rattle.hs_journal.specs.declared.books.AgentBook.{AgentBook}
-use Rattle.hs_journal.specs.declared.books.ClientBook.{ClientBook}
+use Rattle.hs_records.specs.declared.books.AgentBook.{AgentBook}
+use Rattle.hs_records.specs.declared.books.ClientBook.{ClientBook}
 use Rattle.hs_run.specs.Ended.{AreEnded}
 use Rattle.hs_run.proofs.Gathering.{shut_from, can_finish, ComesBehind, comes_to}
 use Rattle.hs_run.proofs.Starting.{HaveSent, closing_starts}

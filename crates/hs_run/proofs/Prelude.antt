@@ -17,10 +17,6 @@ pub use Rattle.hs_board.specs.declared.progress.Progress.{Progress}
 pub use Rattle.hs_client.specs.Core.{is_null}
 pub use Rattle.hs_coord.specs.Messages.{Messages}
 pub use Rattle.hs_coord.specs.declared.asks.Asks.{Asks}
-pub use Rattle.hs_journal.specs.Books.{agent_book_of, client_book_of, PlainAgentBook, PlainClientBook}
-pub use Rattle.hs_journal.specs.Views.{PlainJournal}
-pub use Rattle.hs_journal.specs.declared.journal.Draw.{Draw}
-pub use Rattle.hs_journal.specs.declared.journal.Step.{Step}
 pub use Rattle.hs_law_agent.specs.Laws.{brought_by, EventsAddThis, ListsHaveTheirChunks, noted_as}
 pub use Rattle.hs_law_agent.specs.Stepping.{after, AgentEvent}
 pub use Rattle.hs_law_journal.specs.Doings.{asks_in, crumbs_in, steps_of, triggers_in}
@@ -40,9 +36,13 @@ pub use Rattle.hs_live.specs.Calls.{AreMates}
 pub use Rattle.hs_live.specs.Keys.{Key}
 pub use Rattle.hs_live.specs.Live.{IsMate}
 pub use Rattle.hs_records.proofs.Sizes.{few_nodes, last_low, product_few}
+pub use Rattle.hs_records.specs.Books.{agent_book_of, client_book_of, PlainAgentBook, PlainClientBook}
+pub use Rattle.hs_records.specs.Journals.{PlainJournal}
 pub use Rattle.hs_records.specs.Plain.{Operation, PlainSettings, PlainWorkload, settings_of}
 pub use Rattle.hs_records.specs.Validity.{client_pieces, IsValid}
 pub use Rattle.hs_records.specs.Views.{operation_of, operations_of, workload_of}
+pub use Rattle.hs_records.specs.declared.journal.Draw.{Draw}
+pub use Rattle.hs_records.specs.declared.journal.Step.{Step}
 pub use Rattle.hs_records.specs.declared.operation.Op.{Op}
 pub use Rattle.hs_records.specs.declared.operation.Workload.{Workload}
 pub use Rattle.hs_report.specs.declared.outcome.Books.{Books}

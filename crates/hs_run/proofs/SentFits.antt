@@ -4,7 +4,7 @@ use Rattle.hs_run.proofs.Prelude.{AllByRecursion, length-map, sum_by-cons, get_t
 use Rattle.std.specs.List.{sum_by}
 use Rattle.hs_agent.specs.Points.{sheet_in}
 use Rattle.hs_client.specs.Calls.{sheet_for}
-use Rattle.hs_journal.specs.declared.journal.Draw.{Draw}
+use Rattle.hs_records.specs.declared.journal.Draw.{Draw}
 use Rattle.hs_lists.proofs.Alls.{all_filter, all_map, all_unmap}
 use Rattle.hs_lists.proofs.Filters.{filter_few}
 use Rattle.hs_law_journal.specs.Known.{PiecesCounted}

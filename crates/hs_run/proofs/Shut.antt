@@ -5,7 +5,7 @@ use Rattle.std.proofs.lemmas.Result.{IfOk-at_ok}
 use Rattle.hs_base.specs.declared.ids.Memory.{Memory}
 use Rattle.hs_lists.proofs.Alls.{all_by_place}
 use Rattle.hs_run_client.specs.Standing.{IsDone}
-use Rattle.hs_journal.specs.declared.books.ClientBook.{ClientBook}
+use Rattle.hs_records.specs.declared.books.ClientBook.{ClientBook}
 use Rattle.hs_live.specs.Live.{outgoing}
 use Rattle.hs_run_agent.specs.ClosedAgents.{all_sent}
 use Rattle.hs_run_client.specs.Nodes.{AreNotes}

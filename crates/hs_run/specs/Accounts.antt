@@ -2,8 +2,8 @@
 -- it hears messages; and a turn takes something off where something is pinned. So each pass before which anything is left is paid for.
 use Rattle.std.specs.Prelude.{ℕ, zero, suc, ◌+◌, ◌*◌, ◌≤◌, List, [], ◌∷◌, length}
 use Rattle.hs_coord.specs.Messages.{Messages}
-use Rattle.hs_journal.specs.declared.journal.Step.{Step}
-use Rattle.hs_journal.specs.declared.journal.Step.TheVariants as steps
+use Rattle.hs_records.specs.declared.journal.Step.{Step}
+use Rattle.hs_records.specs.declared.journal.Step.TheVariants as steps
 use Rattle.hs_law_agent.specs.Laws.{borne}
 use Rattle.hs_law_agent.specs.State.{AgentState}
 use Rattle.hs_law_journal.specs.Doings.{steps_of}

@@ -1,6 +1,6 @@
 -- That what is counted of a run is how far its workload and its journal have come, and when that is all of it.
 use Rattle.std.specs.Prelude.{◌≡◌, ℕ, suc, ◌*◌, ◌<◌, ◌≤◌, List, length, slice_get, Some}
-use Rattle.hs_journal.specs.Views.{PlainJournal}
+use Rattle.hs_records.specs.Journals.{PlainJournal}
 use Rattle.hs_law_journal.specs.Ends.{rounds_of}
 use Rattle.hs_run.specs.Progress.{progress_after}
 use Rattle.hs_records.specs.Plain.{Operation, PlainWorkload}

@@ -7,7 +7,7 @@ use Rattle.hs_run_client.specs.ClientActors.{PlainClientActor}
 use Rattle.hs_client.specs.Core.{is_null}
 use Rattle.hs_run.specs.declared.client.ClientCount.{ClientCount}
 use Rattle.hs_run.specs.declared.log.LogCount.{LogCount}
-use Rattle.hs_journal.specs.declared.journal.Step.{Step}
+use Rattle.hs_records.specs.declared.journal.Step.{Step}
 use Rattle.hs_run.specs.Progress.{is_point, is_chunk, is_given}
 use Rattle.hs_records.specs.Plain.{Operation, PlainWorkload}
 use Rattle.hs_run_story.specs.RunStates.{PlainNodeActors, RunState}

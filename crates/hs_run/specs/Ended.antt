@@ -1,7 +1,7 @@
 -- What the clients and the agents of all nodes leave, node by node.
 use Rattle.std.specs.Prelude.{◌≡◌, ℕ, List, [], ◌∷◌, ◌++◌, length, map, slice_get, Some}
 use Rattle.hs_base.specs.Listing.{Listing}
-use Rattle.hs_journal.specs.Books.{PlainAgentBook, PlainClientBook}
+use Rattle.hs_records.specs.Books.{PlainAgentBook, PlainClientBook}
 use Rattle.hs_law_agent.specs.Books.{book_of}
 use Rattle.hs_records.specs.Plain.{PlainWorkload}
 use Rattle.hs_ring.specs.Parts.{Drawing, AreAllEnds, Closes}

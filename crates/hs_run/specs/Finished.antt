@@ -3,10 +3,10 @@ use Rattle.std.specs.Prelude.{◌≡◌, ℕ, Result, Ok}
 use Rattle.hs_base.specs.Listing.{Listing}
 use Rattle.hs_base.specs.declared.ids.NodeId.{NodeId}
 use Rattle.hs_base.specs.declared.ids.Memory.{Memory}
-use Rattle.hs_journal.specs.declared.books.AgentBook.{AgentBook}
-use Rattle.hs_journal.specs.declared.books.ClientBook.{ClientBook}
+use Rattle.hs_records.specs.declared.books.AgentBook.{AgentBook}
+use Rattle.hs_records.specs.declared.books.ClientBook.{ClientBook}
 use Rattle.hs_records.specs.declared.operation.Workload.{Workload}
-use Rattle.hs_journal.specs.Views.{PlainJournal}
+use Rattle.hs_records.specs.Journals.{PlainJournal}
 use Rattle.hs_records.specs.Plain.{PlainWorkload}
 use Rattle.hs_run_story.specs.RunStates.{RunState}
 use Rattle.hs_run_story.specs.Coming.{Came}

@@ -4,8 +4,8 @@ use Rattle.hs_base.specs.Listing.{Listing}
 use Rattle.hs_base.specs.declared.ids.NodeId.{NodeId}
 use Rattle.hs_base.specs.declared.ids.Memory.{Memory}
 use Rattle.hs_coord.specs.Messages.{Messages}
-use Rattle.hs_journal.specs.Books.{agent_book_of}
-use Rattle.hs_journal.specs.declared.books.AgentBook.{AgentBook}
+use Rattle.hs_records.specs.Books.{agent_book_of}
+use Rattle.hs_records.specs.declared.books.AgentBook.{AgentBook}
 use Rattle.hs_records.specs.Plain.{PlainWorkload}
 use Rattle.hs_report.specs.declared.outcome.Books.{Books}
 use Rattle.hs_run_agent.specs.Coordinators.{PlainCoordinatorActor, Tellings, Askings, IsCoordinatorActor}

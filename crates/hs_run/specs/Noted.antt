@@ -2,8 +2,8 @@
 use Rattle.std.specs.Prelude.{◌≡◌, ℕ, suc, ◌*◌, List, ◌++◌, length, map, slice_get, Some}
 use Rattle.std.specs.List.{range_with_len}
 use Rattle.hs_base.specs.Ids.{client_of}
-use Rattle.hs_journal.specs.Books.{PlainClientBook}
-use Rattle.hs_journal.specs.Views.{PlainJournal}
+use Rattle.hs_records.specs.Books.{PlainClientBook}
+use Rattle.hs_records.specs.Journals.{PlainJournal}
 use Rattle.hs_law_outcome.specs.Outcomes.{client_book}
 use Rattle.hs_records.specs.Plain.{PlainWorkload}
 use Rattle.hs_law_sends.specs.Sending.{draws_at, place_of, ops_of}

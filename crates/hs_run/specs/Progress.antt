@@ -3,10 +3,10 @@
 use Rattle.std.specs.Prelude.{ℕ, ◌*◌, Bool, true, false, not, min, List, length, take, count_by, sum_by}
 use Rattle.std.specs.List.{flat_map, range_with_len}
 use Rattle.hs_board.specs.declared.progress.Progress.{Progress}
-use Rattle.hs_journal.specs.declared.journal.Draw.{Draw}
-use Rattle.hs_journal.specs.declared.journal.Step.{Step}
-use Rattle.hs_journal.specs.declared.journal.Step.TheVariants as steps
-use Rattle.hs_journal.specs.Views.{PlainJournal}
+use Rattle.hs_records.specs.declared.journal.Draw.{Draw}
+use Rattle.hs_records.specs.declared.journal.Step.{Step}
+use Rattle.hs_records.specs.declared.journal.Step.TheVariants as steps
+use Rattle.hs_records.specs.Journals.{PlainJournal}
 use Rattle.hs_records.specs.Plain.{Operation, Begin, Point, Crumb, End, Fire, Sample, PlainWorkload}
 use Rattle.hs_law_sends.specs.Drawn.{has_buffer}
 use Rattle.hs_law_sends.specs.Draws.{count_started}

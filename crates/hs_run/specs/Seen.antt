@@ -3,7 +3,7 @@ use Rattle.std.specs.Prelude.{◌≡◌, ◌⊎◌, ℕ, ◌≤◌, List, length
 use Rattle.std.specs.List.{AllByRecursion}
 use Rattle.hs_board.specs.declared.progress.Progress.{Progress}
 use Rattle.hs_board.specs.Shown.{first, IsLast}
-use Rattle.hs_journal.specs.Views.{PlainJournal}
+use Rattle.hs_records.specs.Journals.{PlainJournal}
 use Rattle.hs_law_journal.specs.Ends.{rounds_of}
 use Rattle.hs_run.specs.Progress.{progress_after}
 use Rattle.hs_records.specs.Plain.{PlainWorkload}

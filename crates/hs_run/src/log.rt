@@ -4,7 +4,7 @@ ghost use Rattle.std.specs.Prelude.{◌≡◌, ◌^◌, ◌<◌, ◌≤◌, leng
 ghost use Rattle.hs_run.specs.Progress.{is_chunk, is_given};
 ghost use Rattle.hs_run.specs.Counts.{log_count};
 
-use hs_journal::Step;
+use hs_records::Step;
 
 /// Of a log: how many of its steps were counted, and among these the chunks that were taken and the buffers that were given.
 #[derive(Clone, Copy)]

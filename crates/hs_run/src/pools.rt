@@ -1,11 +1,11 @@
 //! The pools are closed, and the agents' books taken.
 
 ghost use Rattle.std.specs.Prelude.{map, IfOk};
-ghost use Rattle.hs_journal.specs.Books.{agent_book_of};
+ghost use Rattle.hs_records.specs.Books.{agent_book_of};
 ghost use Rattle.hs_run.specs.Ended.{MayFinish, HaveFinished, items_of};
 
 use hs_base::{List, Memory};
-use hs_journal::AgentBook;
+use hs_records::AgentBook;
 use hs_ring::Drawer;
 use hs_run_agent::ClosedAgent;
 use std::alloc::Global;

@@ -1,7 +1,7 @@
 //! The run of a workload.
 
 ghost use Rattle.std.specs.Prelude.{IfOk};
-ghost use Rattle.hs_journal.specs.Views.{PlainJournal};
+ghost use Rattle.hs_records.specs.Journals.{PlainJournal};
 ghost use Rattle.hs_law_journal.specs.Lawful.{IsLawful};
 ghost use Rattle.hs_report.specs.Outcomes.{AreBooksOf, IsOutcome};
 ghost use Rattle.hs_records.specs.Validity.{IsValid};

@@ -1,7 +1,7 @@
 //! The clients of all nodes are taken apart, and their links closed.
 
 ghost use Rattle.std.specs.Prelude.{◌≡◌, ◌∷◌, ◌++◌, [], map, IfOk, OnOk};
-ghost use Rattle.hs_journal.specs.Books.{client_book_of};
+ghost use Rattle.hs_records.specs.Books.{client_book_of};
 ghost use Rattle.hs_live.specs.Live.{outgoing};
 ghost use Rattle.hs_run_agent.specs.ClosedAgents.{AreMatesOf};
 ghost use Rattle.hs_run.specs.Closed.{AreEndsLeft, IsClosedWith, IsClosedOf};
@@ -11,7 +11,7 @@ ghost use Rattle.hs_run.specs.Nodes.{sites_of};
 use crate::node::ActingNode;
 use crate::node_actors::NodeActors;
 use hs_base::{List, Memory};
-use hs_journal::ClientBook;
+use hs_records::ClientBook;
 use hs_ring::Drawer;
 use hs_run_agent::{AgentActor, ClosedAgent};
 use hs_run_client::{PartedClients, take_apart};

@@ -4,7 +4,7 @@ ghost use Rattle.std.specs.Prelude.{◌≡◌, [], ◌∷◌, IfOk};
 ghost use Rattle.hs_board.specs.Shown.{first};
 ghost use Rattle.hs_run.specs.Ended.{items_of};
 ghost use Rattle.hs_run.specs.Seen.{AreSeen};
-ghost use Rattle.hs_journal.specs.Views.{PlainJournal};
+ghost use Rattle.hs_records.specs.Journals.{PlainJournal};
 ghost use Rattle.hs_law_journal.specs.Lawful.{IsLawful};
 ghost use Rattle.hs_report.specs.Outcomes.{AreBooksOf, IsOutcome};
 ghost use Rattle.hs_board.specs.Watching.{HaveLookedInAll, WatchStands};

@@ -9,8 +9,8 @@ use Rattle.hs_lists.proofs.Alls.{all_back}
 use Rattle.hs_lists.proofs.Filters.{filter_all, filter_none}
 use Rattle.hs_law_journal.specs.Doings.{chunk_in, chunks_in}
 use Rattle.hs_law_journal.specs.LoopPasses.{IsPass, step_from}
-use Rattle.hs_journal.specs.declared.journal.Step.{Step}
-use Rattle.hs_journal.specs.declared.journal.Step.TheVariants as steps
+use Rattle.hs_records.specs.declared.journal.Step.{Step}
+use Rattle.hs_records.specs.declared.journal.Step.TheVariants as steps
 use Rattle.hs_law_journal.specs.Following.{Queue, Chunks, Crumbs, Triggers, Asks}
 use Rattle.hs_law_journal.specs.Passes.{client_queues, queues_of}
 use Rattle.hs_law_agent.specs.Laws.{noted_as}

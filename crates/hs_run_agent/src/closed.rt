@@ -2,7 +2,7 @@
 
 ghost use Rattle.std.specs.Prelude.{◌≡◌, ◌<◌, true, false, [], ◌++◌, length, map, OnOk, IfOk};
 ghost use Rattle.hs_base.specs.declared.limits.TheConstants.{MAX_NODES};
-ghost use Rattle.hs_journal.specs.Books.{agent_book_of};
+ghost use Rattle.hs_records.specs.Books.{agent_book_of};
 ghost use Rattle.hs_live.specs.Live.{outgoing};
 ghost use Rattle.hs_law_agent.specs.Books.{book_of};
 ghost use Rattle.hs_records.specs.Plain.{PlainWorkload};
@@ -21,10 +21,10 @@ use crate::rests::Rests;
 use crate::working::WorkingAgent;
 use hs_agent::Finished;
 use hs_base::{Crumb, List, Memory, NodeId, OpenGate, Trigger};
-use hs_journal::AgentBook;
 use hs_law_agent::laws::{crumbs_lead_below, events_add_few, steps_say_what_they_tell};
 use hs_link::Sender;
 use hs_live::ClientKey;
+use hs_records::AgentBook;
 use hs_ring::{Drawer, Lease, close};
 use hs_words::Held;
 use std::alloc::Global;

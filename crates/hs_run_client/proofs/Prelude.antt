@@ -10,7 +10,6 @@ pub use Rattle.hs_base.specs.declared.settings.TriggerRule.{TriggerRule}
 pub use Rattle.hs_base.specs.declared.told.Crumb.{Crumb}
 pub use Rattle.hs_base.specs.declared.told.Trigger.{Trigger}
 pub use Rattle.hs_client.specs.Core.{Core, new_core}
-pub use Rattle.hs_journal.specs.Books.{client_book_of, PlainClientBook}
 pub use Rattle.hs_law_sends.specs.OneMore.{open_after}
 pub use Rattle.hs_law_sends.specs.Playable.{IsPlayable}
 pub use Rattle.hs_law_sends.specs.Sending.{ops_of, place_of}
@@ -24,6 +23,7 @@ pub use Rattle.hs_live.specs.Keys.{Key}
 pub use Rattle.hs_live.specs.Live.{GoesOn, incoming, outgoing, PlainClient, Port}
 pub use Rattle.hs_live.specs.Writing.{IsDrawn, Made}
 pub use Rattle.hs_live.specs.declared.called.Called.TheVariants.{Done}
+pub use Rattle.hs_records.specs.Books.{client_book_of, PlainClientBook}
 pub use Rattle.hs_records.specs.Pages.{pages_of}
 pub use Rattle.hs_records.specs.Plain.{Begin, End, Fire, Operation, PlainSettings, PlainWorkload, Point, Sample, settings_of}
 pub use Rattle.hs_records.specs.Records.{AreBracketed}

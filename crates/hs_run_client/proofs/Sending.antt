@@ -5,8 +5,8 @@ use Rattle.std.proofs.lemmas.List.{length-take-le}
 use Rattle.hs_lists.proofs.Alls.{all_front}
 use Rattle.hs_client.specs.Core.{Step}
 use Rattle.hs_client.specs.Calls.{AreSteps, IsBook, after, draws_supplied, filled_chunks, segments_of_steps, sheet_for, with_all}
-use Rattle.hs_journal.specs.declared.journal.Draw.{Draw}
-use Rattle.hs_journal.specs.declared.journal.Draw.TheVariants as noted
+use Rattle.hs_records.specs.declared.journal.Draw.{Draw}
+use Rattle.hs_records.specs.declared.journal.Draw.TheVariants as noted
 use Rattle.hs_live.specs.Writing.{new_of, noted as noted_as, buffer_got, buffers_by, draws_by}
 use Rattle.hs_records.specs.Pages.{PlainPage}
 use Rattle.hs_records.specs.Records.{segments_of}

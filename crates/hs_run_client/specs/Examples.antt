@@ -1,8 +1,8 @@
 -- A client with two rounds of three operations: what is done behind each, and what the links of an example were given.
 use Rattle.std.specs.Prelude.{◌≡◌, ℕ, List, [], ◌∷◌, length, refl}
 use Rattle.hs_base.specs.Samples.{owner}
-use Rattle.hs_journal.specs.declared.journal.Draw.{Draw}
-use Rattle.hs_journal.specs.declared.journal.Draw.TheVariants.{Got, Empty}
+use Rattle.hs_records.specs.declared.journal.Draw.{Draw}
+use Rattle.hs_records.specs.declared.journal.Draw.TheVariants.{Got, Empty}
 use Rattle.hs_law_sends.specs.Draws.{count_started}
 use Rattle.hs_law_sends.specs.Samples.{plain, two_fills}
 use Rattle.hs_law_sends.specs.Sending.{sends_of, sent_within}

@@ -6,7 +6,7 @@ use Rattle.hs_base.specs.declared.limits.TheConstants.{MAX_TAKEN}
 use Rattle.hs_base.specs.declared.told.Crumb.{Crumb}
 use Rattle.hs_base.specs.declared.told.Trigger.{Trigger}
 use Rattle.hs_base.specs.Ids.{client_of}
-use Rattle.hs_journal.specs.Books.{PlainClientBook}
+use Rattle.hs_records.specs.Books.{PlainClientBook}
 use Rattle.hs_link.specs.Contents.{Outgoing, Incoming, AreNewEnds}
 use Rattle.hs_live.specs.Keys.{Key}
 use Rattle.hs_live.specs.Live.{Port, IsEnd}

@@ -2,7 +2,7 @@
 
 ghost use Rattle.std.specs.Prelude.{◌≡◌, ◌∷◌, ◌++◌, [], map, IfOk, OnOk};
 ghost use Rattle.std.specs.List.{AllByRecursion};
-ghost use Rattle.hs_journal.specs.Books.{client_book_of};
+ghost use Rattle.hs_records.specs.Books.{client_book_of};
 ghost use Rattle.hs_live.specs.Live.{outgoing};
 ghost use Rattle.hs_run_client.specs.ClientActors.{PlainClientActor};
 ghost use Rattle.hs_run_client.specs.Nodes.{AreNotes};
@@ -10,9 +10,9 @@ ghost use Rattle.hs_run_client.specs.Standing.{IsDone};
 
 use crate::client_actor::ClientActor;
 use hs_base::{Crumb, List, Memory, Trigger};
-use hs_journal::ClientBook;
 use hs_link::Sender;
 use hs_live::{ClientKey, Closed};
+use hs_records::ClientBook;
 use hs_ring::{Drawer, Lease};
 use hs_words::Held;
 use std::alloc::Global;

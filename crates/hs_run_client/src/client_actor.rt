@@ -3,7 +3,7 @@
 ghost use Rattle.std.specs.Prelude.{◌≡◌, List, map, count_by};
 ghost use Rattle.hs_base.specs.declared.ids.ClientId.{ClientId};
 ghost use Rattle.hs_client.specs.Core.{is_null};
-ghost use Rattle.hs_journal.specs.Books.{client_book_of};
+ghost use Rattle.hs_records.specs.Books.{client_book_of};
 ghost use Rattle.hs_live.specs.Calls.{AreMates, MeetsAt};
 ghost use Rattle.hs_live.specs.Live.{outgoing};
 ghost use Rattle.hs_records.specs.Plain.{Operation, PlainSettings, settings_of};

@@ -3,8 +3,6 @@ pub use Rattle.hs_agent.specs.Points.{sheet_in}
 pub use Rattle.hs_base.specs.declared.ids.ClientId.{ClientId}
 pub use Rattle.hs_base.specs.declared.limits.TheConstants.{MAX_TAKEN}
 pub use Rattle.hs_coord.specs.Messages.{Message, message, Messages}
-pub use Rattle.hs_journal.specs.Views.{PlainJournal}
-pub use Rattle.hs_journal.specs.declared.journal.Step.{Step}
 pub use Rattle.hs_law_agent.specs.Books.{book_of}
 pub use Rattle.hs_law_agent.specs.Laws.{EventsAddThis, sheets_of}
 pub use Rattle.hs_law_agent.specs.State.{AgentState, start}
@@ -26,8 +24,10 @@ pub use Rattle.hs_lists.proofs.Places.{get_some, HasItem}
 pub use Rattle.hs_live.specs.Keys.{Key}
 pub use Rattle.hs_live.specs.Live.{PlainClient, Port}
 pub use Rattle.hs_live.specs.Writing.{draws_by}
+pub use Rattle.hs_records.specs.Journals.{PlainJournal}
 pub use Rattle.hs_records.specs.Plain.{Operation, PlainSettings, PlainWorkload}
 pub use Rattle.hs_records.specs.Validity.{IsValid}
+pub use Rattle.hs_records.specs.declared.journal.Step.{Step}
 pub use Rattle.hs_ring.specs.Parts.{Leased}
 pub use Rattle.hs_run_agent.specs.Agents.{IsPageThere, IsWithin}
 pub use Rattle.hs_run_agent.specs.Coordinators.{heard_of}

@@ -1,7 +1,7 @@
 -- What the clients of a run sent in its rounds, and what of it the agents took.
 use Rattle.std.proofs.Common.{◌≡◌, ℕ, zero, suc, ◌+◌, ◌-◌, ◌<◌, ◌≤◌, List, [], ◌++◌, length, sym, ap, ◌∙◌, Some, arith, map, append_assoc}
 use Rattle.hs_run_story.proofs.Prelude.{length-map, ClientId, sent, PlainWorkload, Sent, ClientSends, sends_of, ops_of, Buffer, Answer, Sheet, Leased, draws_by, IsValid, PlainClientActor, HasSentSoFar, RunState, Came, done_by, sent_by}
-use Rattle.hs_journal.specs.declared.journal.Draw.{Draw}
+use Rattle.hs_records.specs.declared.journal.Draw.{Draw}
 use Rattle.hs_law_sends.specs.Sending.{sent_within}
 use Rattle.hs_run_client.specs.Standing.{sheets_in}
 use Rattle.hs_run_story.proofs.Drawing.{draws_more}

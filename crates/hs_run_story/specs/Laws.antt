@@ -5,7 +5,7 @@ use Rattle.hs_law_journal.specs.Doings.{steps_of}
 use Rattle.hs_law_journal.specs.Passes.{passes_of}
 use Rattle.hs_base.specs.declared.limits.TheConstants.{MAX_TAKEN}
 use Rattle.hs_coord.specs.Messages.{Message, Messages}
-use Rattle.hs_journal.specs.Views.{PlainJournal}
+use Rattle.hs_records.specs.Journals.{PlainJournal}
 use Rattle.hs_law_journal.specs.Following.{NodeRun, asks_to, followed, log_at}
 use Rattle.hs_law_journal.specs.Lawful.{IsLawful}
 use Rattle.hs_link.specs.Contents.{Outgoing, Incoming}

@@ -2,7 +2,7 @@
 use Rattle.std.specs.Prelude.{◌≡◌, ℕ, ◌<◌, ◌≤◌, take, slice_get, Some}
 use Rattle.std.specs.List.{flat_map}
 use Rattle.hs_coord.specs.Messages.{Messages}
-use Rattle.hs_journal.specs.Views.{PlainJournal}
+use Rattle.hs_records.specs.Journals.{PlainJournal}
 use Rattle.hs_records.specs.Plain.{PlainWorkload}
 use Rattle.hs_law_sends.specs.Draws.{count_started}
 use Rattle.hs_law_sends.specs.Sending.{draws_at, place_of, ops_of}

@@ -2,7 +2,7 @@
 -- source and sink are before and after the call.
 use Rattle.std.specs.Prelude.{◌≡◌, ℕ, List, Option}
 use Rattle.hs_base.specs.Outside.{Rose, Gains}
-use Rattle.hs_journal.specs.Views.{PlainJournal}
+use Rattle.hs_records.specs.Journals.{PlainJournal}
 use Rattle.hs_law_journal.specs.Lawful.{IsLawful}
 use Rattle.hs_law_lockstep.specs.Lockstep.{lockstep}
 use Rattle.hs_law_outcome.specs.OutcomeText.{outcome_text}

@@ -8,8 +8,8 @@ use crate::live_sheets::{Sheet, take_sheet};
 use crate::rows::row;
 use hs_base::limits::MIN_SIZE;
 use hs_base::{Crumb, Laterals, Memory, NodeId, TraceId, Trigger};
-use hs_journal::{ClientBook, Draw, PageNote};
 use hs_live::{AgentPort, Called, Client};
+use hs_records::{ClientBook, Draw, PageNote};
 use hs_words::Tally;
 use std::alloc::Global;
 use tests_with::{

@@ -13,9 +13,9 @@ ghost use Rattle.tests_with.specs.Pairs.{CanCall, IsOnly, IsKeyOf, IsNewLink, Ha
 use hs_auto::Auto;
 use hs_base::{AutoRule, ClientId, Crumb, List, Memory, Trigger, TriggerId, TriggerRule};
 use hs_client::ClientCore;
-use hs_journal::ClientBook;
 use hs_link::{Fact, Receiver, Sender, close_both, link};
 use hs_live::{AgentPort, Client, ClientKey, Closed, PortParts};
+use hs_records::ClientBook;
 use hs_ring::{Drawer, Giver, Lease, RingPool, close};
 use hs_words::{Held, Stock, Tally};
 use std::alloc::Global;

@@ -1,7 +1,7 @@
 use Rattle.std.proofs.Common.{◌≡◌, Bool, true, false, List, [], take, get_or, refl, sym, ap, subst, ◌∙◌, arith}
 use Rattle.hs_check.proofs.Prelude.{not, ◌||◌, Step, is_unread, IsShown}
 use Rattle.std.proofs.lemmas.List.{get_or_default}
-use Rattle.hs_journal.specs.declared.journal.Step.TheVariants as steps
+use Rattle.hs_records.specs.declared.journal.Step.TheVariants as steps
 use Rattle.hs_check.specs.Showing.{may_be_unread}
 use Rattle.hs_check.proofs.Noting.{has_room}
 use Rattle.hs_check.proofs.Stepping.{through, through_is, noted, goes_on, ends, at_end}

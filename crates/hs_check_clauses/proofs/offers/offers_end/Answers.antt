@@ -1,6 +1,6 @@
 use Rattle.std.proofs.Common.{◌≡◌, ℕ, ◌+◌, ◌<◌, Bool, true, false, length, drop, get_or, refl, sym, ap, ◌∙◌, arith}
 use Rattle.hs_check_clauses.proofs.Prelude.{get_or_default, one_if, Step, ends_front, ends_through, may_stand}
-use Rattle.hs_journal.specs.declared.journal.Step.TheVariants as steps
+use Rattle.hs_records.specs.declared.journal.Step.TheVariants as steps
 use Rattle.hs_check_clauses.proofs.Offered.{pass_is_there, passes_left, stands_more}
 use Rattle.hs_check_clauses.proofs.offers.offers_end.Goals as goal
 use Rattle.hs_check_clauses.proofs.offers.offers_end.Goals.{then-last, else-last}

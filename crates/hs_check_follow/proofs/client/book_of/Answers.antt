@@ -1,6 +1,6 @@
 use Rattle.std.proofs.Common.{◌≡◌, List, ◌++◌, ap, ◌∙◌}
 use Rattle.hs_check_follow.proofs.Prelude.{PlainClientBook, Draw}
-use Rattle.hs_journal.specs.Books.{client_book_of}
+use Rattle.hs_records.specs.Books.{client_book_of}
 use Rattle.hs_check_follow.proofs.client.book_of.Goals as goal
 
 pub returns : goal.returns

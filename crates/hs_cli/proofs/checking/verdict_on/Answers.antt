@@ -1,5 +1,5 @@
 use Rattle.std.proofs.Common.{◌≡◌, Some, None, sym, subst, ◌∙◌}
-use Rattle.hs_journal.specs.Views.{journal_of}
+use Rattle.hs_records.specs.Journals.{journal_of}
 use Rattle.hs_law_journal.specs.Lawful.{IsLawful, first_unlawful}
 use Rattle.hs_report.specs.Outcomes.{IsOutcome}
 use Rattle.hs_records.specs.Views.{workload_of}

@@ -1,5 +1,5 @@
 use Rattle.std.proofs.Common.{◌≡◌, true, sym, subst}
-use Rattle.hs_journal.specs.Views.{PlainJournal}
+use Rattle.hs_records.specs.Journals.{PlainJournal}
 use Rattle.hs_law_journal.specs.Ends.{is_followed, has_rounds}
 use Rattle.hs_law_journal.specs.Passes.{has_passes, has_offers}
 use Rattle.hs_law_journal.specs.Played.{played}

@@ -1,7 +1,7 @@
 use Rattle.std.proofs.Common.{ℕ, ◌++◌, length, ap, ◌∙◌, arith}
 use Rattle.std.proofs.lemmas.List.{take_all}
 use Rattle.std.specs.HashMap.{get}
-use Rattle.hs_journal.specs.declared.journal.Draw.{Draw}
+use Rattle.hs_records.specs.declared.journal.Draw.{Draw}
 use Rattle.hs_ledger.specs.Fates.{fated_by, book_entries}
 use Rattle.hs_ledger.specs.Making.{page_eq, drawn_fate}
 use Rattle.hs_ledger.proofs.Walks.{no_note, fits_in, rises_in, after_in, length-fated_by}

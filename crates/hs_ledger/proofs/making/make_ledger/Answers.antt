@@ -1,6 +1,6 @@
 use Rattle.std.proofs.Common.{ℕ, map, length, ap, ◌∙◌, arith}
 use Rattle.std.specs.HashMap.{get}
-use Rattle.hs_journal.specs.Books.{client_book_of, agent_book_of}
+use Rattle.hs_records.specs.Books.{client_book_of, agent_book_of}
 use Rattle.hs_ledger.specs.Making.{page_eq, newest, all_standings}
 use Rattle.hs_ledger.specs.Totals.{totals_of}
 use Rattle.hs_ledger.proofs.Whole.{length-entries_of, one_fits, book_more, all_books}

@@ -1,5 +1,5 @@
 use Rattle.std.proofs.Common.{◌≡◌, map, take}
-use Rattle.hs_journal.specs.Books.{client_book_of, agent_book_of}
+use Rattle.hs_records.specs.Books.{client_book_of, agent_book_of}
 use Rattle.hs_ledger.specs.Fates.{entries_of}
 use Rattle.hs_ledger.proofs.making.make_ledger.Given as goal
 

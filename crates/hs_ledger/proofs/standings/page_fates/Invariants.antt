@@ -1,6 +1,6 @@
 use Rattle.std.proofs.Common.{◌≡◌, drop, map, None}
 use Rattle.std.specs.HashMap.{get}
-use Rattle.hs_journal.specs.Books.{agent_book_of}
+use Rattle.hs_records.specs.Books.{agent_book_of}
 use Rattle.hs_ledger.specs.declared.standings.PageId.{PageId}
 use Rattle.hs_ledger.specs.Making.{page_eq, newest, all_standings}
 use Rattle.hs_ledger.proofs.standings.page_fates.Given as goal

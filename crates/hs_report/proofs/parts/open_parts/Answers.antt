@@ -1,6 +1,6 @@
 use Rattle.std.proofs.Common.{sym, subst}
 use Rattle.hs_report.proofs.Prelude.{HasItsLists, journal_of, AreSorted, Sorted}
-use Rattle.hs_journal.specs.declared.journal.Journal.{Journal}
+use Rattle.hs_records.specs.declared.journal.Journal.{Journal}
 use Rattle.hs_report.proofs.Shapes.{has_its_lists}
 use Rattle.hs_report.proofs.parts.open_parts.Goals as goal
 

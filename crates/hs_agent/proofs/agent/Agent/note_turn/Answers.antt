@@ -1,5 +1,5 @@
 use Rattle.std.proofs.Common.{◌≡◌, [], ◌∷◌, ◌++◌, List, sym, ap, subst, ◌∙◌, append-nil}
-use Rattle.hs_journal.specs.declared.journal.Step.TheVariants as steps
+use Rattle.hs_records.specs.declared.journal.Step.TheVariants as steps
 use Rattle.hs_law_agent.specs.Turning as model
 use Rattle.hs_agent.proofs.Prelude.{Input, PlainAgent, with_state, Run, Follows, StandsAt, point_of, state_of}
 use Rattle.hs_agent.specs.declared.input.Input.TheVariants as inputs

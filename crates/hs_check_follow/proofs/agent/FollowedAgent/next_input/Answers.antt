@@ -1,5 +1,5 @@
 use Rattle.std.proofs.Common.{◌+◌, refl}
-use Rattle.hs_journal.specs.declared.journal.Step.TheVariants as steps
+use Rattle.hs_records.specs.declared.journal.Step.TheVariants as steps
 use Rattle.hs_check_follow.proofs.Lists.{indexed}
 use Rattle.hs_check_follow.proofs.Readying.{readied_at, not_ready_at, crumb_readied, no_crumb_readied, trigger_readied, no_trigger_readied, ask_readied}
 use Rattle.hs_check_follow.proofs.agent.FollowedAgent.next_input.Goals as goal

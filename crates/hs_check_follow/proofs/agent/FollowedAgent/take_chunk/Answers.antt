@@ -1,6 +1,6 @@
 use Rattle.std.proofs.Common.{None, refl, sym, subst, append-nil}
 use Rattle.hs_agent.specs.declared.input.Input.TheVariants as inputs
-use Rattle.hs_journal.specs.declared.journal.Step.TheVariants as steps
+use Rattle.hs_records.specs.declared.journal.Step.TheVariants as steps
 use Rattle.hs_check_follow.proofs.Prelude.{buffer_in, workload_of, Pops, PopsChunk, FollowedAgent}
 use Rattle.hs_check_follow.proofs.Performing.{at_run, takable, performed}
 use Rattle.hs_check_follow.proofs.Popping.{may_fill_any}

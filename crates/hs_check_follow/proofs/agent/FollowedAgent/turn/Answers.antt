@@ -2,7 +2,7 @@ use Rattle.std.proofs.Common.{List, None, refl, sym, subst, append-nil}
 use Rattle.hs_check_follow.proofs.Prelude.{Follows, Input, Unleased, agent_run}
 use Rattle.hs_agent.specs.Runs.{after_turn}
 use Rattle.hs_agent.specs.declared.input.Input.TheVariants as inputs
-use Rattle.hs_journal.specs.declared.journal.Step.TheVariants as steps
+use Rattle.hs_records.specs.declared.journal.Step.TheVariants as steps
 use Rattle.hs_words.specs.contracts.token.UnitToken.TheImpl.{ghosts}
 use Rattle.hs_check_follow.proofs.Performing.{performed}
 use Rattle.hs_check_follow.proofs.Readying.{turn_readied}

@@ -1,7 +1,7 @@
 use Rattle.std.proofs.Common.{◌<◌, length, Option, None, refl, subst, sym, append-nil}
 use Rattle.hs_agent.specs.declared.input.Input.TheVariants as inputs
 use Rattle.hs_replay.proofs.Prelude.{ChangesAt, TakesChunk, ghosts, buffer_in, Held, run_of, replay_node_in, PlainReplayNode, IsAmid}
-use Rattle.hs_journal.specs.declared.journal.Step.TheVariants as steps
+use Rattle.hs_records.specs.declared.journal.Step.TheVariants as steps
 use Rattle.hs_replay.specs.declared.queue.Queue.TheVariants as queues
 use Rattle.hs_replay.proofs.TakingOut.{chunk_there, chunks_out}
 use Rattle.hs_replay.proofs.Taken.{stood, takable, taken_amid, took_one}

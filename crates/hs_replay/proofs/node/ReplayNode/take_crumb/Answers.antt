@@ -1,7 +1,7 @@
 use Rattle.std.proofs.Common.{◌<◌, length, Option, subst, sym}
 use Rattle.hs_agent.specs.declared.input.Input.TheVariants as inputs
 use Rattle.hs_replay.proofs.Prelude.{Crumb, ChangesAt, Input, TakesCrumb, ghosts, replay_node_in, PlainReplayNode, IsAmid}
-use Rattle.hs_journal.specs.declared.journal.Step.TheVariants as steps
+use Rattle.hs_records.specs.declared.journal.Step.TheVariants as steps
 use Rattle.hs_replay.specs.declared.queue.Queue.TheVariants as queues
 use Rattle.hs_replay.proofs.TakingOut.{crumb_there, crumbs_out}
 use Rattle.hs_replay.proofs.Taken.{took_one}

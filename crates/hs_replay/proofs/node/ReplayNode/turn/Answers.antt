@@ -2,7 +2,7 @@ use Rattle.std.proofs.Common.{None, refl, subst, sym, append-nil}
 use Rattle.hs_replay.proofs.Prelude.{Input, Follows, ghosts, replay_node_in, PlainReplayNode, IsAmid, IsReady, run_of}
 use Rattle.hs_agent.specs.declared.input.Input.TheVariants as inputs
 use Rattle.hs_agent.specs.Runs.{after_turn}
-use Rattle.hs_journal.specs.declared.journal.Step.TheVariants as steps
+use Rattle.hs_records.specs.declared.journal.Step.TheVariants as steps
 use Rattle.hs_replay.proofs.TakingOut.{turn_comes}
 use Rattle.hs_replay.proofs.Taken.{stood, taken_amid, went_one}
 use Rattle.hs_replay.proofs.node.ReplayNode.turn.Goals as goal

@@ -1,6 +1,6 @@
 use Rattle.std.proofs.Common.{length, sym, subst}
 use Rattle.hs_replay_client.proofs.Prelude.{PlainReplayClient, replay_client_in, IsDone, ReplayClientIsAt}
-use Rattle.hs_journal.specs.Books.{client_book_of}
+use Rattle.hs_records.specs.Books.{client_book_of}
 use Rattle.hs_replay_client.proofs.Finishing.{is_closed, keeps_book, noted}
 use Rattle.hs_replay_client.proofs.client.ReplayClient.finish.Goals as goal
 
