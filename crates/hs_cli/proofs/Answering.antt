@@ -9,7 +9,7 @@ use Rattle.hs_ledger.specs.declared.ledger.Totals.{Totals}
 use Rattle.hs_ledger.specs.Totals.{totals_of}
 use Rattle.hs_law_lockstep.specs.Lockstep.{lockstep}
 use Rattle.hs_law_outcome.specs.Outcomes.{outcome_of}
-use Rattle.hs_law_outcome.specs.OutcomeText.{total_line}
+use Rattle.hs_report.specs.OutcomeText.{total_line}
 use Rattle.hs_text.specs.Text.{text_of}
 use Rattle.hs_cli.specs.Endings.{IsReader, IsAbout, AreParts, Due, drill_text}
 use Rattle.hs_cli.specs.declared.answer.Subject.{Subject}

@@ -5,8 +5,8 @@ use Rattle.hs_base.specs.declared.limits.TheConstants.{MAX_INPUT}
 use Rattle.hs_journal.specs.Grammar.{Reads as ReadsJournal}
 use Rattle.hs_records.specs.Journals.{PlainJournal}
 use Rattle.hs_law_journal.specs.Lawful.{IsLawful}
-use Rattle.hs_law_outcome.specs.OutcomeText.{outcome_text}
-use Rattle.hs_law_outcome.specs.declared.form.Form.TheVariants.{Text as Lines}
+use Rattle.hs_report.specs.OutcomeText.{outcome_text}
+use Rattle.hs_report.specs.declared.form.Form.TheVariants.{Text as Lines}
 use Rattle.hs_records.specs.Plain.{PlainWorkload}
 use Rattle.hs_records.specs.Validity.{IsValid}
 use Rattle.hs_records.specs.Views.{workload_of}

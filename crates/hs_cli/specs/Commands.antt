@@ -6,8 +6,8 @@ use Rattle.std.specs.Option.{option_map_or}
 use Rattle.hs_base.specs.declared.limits.TheConstants.{MAX_REQUESTS}
 use Rattle.hs_compare.specs.declared.limits.TheConstants.{MAX_ONE_IN, MAX_ROOM}
 use Rattle.hs_text.specs.Text.{number_of}
-use Rattle.hs_law_outcome.specs.declared.form.Form.{Form}
-use Rattle.hs_law_outcome.specs.declared.form.Form.TheVariants.{Text as Lines, Json}
+use Rattle.hs_report.specs.declared.form.Form.{Form}
+use Rattle.hs_report.specs.declared.form.Form.TheVariants.{Text as Lines, Json}
 use Rattle.clap.specs.Words.{App, Row, Rule, Text, new_app, new_rule, with_rule, Kinds, fault_of, first_of, matches_of}
 use Rattle.clap.specs.Walk.{is_empty}
 use Rattle.clap.specs.Simple.{on_top}

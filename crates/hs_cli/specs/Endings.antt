@@ -15,8 +15,8 @@ use Rattle.hs_law_journal.specs.Lawful.{IsLawful, first_unlawful}
 use Rattle.hs_ledger.specs.Totals.{totals_of}
 use Rattle.hs_law_lockstep.specs.Lockstep.{lockstep}
 use Rattle.hs_law_outcome.specs.Outcomes.{outcome_of}
-use Rattle.hs_law_outcome.specs.OutcomeText.{outcome_text, total_line}
-use Rattle.hs_law_outcome.specs.declared.form.Form.TheVariants.{Text as Lines}
+use Rattle.hs_report.specs.OutcomeText.{outcome_text, total_line}
+use Rattle.hs_report.specs.declared.form.Form.TheVariants.{Text as Lines}
 use Rattle.hs_text.specs.Text.{text_of}
 use Rattle.hs_check.specs.Parts.{workload_part, journal_part}
 use Rattle.hs_compare.specs.ComparisonText.{comparison_text}

@@ -16,8 +16,8 @@ use hs_check::{Clause, Verdict, check};
 use hs_journal::{JournalError, JournalRefusal, read_journal};
 use hs_json::outcome_parts;
 use hs_law_journal::laws::lawful_is_decided;
-use hs_law_outcome::Form;
 use hs_records::{Journal, Workload};
+use hs_report::Form;
 use hs_streams::Status;
 use std::alloc::Global;
 

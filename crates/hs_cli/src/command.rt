@@ -10,7 +10,7 @@ use clap::{Arg, ArgAction, ArgMatches, Command as Parser};
 use hs_base::Memory;
 use hs_base::limits::MAX_REQUESTS;
 use hs_compare::limits::{MAX_ONE_IN, MAX_ROOM};
-use hs_law_outcome::Form;
+use hs_report::Form;
 use hs_text::number;
 use std::alloc::Global;
 

@@ -7,7 +7,7 @@ use Rattle.hs_collect.specs.Views.{placed_of}
 use Rattle.hs_collect.specs.declared.records.TraceRecord.{TraceRecord}
 use Rattle.hs_ledger.specs.declared.ledger.Entry.{Entry}
 use Rattle.hs_law_outcome.specs.CollectedReports.{reported_wholes}
-use Rattle.hs_law_outcome.specs.OutcomeText.{placed_json, gap_json, report_json}
+use Rattle.hs_report.specs.OutcomeText.{placed_json, gap_json, report_json}
 use Rattle.hs_report.specs.Sources.{report_by}
 use Rattle.hs_report.proofs.Loops.{Joins, unreported, shown_joins, unreported_join}
 

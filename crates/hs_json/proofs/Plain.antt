@@ -12,7 +12,7 @@ use Rattle.hs_lists.proofs.Bools.{first_true, second_true}
 use Rattle.hs_base.specs.declared.ids.TraceId.{TraceId}
 use Rattle.hs_base.specs.declared.told.Fate.{Fate}
 use Rattle.hs_base.specs.declared.told.Fate.TheVariants.{Null, Live, Reported, Evicted, Abandoned}
-use Rattle.hs_law_outcome.specs.OutcomeText.{fate_words, json_text}
+use Rattle.hs_report.specs.OutcomeText.{fate_words, json_text}
 use Rattle.hs_text.specs.Text.{line_of, hex_text, payload_text}
 use Rattle.hs_base.specs.Ids.{trace_digits}
 use Rattle.hs_text.specs.Writing.{trace_word}

@@ -12,7 +12,7 @@ use Rattle.hs_lists.proofs.Bools.{first_false, second_false}
 use Rattle.hs_base.specs.declared.ids.RecordId.{RecordId}
 use Rattle.hs_collect.specs.Collected.{Placed}
 use Rattle.hs_ledger.specs.declared.ledger.Entry.{Entry}
-use Rattle.hs_law_outcome.specs.OutcomeText.{fate_words, id_words, json_text, json_list, json_field, json_object, placed_json, gap_json}
+use Rattle.hs_report.specs.OutcomeText.{fate_words, id_words, json_text, json_list, json_field, json_object, placed_json, gap_json}
 use Rattle.hs_text.specs.Text.{line_of, payload_text}
 use Rattle.hs_json.specs.Spelling.{ArePlain, Spells, SpellEach, id_data}
 use Rattle.hs_json.proofs.Plain.{quoted_plain}

@@ -4,8 +4,8 @@ use Rattle.std.proofs.lemmas.List.{length-map}
 use Rattle.hs_base.specs.declared.ids.TraceId.{TraceId}
 use Rattle.hs_collect.specs.Collected.{Placed}
 use Rattle.hs_ledger.specs.declared.ledger.Entry.{Entry}
-use Rattle.hs_law_outcome.specs.declared.form.Form.TheVariants.{Json}
-use Rattle.hs_law_outcome.specs.OutcomeText.{json_list, report_json, reports_line, reports_text}
+use Rattle.hs_report.specs.declared.form.Form.TheVariants.{Json}
+use Rattle.hs_report.specs.OutcomeText.{json_list, report_json, reports_line, reports_text}
 use Rattle.hs_report.specs.Sorted.{count_line}
 use Rattle.hs_report.specs.Sources.{report_by}
 

@@ -5,6 +5,5 @@ mod parts;
 mod values;
 mod writing;
 
-pub use hs_law_outcome::Form;
-pub use hs_report::Parts;
+pub use hs_report::{Form, Parts};
 pub use writing::{outcome_parts, write_outcome};

@@ -7,7 +7,7 @@ ghost use Rattle.hs_collect.specs.Views.{placed_of};
 ghost use Rattle.hs_ledger.specs.declared.ledger.Entry.{Entry};
 ghost use Rattle.hs_ledger.specs.Totals.{is_reported as reported_by};
 ghost use Rattle.hs_law_outcome.specs.CollectedReports.{reported_wholes};
-ghost use Rattle.hs_law_outcome.specs.OutcomeText.{json_list, json_text, placed_json, gap_json, report_json};
+ghost use Rattle.hs_report.specs.OutcomeText.{json_list, json_text, placed_json, gap_json, report_json};
 ghost use Rattle.hs_report.specs.Fates.{AreFatesOf};
 ghost use Rattle.hs_json.specs.Spelling.{ArePlain, Spells, SpellEach, Texts, id_data};
 ghost use Rattle.hs_report.specs.Sources.{Hold, report_by};

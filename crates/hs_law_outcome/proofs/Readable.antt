@@ -9,7 +9,7 @@ use Rattle.hs_records.specs.declared.journal.Step.TheVariants as steps
 use Rattle.hs_records.specs.Journals.{IsDraw, IsStep, IsNodeBelow}
 use Rattle.hs_words.specs.PoolHistory.{Got}
 use Rattle.hs_words.specs.PoolHistory as pool
-use Rattle.hs_law_outcome.specs.Readable.{HasRoom, HasShape, JournalsHaveTheShape, LawfulJournalsCanBeRead}
+use Rattle.hs_law_outcome.specs.Readable.{HasRoom, HasShape, JournalsHaveTheShape, LawfulJournalsAreJournals}
 use Rattle.hs_law_outcome.proofs.ByStamp.{by_stamp_counts}
 use Rattle.hs_law_outcome.proofs.Entries.{shape_counts, same_length}
 use Rattle.hs_law_outcome.proofs.GotPages.{in_range}
@@ -295,18 +295,15 @@ module _ (plays : FollowingPlaysOut) (runs : RunsAreOfTheJournal) (given_noted :
       let long : length (run_start W J).nodes ≡ J.nodes = length-map (range_with_len 0 W.settings.nodes) (node_start W J) ∙ length-range_with_len 0 W.settings.nodes ∙ sym shape.nodes in
       subst (λ n. AllByRecursion (λ (node : NodeId). node.0 < n) J.told) long all_named.told
 
-pub lawful_journals_can_be_read : FollowingPlaysOut → RunsAreOfTheJournal → GivesAreNoted → TimedPagesAreThePages → LawfulJournalsCanBeRead
-lawful_journals_can_be_read plays runs given_noted timed W J ends laid room lawful =
+pub lawful_journals_are_journals : FollowingPlaysOut → RunsAreOfTheJournal → GivesAreNoted → TimedPagesAreThePages → LawfulJournalsAreJournals
+lawful_journals_are_journals plays runs given_noted timed W J ends laid room lawful =
     let shape = shape_of W J lawful.L1 in
     record {
-      journal = record {
-        nodes = subst (Within 1 MAX_NODES) (sym shape.nodes) room.nodes;
-        clients = subst (Within 1 MAX_CLIENTS) (sym shape.clients) room.clients;
-        draw_lists = shape.draws ∙ laid ∙ ap (λ n. n * W.settings.clients) (sym shape.nodes) ∙ ap (λ n. J.nodes * n) (sym shape.clients);
-        log_lists = shape.logs ∙ sym shape.nodes;
-        draws = all_draws plays runs given_noted timed W J ends laid room lawful;
-        logs = all_logs plays runs given_noted timed W J ends laid room lawful;
-        told = all_told plays runs given_noted timed W J ends laid room lawful;
-      };
-      spelled = refl;
+      nodes = subst (Within 1 MAX_NODES) (sym shape.nodes) room.nodes;
+      clients = subst (Within 1 MAX_CLIENTS) (sym shape.clients) room.clients;
+      draw_lists = shape.draws ∙ laid ∙ ap (λ n. n * W.settings.clients) (sym shape.nodes) ∙ ap (λ n. J.nodes * n) (sym shape.clients);
+      log_lists = shape.logs ∙ sym shape.nodes;
+      draws = all_draws plays runs given_noted timed W J ends laid room lawful;
+      logs = all_logs plays runs given_noted timed W J ends laid room lawful;
+      told = all_told plays runs given_noted timed W J ends laid room lawful;
     }

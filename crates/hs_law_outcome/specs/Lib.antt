@@ -1,6 +1,5 @@
 pub mod Outcomes
 pub mod Reports
-pub mod OutcomeText
 pub mod Records
 pub mod Causes
 pub mod Origins
@@ -9,7 +8,6 @@ pub mod ClientBooks
 pub mod Books
 pub mod Versions
 pub mod Examples
-pub mod TextExamples
 pub mod CollectedReports
 pub mod Readable
 pub mod Speaking

@@ -1,12 +1,11 @@
--- That a lawful journal has a text that reads as it. It has as many lists as its first line says; the clients, nodes and buffers
--- that it names are there; and a stamp is below the count of what happened at its pool, where each give and each miss answers a
--- draw.
+-- That a lawful journal is valid, so that it has a text. It has as many lists as its numbers of nodes and clients say; the clients,
+-- nodes and buffers that it names are there; and a stamp is below the count of what happened at its pool, where each give and each
+-- miss answers a draw.
 use Rattle.std.specs.Prelude.{◌≡◌, ◌≤◌, ◌^◌, true, List, length, map, refl}
 use Rattle.std.specs.List.{AllByRecursion}
 use Rattle.hs_base.specs.declared.limits.TheConstants.{MAX_NODES, MAX_CLIENTS, MAX_BUFFERS}
 use Rattle.hs_base.specs.Ranges.{Within}
-use Rattle.hs_journal.specs.Grammar.{Reads, journal_text}
-use Rattle.hs_records.specs.Journals.{PlainJournal}
+use Rattle.hs_records.specs.Journals.{PlainJournal, IsJournal}
 use Rattle.hs_records.specs.Pages.{pages_of}
 use Rattle.hs_records.specs.Plain.{Operation, PlainWorkload}
 use Rattle.hs_law_journal.specs.Journals.{of_three_points, of_four_nodes}
@@ -36,9 +35,9 @@ pub record HasShape (W : PlainWorkload) (J : PlainJournal) : Type 0 where
 abbrev pub JournalsHaveTheShape : Type 0
 JournalsHaveTheShape = (W : PlainWorkload) (J : PlainJournal) → has_shape (played W J) ≡ true → HasShape W J
 
--- What is written of a lawful journal reads as that journal.
-abbrev pub LawfulJournalsCanBeRead : Type 0
-LawfulJournalsCanBeRead = (W : PlainWorkload) (J : PlainJournal) → EndsItsTraces W → HasItsClients W → HasRoom W → IsLawful W J → Reads (journal_text J) J
+-- All numbers of a lawful journal are in their ranges.
+abbrev pub LawfulJournalsAreJournals : Type 0
+LawfulJournalsAreJournals = (W : PlainWorkload) (J : PlainJournal) → EndsItsTraces W → HasItsClients W → HasRoom W → IsLawful W J → IsJournal J
 
 -- ---- examples
 

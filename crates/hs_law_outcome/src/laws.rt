@@ -5,7 +5,7 @@ ghost use Rattle.hs_law_outcome.specs.Records.{EachRecordHasOneEntry, TotalsCoun
 ghost use Rattle.hs_law_outcome.specs.Causes.{AgentsKeepTheirModel, EvictedOnlyWhereOver, GivenWereLetGo, NothingClaimedWasEvicted, NoBufferIsOutTwice, EmptyOnlyWhereEmpty};
 ghost use Rattle.hs_law_outcome.specs.Origins.{EachFateHasItsCause, TakenPagesWereDrawn};
 ghost use Rattle.hs_law_outcome.specs.Nulls.{EmptyDrawsFoundNothing};
-ghost use Rattle.hs_law_outcome.specs.Readable.{JournalsHaveTheShape, LawfulJournalsCanBeRead};
+ghost use Rattle.hs_law_outcome.specs.Readable.{JournalsHaveTheShape, LawfulJournalsAreJournals};
 ghost use Rattle.hs_law_outcome.specs.ClientBooks.{BooksOfClientsFit, StandingsAreOfGotPages};
 ghost use Rattle.hs_law_outcome.specs.Books.{EachGotPageHasOneStanding, BooksFitTogether};
 ghost use Rattle.hs_law_outcome.specs.Versions.{VersionsHaveOneOutcome};
@@ -236,9 +236,9 @@ pub fn journals_have_the_shape()
     ensures { JournalsHaveTheShape }
 {}
 
-/// What is written of a lawful journal reads as that journal: all its numbers are in their ranges.
-pub fn lawful_journals_can_be_read()
-    ensures { LawfulJournalsCanBeRead }
+/// A lawful journal is valid: all its numbers are in their ranges.
+pub fn lawful_journals_are_journals()
+    ensures { LawfulJournalsAreJournals }
 {
     following_plays_out();
     runs_are_of_the_journal();

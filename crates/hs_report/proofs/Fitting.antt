@@ -8,14 +8,13 @@ use Rattle.hs_lists.proofs.Alls.{all_append, all_front, all_back, all_at}
 use Rattle.hs_base.specs.declared.limits.TheConstants.{MIN_SIZE, MAX_SIZE, MAX_OPERATIONS, MAX_PAYLOAD}
 use Rattle.hs_client.specs.Calls.{sheet_for, written}
 use Rattle.hs_law_outcome.specs.CollectedReports.{IsClientsPage, ReportedPagesAreOfClients}
-use Rattle.hs_law_outcome.specs.Readable.{LawfulJournalsCanBeRead}
 use Rattle.hs_records.specs.Records.{AreBracketed}
 use Rattle.hs_law_sends.specs.Laws.{PagesFit, TimedPagesAreThePages}
 use Rattle.hs_law_sends.specs.Timing.{TimedPage, timed_pages}
 use Rattle.hs_words.specs.Chunks.{used_of}
 use Rattle.hs_words.specs.Pages.{FitsPiece}
 use Rattle.hs_records.specs.declared.setting.Setting.TheVariants as settings
-use Rattle.hs_report.specs.Fitting.{ReportedPagesArePages, JournalsCanBeRead}
+use Rattle.hs_report.specs.Fitting.{ReportedPagesArePages}
 use Rattle.hs_law_outcome.proofs.Followed.{ends_its_traces}
 use Rattle.hs_law_outcome.specs.Records.{client_records}
 use Rattle.hs_law_outcome.proofs.ClientBooks.{length_named}
@@ -315,18 +314,8 @@ reported_fit made of W J valid = each_fits made W valid (outcome_of W J).reporte
 
 -- ---- the journal
 
-few_pages_each : PagesCarry → PagesHoldThePieces → PiecesCounted → (version : ℕ) (set : PlainSettings) (size : ℕ) (clients : List (List Operation)) → MIN_SIZE ≤ size → AllByRecursion (IsClient version set) clients
+pub few_pages_each : PagesCarry → PagesHoldThePieces → PiecesCounted → (version : ℕ) (set : PlainSettings) (size : ℕ) (clients : List (List Operation)) → MIN_SIZE ≤ size → AllByRecursion (IsClient version set) clients
     → workload_pieces size clients ≤ MAX_OPERATIONS → AllByRecursion (λ (ops : List Operation). length (pages_of size ops) ≤ 2 ^ 32) clients
 few_pages_each carry hold counted version set size [] least all few = tt
 few_pages_each carry hold counted version set size (ops ∷ clients) least all few =
     (omega (arith, few_pages carry hold counted size ops least all.0.bracketed, few), few_pages_each carry hold counted version set size clients least all.1 (omega (arith, few)))
-
-pub readable : PagesCarry → PagesHoldThePieces → PiecesCounted → LawfulJournalsCanBeRead → JournalsCanBeRead
-readable carry hold counted law W J valid lawful =
-    law W J (ends_its_traces W valid) valid.count
-    (record {
-      nodes = valid.head settings.Nodes;
-      clients = valid.head settings.Clients;
-      buffers = (valid.head settings.Buffers).1;
-      pages = few_pages_each carry hold counted W.version W.settings W.settings.size W.clients (valid.head settings.Size).0 valid.each valid.few;
-    }) lawful

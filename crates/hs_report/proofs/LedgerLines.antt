@@ -4,7 +4,7 @@ use Rattle.hs_report.proofs.Prelude.{Fate, line_of, hex_text, trace_word, line_w
 use Rattle.hs_base.specs.declared.told.Fate.TheVariants.{Null, Live, Reported, Evicted, Abandoned}
 use Rattle.hs_text.specs.Writing.{spaced, line_of-spaced, spaced_more}
 use Rattle.hs_ledger.specs.declared.ledger.Totals.{Totals}
-use Rattle.hs_law_outcome.specs.OutcomeText.{total_line}
+use Rattle.hs_report.specs.OutcomeText.{total_line}
 
 -- two words, each behind a space
 pub spaced_two : (out first both a b : List ℕ) → first ≡ out ++ 32 ∷ a → both ≡ first ++ 32 ∷ b → both ≡ out ++ spaced (a ∷ b ∷ [])

@@ -17,3 +17,4 @@ pub mod Written
 pub mod Journals
 pub mod Fitting
 pub mod KeptLemmas
+pub mod Readable

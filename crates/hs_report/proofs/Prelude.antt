@@ -9,11 +9,9 @@ pub use Rattle.hs_collect.specs.Views.{placed_of, Sheets}
 pub use Rattle.hs_journal.specs.Grammar.{journal_text}
 pub use Rattle.hs_law_journal.specs.Lawful.{IsLawful}
 pub use Rattle.hs_law_outcome.specs.CollectedReports.{CollectedRecordsAreWhole, reported_wholes, was_reported}
-pub use Rattle.hs_law_outcome.specs.OutcomeText.{entry_line, fate_words, gap_line, placed_line, report_lines}
 pub use Rattle.hs_law_outcome.specs.Outcomes.{outcome_of, rising_traces}
 pub use Rattle.hs_law_outcome.specs.Records.{all_records}
 pub use Rattle.hs_law_outcome.specs.Reports.{is_of}
-pub use Rattle.hs_law_outcome.specs.declared.form.Form.TheVariants.{Text}
 pub use Rattle.hs_ledger.specs.Totals.{is_reported}
 pub use Rattle.hs_ledger.specs.declared.ledger.Entry.{Entry}
 pub use Rattle.hs_lists.proofs.Bools.{first_true, second_true}
@@ -27,11 +25,13 @@ pub use Rattle.hs_records.specs.declared.books.Claim.{Claim}
 pub use Rattle.hs_report.specs.Claims.{all_claimed, claimed_by}
 pub use Rattle.hs_report.specs.Fates.{AreFatesOf, has_entry}
 pub use Rattle.hs_report.specs.Kept.{is_kept, kept_of}
+pub use Rattle.hs_report.specs.OutcomeText.{entry_line, fate_words, gap_line, placed_line, report_lines}
 pub use Rattle.hs_report.specs.Outcomes.{IsOutcome}
 pub use Rattle.hs_report.specs.Pages.{all_sent, AreRead, bytes_of, Note, note_of, noted, sent_by, SpellAll, Traces, with_trace}
 pub use Rattle.hs_report.specs.Sorted.{AreSorted, count_line, records_by}
 pub use Rattle.hs_report.specs.Sources.{gaps_of, Hold, report_by}
 pub use Rattle.hs_report.specs.declared.fates.Sorted.{Sorted}
+pub use Rattle.hs_report.specs.declared.form.Form.TheVariants.{Text}
 pub use Rattle.hs_report.specs.declared.outcome.Outcome.{Outcome}
 pub use Rattle.hs_report.specs.declared.pages.Reported.{Reported}
 pub use Rattle.hs_text.specs.Text.{hex_text, line_of, text_of}

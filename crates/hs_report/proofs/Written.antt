@@ -5,8 +5,8 @@ use Rattle.hs_ledger.specs.declared.ledger.Ledger.{Ledger}
 use Rattle.hs_report.specs.Sources.{Hold}
 use Rattle.hs_report.specs.declared.parts.Opened.{Opened}
 use Rattle.hs_report.proofs.Prelude.{filter, flat_map, length-map, TraceId, Placed, AreWholes, pieces_of, journal_text, PlainJournal, journal_of, IsLawful, Entry, CollectedRecordsAreWhole, reported_wholes, Text, outcome_of, report_lines, PlainWorkload, text_of, IsValid, Sorted, Outcome, has_entry, kept_of, IsOutcome, AreSorted, count_line, records_by, report_by}
-use Rattle.hs_law_outcome.specs.declared.form.Form.{Form}
-use Rattle.hs_law_outcome.specs.OutcomeText.{reports_text, ledger_text, outcome_text}
+use Rattle.hs_report.specs.declared.form.Form.{Form}
+use Rattle.hs_report.specs.OutcomeText.{reports_text, ledger_text, outcome_text}
 use Rattle.hs_law_outcome.specs.Reports.{Report, report_of, reports_in}
 use Rattle.hs_law_outcome.proofs.Followed.{ends_its_traces}
 

@@ -1,10 +1,8 @@
--- What a valid workload has room for: its records can be counted with 32 bits, the pages that its agents report are
--- pages, and the journal of it has a text.
+-- What a valid workload has room for: its records can be counted with 32 bits, and the pages that its agents report are
+-- pages.
 use Rattle.std.specs.Prelude.{◌<◌, ◌^◌, length}
 use Rattle.std.specs.List.{AllByRecursion}
-use Rattle.hs_journal.specs.Grammar.{Reads, journal_text}
 use Rattle.hs_records.specs.Journals.{PlainJournal}
-use Rattle.hs_law_journal.specs.Lawful.{IsLawful}
 use Rattle.hs_law_outcome.specs.Outcomes.{outcome_of}
 use Rattle.hs_law_outcome.specs.Records.{all_records}
 use Rattle.hs_records.specs.Plain.{PlainWorkload}
@@ -16,7 +14,3 @@ RecordsAreFew = (W : PlainWorkload) → IsValid W → length (all_records W) < 2
 
 abbrev pub ReportedPagesArePages : Type 0
 ReportedPagesArePages = (W : PlainWorkload) (J : PlainJournal) → IsValid W → AllByRecursion IsPage (outcome_of W J).reported
-
--- What is written of a lawful journal of a valid workload reads as that journal.
-abbrev pub JournalsCanBeRead : Type 0
-JournalsCanBeRead = (W : PlainWorkload) (J : PlainJournal) → IsValid W → IsLawful W J → Reads (journal_text J) J

@@ -8,3 +8,6 @@ pub mod Fitting
 pub mod Examples
 pub mod Sorted
 pub mod Kept
+pub mod OutcomeText
+pub mod TextExamples
+pub mod Readable

@@ -3,7 +3,7 @@
 ghost use Rattle.std.specs.Prelude.{◌≡◌, [], ◌∷◌, ◌++◌, decimal, map, OnOk};
 ghost use Rattle.hs_text.specs.Text.{line_of, text_of};
 ghost use Rattle.hs_text.specs.Writing.{spaced, trace_word};
-ghost use Rattle.hs_law_outcome.specs.OutcomeText.{fate_words, entry_line, total_line, ledger_text};
+ghost use Rattle.hs_report.specs.OutcomeText.{fate_words, entry_line, total_line, ledger_text};
 
 use hs_base::{Fate, Memory, TraceId, TriggerId};
 use hs_ledger::{Entry, Ledger, Totals};

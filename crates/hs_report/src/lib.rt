@@ -4,6 +4,7 @@
 
 mod claims;
 mod fates;
+mod form;
 mod gathering;
 mod kept;
 mod laws;
@@ -15,8 +16,9 @@ mod text;
 mod writing;
 
 pub use fates::{Fates, Sorted, is_reported};
+pub use form::Form;
 pub use gathering::gather;
-pub use laws::journals_can_be_read;
+pub use laws::{journals_can_be_read, lawful_journals_can_be_read};
 pub use ledger::{push_fate, push_ledger};
 pub use outcome::{Books, Outcome};
 pub use parts::{Behind, Opened, Parts, line_parts, open_behind, open_parts};

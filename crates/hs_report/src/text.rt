@@ -8,7 +8,7 @@ ghost use Rattle.hs_collect.specs.Views.{placed_of};
 ghost use Rattle.hs_ledger.specs.declared.ledger.Entry.{Entry};
 ghost use Rattle.hs_ledger.specs.Totals.{is_reported as reported_by};
 ghost use Rattle.hs_law_outcome.specs.CollectedReports.{reported_wholes};
-ghost use Rattle.hs_law_outcome.specs.OutcomeText.{placed_line, gap_line, report_lines};
+ghost use Rattle.hs_report.specs.OutcomeText.{placed_line, gap_line, report_lines};
 ghost use Rattle.hs_report.specs.Fates.{AreFatesOf};
 ghost use Rattle.hs_report.specs.Sources.{Hold, report_by};
 ghost use Rattle.hs_text.specs.Text.{text_of};

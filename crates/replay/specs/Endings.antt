@@ -5,8 +5,8 @@ use Rattle.hs_base.specs.Outside.{Rose, Gains}
 use Rattle.hs_records.specs.Journals.{PlainJournal}
 use Rattle.hs_law_journal.specs.Lawful.{IsLawful}
 use Rattle.hs_law_lockstep.specs.Lockstep.{lockstep}
-use Rattle.hs_law_outcome.specs.OutcomeText.{outcome_text}
-use Rattle.hs_law_outcome.specs.declared.form.Form.TheVariants.{Text as Lines}
+use Rattle.hs_report.specs.OutcomeText.{outcome_text}
+use Rattle.hs_report.specs.declared.form.Form.TheVariants.{Text as Lines}
 use Rattle.hs_records.specs.Plain.{PlainWorkload}
 use Rattle.hs_streams.specs.Input.{ReadWhole, ReadBeyond, ReadFront}
 use Rattle.hs_streams.specs.Refusals.{IsRefused, too_long_text}

@@ -4,8 +4,8 @@ ghost use Rattle.std.specs.Prelude.{◌≡◌, ◌<◌, ◌≤◌, ◌⊎◌, �
 ghost use Rattle.hs_base.specs.Outside.{Rose};
 ghost use Rattle.hs_base.specs.declared.limits.TheConstants.{MAX_INPUT};
 ghost use Rattle.hs_law_lockstep.specs.Lockstep.{lockstep};
-ghost use Rattle.hs_law_outcome.specs.OutcomeText.{outcome_text};
-ghost use Rattle.hs_law_outcome.specs.declared.form.Form.TheVariants.{Text};
+ghost use Rattle.hs_report.specs.OutcomeText.{outcome_text};
+ghost use Rattle.hs_report.specs.declared.form.Form.TheVariants.{Text};
 ghost use Rattle.hs_records.specs.Plain.{PlainWorkload};
 ghost use Rattle.hs_streams.specs.Input.{ReadFront};
 ghost use Rattle.hs_records.specs.Validity.{IsValid};

@@ -1,6 +1,6 @@
 use Rattle.std.proofs.Common.{◌≡◌, [], ◌∷◌}
 use Rattle.std.proofs.lemmas.Result.{IfOk-weaker}
-use Rattle.hs_law_outcome.specs.OutcomeText.{total_line}
+use Rattle.hs_report.specs.OutcomeText.{total_line}
 use Rattle.hs_text.specs.Text.{text_of}
 use Rattle.hs_records.specs.Views.{workload_of}
 use Rattle.hs_cli.specs.Endings.{drill_text}

@@ -1,7 +1,7 @@
 use Rattle.std.proofs.Common.{◌≡◌, ◌∙◌, ◌++◌, ap₂, ap, map}
 use Rattle.std.proofs.lemmas.Result.{IfOk-weaker}
-use Rattle.hs_law_outcome.specs.OutcomeText.{outcome_text}
-use Rattle.hs_law_outcome.specs.declared.form.Form.TheVariants.{Text as Lines}
+use Rattle.hs_report.specs.OutcomeText.{outcome_text}
+use Rattle.hs_report.specs.declared.form.Form.TheVariants.{Text as Lines}
 use Rattle.hs_board.specs.WatchText.{watch_text}
 use Rattle.hs_records.specs.Views.{workload_of}
 use Rattle.hs_cli.proofs.watching.answer_watched.Goals as goal

@@ -1,6 +1,6 @@
 use Rattle.std.proofs.Common.{◌≡◌, List, [], ◌∷◌, ◌++◌, length, map, ap, subst, ◌∙◌}
 use Rattle.hs_base.specs.declared.ids.TraceId.{TraceId}
-use Rattle.hs_law_outcome.specs.OutcomeText.{json_list, ledger_text, report_json}
+use Rattle.hs_report.specs.OutcomeText.{json_list, ledger_text, report_json}
 use Rattle.hs_report.specs.Sorted.{count_line}
 use Rattle.hs_report.specs.Sources.{report_by}
 use Rattle.hs_json.proofs.parts.json_behind.Goals as goal

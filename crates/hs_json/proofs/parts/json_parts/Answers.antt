@@ -1,6 +1,6 @@
 use Rattle.std.proofs.Common.{[], ◌∷◌, ◌++◌, map}
-use Rattle.hs_law_outcome.specs.OutcomeText.{json_list, report_json}
-use Rattle.hs_law_outcome.specs.declared.form.Form.TheVariants.{Json}
+use Rattle.hs_report.specs.OutcomeText.{json_list, report_json}
+use Rattle.hs_report.specs.declared.form.Form.TheVariants.{Json}
 use Rattle.hs_report.specs.Kept.{kept_of}
 use Rattle.hs_report.specs.Sorted.{records_by}
 use Rattle.hs_report.specs.Sources.{report_by}

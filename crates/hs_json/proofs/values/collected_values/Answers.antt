@@ -2,7 +2,7 @@ use Rattle.std.proofs.Common.{[], map, ap, sym, ◌∙◌, subst}
 use Rattle.std.proofs.lemmas.Result.{IfOk-weaker}
 use Rattle.hs_collect.specs.Views.{placed_of}
 use Rattle.hs_law_outcome.specs.CollectedReports.{reported_wholes}
-use Rattle.hs_law_outcome.specs.OutcomeText.{placed_json}
+use Rattle.hs_report.specs.OutcomeText.{placed_json}
 use Rattle.hs_json.specs.Spelling.{SpellEach}
 use Rattle.hs_report.proofs.Reports.{none_shown}
 use Rattle.hs_json.proofs.Spelled.{spell_none}

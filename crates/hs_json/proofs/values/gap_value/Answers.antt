@@ -1,6 +1,6 @@
 use Rattle.std.proofs.Common.{◌≡◌, ◌++◌, ap, sym, ◌∙◌, subst, rules}
 use Rattle.serde_json.specs.declared.value.Value.{the_lemmas}
-use Rattle.hs_law_outcome.specs.OutcomeText.{fate_words, json_text}
+use Rattle.hs_report.specs.OutcomeText.{fate_words, json_text}
 use Rattle.hs_text.specs.Text.{line_of}
 use Rattle.hs_json.specs.Spelling.{ArePlain, Spells}
 use Rattle.hs_json.proofs.Plain.{plain_fate}

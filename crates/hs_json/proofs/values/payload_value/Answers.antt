@@ -1,6 +1,6 @@
 use Rattle.std.proofs.Common.{◌++◌, ap, sym, ◌∙◌, subst, arith}
 use Rattle.std.proofs.lemmas.List.{get_or_default}
-use Rattle.hs_law_outcome.specs.OutcomeText.{json_text}
+use Rattle.hs_report.specs.OutcomeText.{json_text}
 use Rattle.hs_text.specs.Text.{payload_text}
 use Rattle.hs_json.specs.Spelling.{ArePlain, Spells}
 use Rattle.hs_json.proofs.Plain.{plain_payload}

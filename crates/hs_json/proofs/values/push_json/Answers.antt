@@ -1,6 +1,6 @@
 use Rattle.std.proofs.Common.{◌++◌, ◌∷◌, [], map, ap, ◌∙◌, append_assoc}
 use Rattle.std.proofs.lemmas.Result.{on_ok_weaker}
-use Rattle.hs_law_outcome.specs.OutcomeText.{json_list, report_json}
+use Rattle.hs_report.specs.OutcomeText.{json_list, report_json}
 use Rattle.hs_report.specs.Sources.{report_by}
 use Rattle.hs_json.proofs.values.push_json.Goals as goal
 

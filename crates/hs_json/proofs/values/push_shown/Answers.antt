@@ -1,6 +1,6 @@
 use Rattle.std.proofs.Common.{◌≡◌, ◌++◌, ◌∷◌, [], true, cond, map, sym, ap, ◌∙◌, subst, rules}
 use Rattle.hs_collect.specs.Views.{placed_of}
-use Rattle.hs_law_outcome.specs.OutcomeText.{placed_json}
+use Rattle.hs_report.specs.OutcomeText.{placed_json}
 use Rattle.hs_json.specs.Spelling.{SpellEach}
 use Rattle.hs_json.proofs.Spelled.{spell_push}
 use Rattle.hs_json.proofs.values.push_shown.Goals as goal

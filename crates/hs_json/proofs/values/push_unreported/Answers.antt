@@ -1,5 +1,5 @@
 use Rattle.std.proofs.Common.{◌≡◌, ◌++◌, ◌∷◌, [], false, not, cond, map, sym, ap, ◌∙◌, subst, rules}
-use Rattle.hs_law_outcome.specs.OutcomeText.{gap_json}
+use Rattle.hs_report.specs.OutcomeText.{gap_json}
 use Rattle.hs_json.specs.Spelling.{SpellEach}
 use Rattle.hs_json.proofs.Spelled.{spell_push}
 use Rattle.hs_json.proofs.values.push_unreported.Goals as goal

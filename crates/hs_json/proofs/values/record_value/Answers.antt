@@ -1,7 +1,7 @@
 use Rattle.std.proofs.Common.{subst, rules}
 use Rattle.serde_json.specs.declared.value.Value.{the_lemmas}
 use Rattle.hs_collect.specs.Views.{placed_of}
-use Rattle.hs_law_outcome.specs.OutcomeText.{json_text}
+use Rattle.hs_report.specs.OutcomeText.{json_text}
 use Rattle.hs_text.specs.Text.{payload_text}
 use Rattle.hs_json.specs.Spelling.{Spells}
 use Rattle.hs_json.proofs.Spelled.{spell_record}

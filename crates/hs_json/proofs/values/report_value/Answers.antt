@@ -1,7 +1,7 @@
 use Rattle.std.proofs.Common.{subst, rules, map}
 use Rattle.std.proofs.lemmas.Result.{IfOk-weaker}
 use Rattle.serde_json.specs.declared.value.Value.{the_lemmas}
-use Rattle.hs_law_outcome.specs.OutcomeText.{gap_json, placed_json}
+use Rattle.hs_report.specs.OutcomeText.{gap_json, placed_json}
 use Rattle.hs_text.specs.Writing.{trace_word}
 use Rattle.hs_json.specs.Spelling.{SpellEach}
 use Rattle.hs_report.specs.Sources.{gaps_of}

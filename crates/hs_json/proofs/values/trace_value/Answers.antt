@@ -1,5 +1,5 @@
 use Rattle.std.proofs.Common.{◌++◌, ap, sym, ◌∙◌, subst}
-use Rattle.hs_law_outcome.specs.OutcomeText.{json_text}
+use Rattle.hs_report.specs.OutcomeText.{json_text}
 use Rattle.hs_text.specs.Text.{hex_text}
 use Rattle.hs_json.specs.Spelling.{ArePlain, Spells}
 use Rattle.hs_json.proofs.Plain.{plain_trace}

@@ -2,8 +2,8 @@ use Rattle.std.proofs.Common.{[], ◌∷◌, ◌++◌, length, map, ap, ◌∙�
 use Rattle.std.proofs.lemmas.Result.{IfOk-weaker}
 use Rattle.hs_journal.specs.Grammar.{journal_text}
 use Rattle.hs_records.specs.Journals.{journal_of}
-use Rattle.hs_law_outcome.specs.OutcomeText.{json_list, report_json}
-use Rattle.hs_law_outcome.specs.declared.form.Form.TheVariants.{Json}
+use Rattle.hs_report.specs.OutcomeText.{json_list, report_json}
+use Rattle.hs_report.specs.declared.form.Form.TheVariants.{Json}
 use Rattle.hs_report.specs.Kept.{kept_of}
 use Rattle.hs_report.specs.Sorted.{count_line, records_by}
 use Rattle.hs_report.specs.Sources.{report_by}

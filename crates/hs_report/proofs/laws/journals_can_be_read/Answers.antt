@@ -1,4 +1,4 @@
-use Rattle.hs_report.proofs.Fitting.{readable}
+use Rattle.hs_report.proofs.Readable.{readable}
 use Rattle.hs_report.proofs.laws.journals_can_be_read.Goals as goal
 
 pub returns : goal.returns

@@ -1,5 +1,5 @@
 use Rattle.std.proofs.Common.{◌≡◌, List, [], ◌∷◌, ◌++◌, length, map, ap, subst, ◌∙◌}
-use Rattle.hs_law_outcome.specs.OutcomeText.{ledger_text}
+use Rattle.hs_report.specs.OutcomeText.{ledger_text}
 use Rattle.hs_report.proofs.Prelude.{flat_map, count_line, report_lines, report_by, text_of, TraceId}
 use Rattle.hs_report.proofs.parts.lines_behind.Goals as goal
 

@@ -15,8 +15,8 @@ use Rattle.hs_ledger.specs.Totals.{totals_of}
 use Rattle.hs_records.specs.Plain.{PlainWorkload}
 use Rattle.hs_text.specs.Text.{line_of, text_of, hex_text, payload_text}
 use Rattle.hs_text.specs.Writing.{trace_word}
-use Rattle.hs_law_outcome.specs.declared.form.Form.{Form}
-use Rattle.hs_law_outcome.specs.declared.form.Form.TheVariants.{Text, Json}
+use Rattle.hs_report.specs.declared.form.Form.{Form}
+use Rattle.hs_report.specs.declared.form.Form.TheVariants.{Text, Json}
 use Rattle.hs_law_outcome.specs.Outcomes.{PlainOutcome, outcome_of}
 use Rattle.hs_law_outcome.specs.Reports.{Report, reports_in}
 

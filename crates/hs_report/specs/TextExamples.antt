@@ -10,8 +10,8 @@ use Rattle.hs_ledger.specs.Totals.{totals_of}
 use Rattle.hs_records.specs.Plain.{Point, End, PlainWorkload}
 use Rattle.hs_law_sends.specs.Samples.{settings, workload, begin, fire, segment}
 use Rattle.hs_text.specs.Text.{text_of}
-use Rattle.hs_law_outcome.specs.declared.form.Form.TheVariants.{Text, Json}
-use Rattle.hs_law_outcome.specs.OutcomeText.{entry_line, gap_line, total_line, report_lines, json_list, reports_text, outcome_text}
+use Rattle.hs_report.specs.declared.form.Form.TheVariants.{Text, Json}
+use Rattle.hs_report.specs.OutcomeText.{entry_line, gap_line, total_line, report_lines, json_list, reports_text, outcome_text}
 use Rattle.hs_law_outcome.specs.Outcomes.{outcome_of}
 use Rattle.hs_law_outcome.specs.Reports.{reports_of}
 use Rattle.hs_law_journal.specs.Journals
