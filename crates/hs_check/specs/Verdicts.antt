@@ -4,7 +4,7 @@ use Rattle.std.specs.Prelude.{◌≡◌, Some}
 use Rattle.hs_records.specs.Journals.{PlainJournal}
 use Rattle.hs_law_journal.specs.Lawful.{IsLawful, first_unlawful}
 use Rattle.hs_records.specs.Plain.{PlainWorkload}
-use Rattle.hs_report.specs.Outcomes.{IsOutcome}
+use Rattle.hs_outcome.specs.Outcomes.{IsOutcome}
 use Rattle.hs_check.specs.Clauses.{number_of}
 use Rattle.hs_check.specs.declared.verdict.Verdict.{Verdict}
 use Rattle.hs_check.specs.declared.verdict.Verdict.TheVariants.{Lawful, Unlawful}

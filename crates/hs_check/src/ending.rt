@@ -3,15 +3,15 @@
 ghost use Rattle.std.specs.Prelude.{map, IfOk};
 ghost use Rattle.hs_records.specs.Books.{agent_book_of};
 ghost use Rattle.hs_records.specs.Journals.{journal_of};
-ghost use Rattle.hs_report.specs.Outcomes.{IsOutcome};
+ghost use Rattle.hs_outcome.specs.Outcomes.{IsOutcome};
 ghost use Rattle.hs_records.specs.Views.{workload_of};
 ghost use Rattle.hs_check.specs.Leaving.{AreLeft, MayFinish, HaveFinished};
 
 use hs_agent::Agent;
 use hs_base::{List, Memory};
 use hs_check_follow::FollowedParts;
+use hs_outcome::{Books, Outcome, gather};
 use hs_records::{AgentBook, Journal, Workload};
-use hs_report::{Books, Outcome, gather};
 use std::alloc::Global;
 
 /// The books of agents that have nothing pinned.

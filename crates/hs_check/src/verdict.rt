@@ -12,8 +12,8 @@ use crate::ending::come_to;
 use hs_base::Memory;
 use hs_check_follow::follow;
 use hs_law_journal::laws::{lawful_is_decided, runs_are_of_the_journal};
+use hs_outcome::Outcome;
 use hs_records::{Journal, Workload};
-use hs_report::Outcome;
 use std::alloc::Global;
 
 /// What is said of a journal that was given with a workload.

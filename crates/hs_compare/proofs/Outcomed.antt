@@ -2,8 +2,8 @@
 -- the ring of the workload, so what was counted is its comparison.
 use Rattle.std.proofs.Common.{◌≡◌, ℕ, List, [], ◌∷◌, map, refl, sym, ap, subst, ◌∙◌}
 use Rattle.hs_compare.proofs.Prelude.{AllByRecursion, all_each, fold, TraceId, is_among, MayBegin, PlainJournal, Entry, rounds_of, IsLawful, outcome_of, Named, name_of, PlainWorkload, all_comings, events_in_order, named_by, named_in, CanBeCompared, ClaimedTracesAreNamed, EntriesStandByTheRecords, TailIsTheSum, SumsToTail, name_of_coming, compared_by, PlainComparison, comparison_of, SamplerRing, ring_step, empty_ring, IsValid, Coming, Script, AreScripts, comparison_by, coming_of, traces_of, plain_comparison, Ringing, all_rounds, rings_after, ringing_by}
-use Rattle.hs_report.specs.declared.outcome.Outcome.{Outcome}
-use Rattle.hs_report.specs.Outcomes.{IsOutcome}
+use Rattle.hs_outcome.specs.declared.outcome.Outcome.{Outcome}
+use Rattle.hs_outcome.specs.Outcomes.{IsOutcome}
 use Rattle.hs_records.specs.declared.setting.Setting.TheVariants as settings
 use Rattle.hs_records.proofs.Sizes.{bracketed}
 use Rattle.hs_compare.specs.Ringing.{new_ring}

@@ -3,7 +3,7 @@
 ghost use Rattle.std.specs.Prelude.{◌≤◌, ◌≡◌, fold, IfOk};
 ghost use Rattle.hs_records.specs.Journals.{journal_of};
 ghost use Rattle.hs_law_lockstep.specs.Lockstep.{lockstep};
-ghost use Rattle.hs_report.specs.Outcomes.{IsOutcome};
+ghost use Rattle.hs_outcome.specs.Outcomes.{IsOutcome};
 ghost use Rattle.hs_compare.specs.Coming.{events_in_order};
 ghost use Rattle.hs_compare.specs.SamplerLaws.{compared_by, SumsToTail};
 ghost use Rattle.hs_compare.specs.Samplers.{ring_step, empty_ring};
@@ -25,8 +25,8 @@ use crate::walk::walk;
 use hs_base::Memory;
 use hs_check_clauses::count_rounds;
 use hs_law_lockstep::laws::schedule_is_lawful;
+use hs_outcome::Outcome;
 use hs_records::{Journal, Workload};
-use hs_report::Outcome;
 use std::alloc::Global;
 
 /// A ring for so many records, behind all that comes and is named in a valid workload, with a journal of its shape. The scripts that it

@@ -20,8 +20,7 @@ use crate::ring::is_in;
 use crate::ring_tail::RingTail;
 use hs_base::limits::MAX_OPERATIONS;
 use hs_base::{Memory, TraceId};
-use hs_ledger::Entry;
-use hs_report::is_reported;
+use hs_ledger::{Entry, is_reported};
 use indexmap::IndexSet;
 use std::alloc::Global;
 

@@ -11,8 +11,7 @@ use crate::by_rank::head;
 use crate::coming::Coming;
 use crate::ring_tail::RingTail;
 use hs_base::{List, Memory, TraceId};
-use hs_ledger::Entry;
-use hs_report::is_reported;
+use hs_ledger::{Entry, is_reported};
 use std::alloc::Global;
 
 /// Of each record, whether head sampling of one trace in `one_in` keeps it.

@@ -16,7 +16,7 @@ use Rattle.hs_report.specs.OutcomeText.{fate_words, id_words, json_text, json_li
 use Rattle.hs_text.specs.Text.{line_of, payload_text}
 use Rattle.hs_json.specs.Spelling.{ArePlain, Spells, SpellEach, id_data}
 use Rattle.hs_json.proofs.Plain.{quoted_plain}
-use Rattle.hs_report.proofs.Loops.{Joins, loop_more, loop_more_at}
+use Rattle.hs_lists.proofs.Loops.{Joins, loop_more, loop_more_at}
 
 -- an item and those behind it, up to the bracket
 items_behind : (d : Data) (ds : List Data) → compact_text d ++ items_text true (items_of ds) ≡ join_with_byte 44 (map compact_text (d ∷ ds)) ++ 93 ∷ []

@@ -10,14 +10,15 @@ ghost use Rattle.hs_report.specs.OutcomeText.{json_list, ledger_text, outcome_te
 ghost use Rattle.hs_report.specs.declared.form.Form.TheVariants.{Json};
 ghost use Rattle.hs_ledger.specs.declared.ledger.Entry.{Entry};
 ghost use Rattle.hs_records.specs.Plain.{PlainWorkload};
-ghost use Rattle.hs_report.specs.Outcomes.{IsOutcome};
+ghost use Rattle.hs_outcome.specs.Outcomes.{IsOutcome};
 ghost use Rattle.hs_report.specs.Sorted.{count_line};
 ghost use Rattle.hs_report.specs.Sources.{Hold, report_by};
 ghost use Rattle.hs_records.specs.Validity.{IsValid};
 
 use crate::values::push_json;
 use hs_base::{Bytes, Memory};
-use hs_report::{Behind, Outcome, Parts, open_behind, open_parts, push_ledger};
+use hs_outcome::Outcome;
+use hs_report::{Behind, Parts, open_behind, open_parts, push_ledger};
 use std::alloc::Global;
 
 /// The reports as JSON, and the ledger behind them.

@@ -19,8 +19,8 @@ ghost use Rattle.serde_json.specs.View.{view, members_view};
 
 use hs_base::{Memory, RecordId, TraceId};
 use hs_collect::{Collector, TraceRecord};
-use hs_ledger::Entry;
-use hs_report::{Fates, is_reported, push_fate};
+use hs_ledger::{Entry, is_reported};
+use hs_report::{Fates, push_fate};
 use hs_text::{end_line, push_hex, push_payload};
 use serde_json::{Map, Value, put};
 use std::alloc::Global;

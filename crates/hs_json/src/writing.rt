@@ -7,13 +7,14 @@ ghost use Rattle.hs_law_journal.specs.Lawful.{IsLawful};
 ghost use Rattle.hs_report.specs.OutcomeText.{outcome_text};
 ghost use Rattle.hs_report.specs.declared.form.Form.TheVariants.{Json};
 ghost use Rattle.hs_records.specs.Plain.{PlainWorkload};
-ghost use Rattle.hs_report.specs.Outcomes.{IsOutcome};
+ghost use Rattle.hs_outcome.specs.Outcomes.{IsOutcome};
 ghost use Rattle.hs_records.specs.Validity.{IsValid};
 
 use crate::parts::json_parts;
 use crate::values::push_json;
 use hs_base::{Bytes, Memory};
-use hs_report::{Form, Outcome, Parts, close_text, line_parts, open_text, sort_out, write_lines};
+use hs_outcome::Outcome;
+use hs_report::{Form, Parts, close_text, line_parts, open_text, sort_out, write_lines};
 use std::alloc::Global;
 
 /// The text of an outcome with its reports as JSON.

@@ -1,6 +1,7 @@
 //! The fate of each record.
 
 ghost use Rattle.std.specs.Prelude.{◌≡◌, ◌+◌, ◌<◌, ◌^◌, length};
+ghost use Rattle.hs_ledger.specs.Totals.{is_reported};
 
 use hs_base::{Fate, List, RecordId, TraceId};
 
@@ -28,6 +29,13 @@ pub struct Totals {
 pub struct Ledger {
     pub entries: List<Entry>,
     pub totals: Totals,
+}
+
+/// Whether this fate is that of a reported record.
+pub fn is_reported(fate: Fate) -> bool
+    ensures { result ≡ is_reported fate }
+{
+    matches!(fate, Fate::Reported { .. })
 }
 
 impl Totals {

@@ -7,5 +7,5 @@ mod ledger;
 mod making;
 mod standings;
 
-pub use ledger::{Entry, Ledger, Totals};
+pub use ledger::{Entry, Ledger, Totals, is_reported};
 pub use making::make_ledger;

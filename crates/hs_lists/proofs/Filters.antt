@@ -1,6 +1,6 @@
 -- What a filter keeps, and what is found.
-use Rattle.std.proofs.Common.{◌≡◌, ◌≤◌, Bool, true, false, cond, List, [], ◌∷◌, length, filter, arith, refl, ap, ◌∙◌, map, find, Some, None, Option, sym}
-use Rattle.std.specs.List.{AllByRecursion}
+use Rattle.std.proofs.Common.{◌≡◌, ◌≤◌, Bool, true, false, cond, List, [], ◌∷◌, length, filter, arith, refl, ap, ◌∙◌, map, find, Some, None, Option, sym, ℕ, ◌<◌, suc, not, ◌||◌, eqb, get_or}
+use Rattle.std.specs.List.{AllByRecursion, list_any}
 use Rattle.std.proofs.lemmas.Bool.{both_ways}
 use Rattle.std.proofs.lemmas.List.Sums.{length-filter, count_by-le-length}
 
@@ -48,3 +48,22 @@ weaker_more test by z zs false false ta tb all rest =
 pub filter_weaker : {X : Type 0} (test by : X → Bool) → ((y : X) → test y ≡ true → by y ≡ true) → (zs : List X) → filter test (filter by zs) ≡ filter test zs
 filter_weaker test by all [] = refl
 filter_weaker test by all (z ∷ zs) = weaker_more test by z zs (test z) (by z) refl refl (all z) (filter_weaker test by all zs)
+
+pub filter_whole : {X : Type 0} (test : X → Bool) (xs : List X) → ((k : ℕ) (d : X) → k < length xs → test (get_or xs k d) ≡ true) → filter test xs ≡ xs
+filter_whole test [] all = refl
+filter_whole test (x ∷ xs) all =
+    ap (λ t. cond t (x ∷ filter test xs) (filter test xs)) (all 0 x (omega arith)) ∙ ap (λ t. x ∷ t) (filter_whole test xs (λ k d lt. all (suc k) d (omega arith)))
+
+pub filter_nothing : {X : Type 0} (test : X → Bool) (xs : List X) → ((k : ℕ) (d : X) → k < length xs → test (get_or xs k d) ≡ false) → filter test xs ≡ []
+filter_nothing test [] all = refl
+filter_nothing test (x ∷ xs) all =
+    ap (λ t. cond t (x ∷ filter test xs) (filter test xs)) (all 0 x (omega arith)) ∙ filter_nothing test xs (λ k d lt. all (suc k) d (omega arith))
+
+-- a filter keeps something exactly where something passes
+any_more : {X : Type 0} (test : X → Bool) (x : X) (xs : List X) (t : Bool) → not (eqb (length (filter test xs)) 0) ≡ list_any test xs → not (eqb (length (cond t (x ∷ filter test xs) (filter test xs))) 0) ≡ (t || list_any test xs)
+any_more test x xs true rest = grind arith
+any_more test x xs false rest = rest
+
+pub any_filtered : {X : Type 0} (test : X → Bool) (xs : List X) → not (eqb (length (filter test xs)) 0) ≡ list_any test xs
+any_filtered test [] = refl
+any_filtered test (x ∷ xs) = any_more test x xs (test x) (any_filtered test xs)

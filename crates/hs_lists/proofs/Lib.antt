@@ -10,3 +10,5 @@ pub mod Counts
 pub mod Ranges
 pub mod Lent
 pub mod Updates
+pub mod Stable
+pub mod Loops

@@ -170,3 +170,8 @@ pub zipped_at : {X : Type 0} (start : ℕ) (xs : List X) (i : ℕ) (x : X) → s
 zipped_at start [] i x h = let no : None ≡ Some x = h in absurd cc
 zipped_at start (y ∷ xs) zero x h = let here : start ≡ start + 0 = omega arith in ap (λ (y : _). Some (start, y)) (same_Some y x h) ∙ ap (λ (n : ℕ). Some (n, x)) here
 zipped_at start (y ∷ xs) (suc i) x h = let there : start + 1 + i ≡ start + suc i = omega arith in zipped_at (start + 1) xs i x h ∙ ap (λ (n : ℕ). Some (n, x)) there
+
+pub place_at : {A : Type 0} (k : ℕ) (pre : List A) (x : A) (rest : List A) → k ≡ length pre → slice_get (pre ++ x ∷ rest) k ≡ Some x
+place_at k [] x rest is = ap (λ n. slice_get (x ∷ rest) n) is
+place_at zero (y ∷ pre) x rest is = absurd (omega arith)
+place_at (suc k) (y ∷ pre) x rest is = place_at k pre x rest (omega arith)

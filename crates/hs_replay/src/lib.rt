@@ -17,7 +17,7 @@ mod telling;
 
 pub use all::{go_all, has_left, is_bare, pass};
 pub use coordinator::coordinate;
-pub use hs_report::{Outcome, write_lines, write_total};
+pub use hs_outcome::Outcome;
 pub use node::ReplayNode;
 pub use replaying::{into_outcome, replay};
 pub use schedule::{close, rounds};

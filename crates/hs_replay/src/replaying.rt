@@ -2,7 +2,7 @@
 
 ghost use Rattle.std.specs.Prelude.{IfOk};
 ghost use Rattle.hs_law_lockstep.specs.Lockstep.{lockstep};
-ghost use Rattle.hs_report.specs.Outcomes.{AreBooksOf, IsOutcome};
+ghost use Rattle.hs_outcome.specs.Outcomes.{AreBooksOf, IsOutcome};
 ghost use Rattle.hs_records.specs.Validity.{IsValid};
 ghost use Rattle.hs_records.specs.Views.{workload_of};
 
@@ -11,8 +11,8 @@ use crate::schedule::{close, rounds};
 use crate::start::{make_coordinator, make_nodes};
 use hs_base::{List, Memory};
 use hs_law_lockstep::laws::{machines_are_whole, schedule_is_lawful};
+use hs_outcome::{Books, Outcome, gather};
 use hs_records::Workload;
-use hs_report::{Books, Outcome, gather};
 use std::alloc::Global;
 
 /// Replays a workload by the lockstep schedule, and answers what it comes to. The one error is want of memory.

@@ -1,9 +1,10 @@
 -- Entries that are sorted by trace: those of a trace stand together, in the order that they had.
-use Rattle.std.proofs.Common.{◌≡◌, ℕ, suc, ◌+◌, ◌<◌, ◌≤◌, Bool, true, false, cond, not, ◌||◌, eqb, ltb, leb, List, [], ◌∷◌, ◌++◌, length, get_or, take, drop, sym, ap, ◌∙◌, refl, append-nil, length-drop, arith}
-use Rattle.hs_report.proofs.Prelude.{filter, list_any, ties, nat_tests, get_or-take, get_or-drop, length-take, take-append-drop, filter-append, TraceId, Entry, is_of}
+use Rattle.std.proofs.Common.{◌≡◌, ℕ, ◌+◌, ◌<◌, ◌≤◌, Bool, true, false, not, ltb, leb, List, [], ◌++◌, length, get_or, take, drop, sym, ap, ◌∙◌, append-nil, length-drop, arith}
+use Rattle.hs_report.proofs.Prelude.{filter, ties, nat_tests, get_or-take, get_or-drop, length-take, take-append-drop, filter-append, TraceId, Entry, is_of}
 use Rattle.std.specs.List.Sorted.{IsStableByKey, IsPartitionPoint}
 use Rattle.std.specs.Ordering.{nat_cmp, is_lt}
-use Rattle.hs_report.proofs.Stable.{stable_keeps}
+use Rattle.hs_lists.proofs.Stable.{stable_keeps}
+use Rattle.hs_lists.proofs.Filters.{filter_whole, filter_nothing}
 
 abbrev pub number_of : Entry → ℕ
 number_of entry = entry.trace.0
@@ -15,16 +16,6 @@ pub same_of_trace : (trace : TraceId) (xs ys : List Entry) → IsStableByKey (λ
 same_of_trace trace xs ys stable = stable_keeps (λ (a b : Entry). is_lt (nat_cmp a.trace.0 b.trace.0)) (is_of trace) xs ys (tie trace) stable
 
 -- ---- the entries of a trace
-
-pub filter_whole : {X : Type 0} (test : X → Bool) (xs : List X) → ((k : ℕ) (d : X) → k < length xs → test (get_or xs k d) ≡ true) → filter test xs ≡ xs
-filter_whole test [] all = refl
-filter_whole test (x ∷ xs) all =
-    ap (λ t. cond t (x ∷ filter test xs) (filter test xs)) (all 0 x (omega arith)) ∙ ap (λ t. x ∷ t) (filter_whole test xs (λ k d lt. all (suc k) d (omega arith)))
-
-pub filter_nothing : {X : Type 0} (test : X → Bool) (xs : List X) → ((k : ℕ) (d : X) → k < length xs → test (get_or xs k d) ≡ false) → filter test xs ≡ []
-filter_nothing test [] all = refl
-filter_nothing test (x ∷ xs) all =
-    ap (λ t. cond t (x ∷ filter test xs) (filter test xs)) (all 0 x (omega arith)) ∙ filter_nothing test xs (λ k d lt. all (suc k) d (omega arith))
 
 -- the test of a trace is false below it, and above it
 below : (trace : TraceId) (entry : Entry) → ltb entry.trace.0 trace.0 ≡ true → is_of trace entry ≡ false
@@ -64,12 +55,3 @@ between trace xs rest start count le is least split more =
     ∙ append-nil (filter (is_of trace) (take count rest)) ∙ middle in
     sym both ∙ ap (filter (is_of trace)) is ∙ ap (λ t. t ++ filter (is_of trace) (drop start xs)) (sym front) ∙ sym (filter-append (is_of trace) (take start xs) (drop start xs))
     ∙ ap (filter (is_of trace)) (take-append-drop start xs)
-
--- a filter keeps something exactly where something passes
-any_more : {X : Type 0} (test : X → Bool) (x : X) (xs : List X) (t : Bool) → not (eqb (length (filter test xs)) 0) ≡ list_any test xs → not (eqb (length (cond t (x ∷ filter test xs) (filter test xs))) 0) ≡ (t || list_any test xs)
-any_more test x xs true rest = grind arith
-any_more test x xs false rest = rest
-
-pub any_filtered : {X : Type 0} (test : X → Bool) (xs : List X) → not (eqb (length (filter test xs)) 0) ≡ list_any test xs
-any_filtered test [] = refl
-any_filtered test (x ∷ xs) = any_more test x xs (test x) (any_filtered test xs)

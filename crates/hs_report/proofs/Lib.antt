@@ -1,20 +1,10 @@
 mod Prelude
-pub mod Basics
-pub mod Stable
 pub mod LedgerLines
 pub mod Loops
-pub mod Claimed
 pub mod ByTrace
-pub mod Seen
-pub mod Rising
 pub mod Ids
-pub mod Sent
 pub mod Reports
-pub mod Runs
-pub mod Adding
 pub mod Shapes
 pub mod Written
-pub mod Journals
-pub mod Fitting
 pub mod KeptLemmas
 pub mod Readable

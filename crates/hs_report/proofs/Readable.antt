@@ -3,7 +3,7 @@ use Rattle.hs_law_outcome.proofs.Followed.{ends_its_traces}
 use Rattle.hs_records.specs.Laws.{PagesHoldThePieces}
 use Rattle.hs_records.specs.declared.setting.Setting.TheVariants as settings
 use Rattle.hs_report.specs.Readable.{LawfulJournalsCanBeRead, JournalsCanBeRead}
-use Rattle.hs_report.proofs.Fitting.{PagesCarry, PiecesCounted, few_pages_each}
+use Rattle.hs_outcome.proofs.Fitting.{PagesCarry, PiecesCounted, few_pages_each}
 
 pub readable : PagesCarry → PagesHoldThePieces → PiecesCounted → LawfulJournalsCanBeRead → JournalsCanBeRead
 readable carry hold counted law W J valid lawful =

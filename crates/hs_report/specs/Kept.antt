@@ -5,7 +5,7 @@ use Rattle.hs_base.specs.declared.ids.TraceId.{TraceId}
 use Rattle.hs_base.specs.Ids.{is_among}
 use Rattle.hs_ledger.specs.declared.ledger.Entry.{Entry}
 use Rattle.hs_ledger.specs.Totals.{is_reported}
-use Rattle.hs_report.specs.declared.outcome.Outcome.{Outcome}
+use Rattle.hs_outcome.specs.declared.outcome.Outcome.{Outcome}
 use Rattle.hs_report.specs.Fates.{two_traces}
 
 -- whether an entry stays, where these traces were claimed

@@ -1,11 +1,5 @@
-pub mod Outcomes
-pub mod Pages
 pub mod Fates
-pub mod Claims
-pub mod Journals
 pub mod Sources
-pub mod Fitting
-pub mod Examples
 pub mod Sorted
 pub mod Kept
 pub mod OutcomeText

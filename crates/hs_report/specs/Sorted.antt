@@ -10,7 +10,7 @@ use Rattle.hs_law_outcome.specs.Reports.{report_of, reports_in}
 use Rattle.hs_records.specs.Plain.{PlainWorkload}
 use Rattle.hs_text.specs.Text.{line_of}
 use Rattle.hs_report.specs.declared.fates.Sorted.{Sorted}
-use Rattle.hs_report.specs.declared.outcome.Outcome.{Outcome}
+use Rattle.hs_outcome.specs.declared.outcome.Outcome.{Outcome}
 use Rattle.hs_report.specs.Kept.{kept_of}
 use Rattle.hs_report.specs.Sources.{Hold, report_by}
 

@@ -16,6 +16,8 @@ use Rattle.hs_law_outcome.specs.Outcomes.{outcome_of}
 use Rattle.hs_law_outcome.specs.Reports.{reports_of}
 use Rattle.hs_law_journal.specs.Journals
 use Rattle.hs_law_journal.specs.Workloads.{nothing, three_points, short_of_pins, four_nodes}
+use Rattle.hs_law_journal.specs.Journals.{of_trigger_first}
+use Rattle.hs_journal.specs.Grammar.{journal_lines}
 
 no_operations : outcome_text nothing Journals.of_nothing Text
     ≡ text_of (
@@ -97,3 +99,10 @@ line_of_a_gap_in_each_version : (gap_line 1 (record_in 0 0 0 1 (Abandoned (recor
     ≡ codes "gap 0 0 0 abandoned 7 00000000000000000000000000000002 00000000000000ff")
 unfolding digits
 line_of_a_gap_in_each_version = (refl, refl)
+
+-- the journal of one report, which stands before it
+text_of_the_journal : journal_lines of_trigger_first
+    ≡ codes "journal 1 1 1" ∷ codes "draws 0 0" ∷ codes "got 0 0" ∷ codes "log 0" ∷ codes "trigger 0" ∷ codes "turn" ∷ codes "turn" ∷ codes "turn" ∷ codes "chunk 0"
+    ∷ codes "turn" ∷ codes "given 1" ∷ codes "coordinator" ∷ codes "told 0" ∷ codes "end" ∷ []
+unfolding digits
+text_of_the_journal = refl

@@ -6,13 +6,12 @@ ghost use Rattle.hs_base.specs.declared.ids.RecordId.{RecordId};
 ghost use Rattle.hs_base.specs.declared.ids.TraceId.{TraceId};
 ghost use Rattle.hs_collect.specs.Collected.{is_same};
 ghost use Rattle.hs_ledger.specs.declared.ledger.Entry.{Entry};
-ghost use Rattle.hs_ledger.specs.Totals.{is_reported as reported_by};
 ghost use Rattle.hs_law_outcome.specs.CollectedReports.{was_reported};
 ghost use Rattle.hs_law_outcome.specs.Reports.{is_of};
 ghost use Rattle.hs_report.specs.Fates.{AreByTrace, AreFatesOf, has_entry};
 
-use hs_base::{Fate, Memory, RecordId, TraceId};
-use hs_ledger::Entry;
+use hs_base::{Memory, RecordId, TraceId};
+use hs_ledger::{Entry, is_reported};
 use std::alloc::Global;
 use std::collections::HashSet;
 
@@ -29,13 +28,6 @@ pub struct Sorted {
     pub fates: Fates,
     /// The traces that have a report, rising.
     pub traces: Vec<TraceId>,
-}
-
-/// Whether this fate is that of a reported record.
-pub fn is_reported(fate: Fate) -> bool
-    ensures { result ≡ reported_by fate }
-{
-    matches!(fate, Fate::Reported { .. })
 }
 
 /// The entries sorted by trace, those of each trace in their order.

@@ -7,9 +7,8 @@ ghost use Rattle.hs_ledger.specs.Totals.{is_reported as reported_by};
 ghost use Rattle.hs_base.specs.Ids.{same_trace, is_among};
 ghost use Rattle.hs_report.specs.Kept.{is_kept};
 
-use crate::fates::is_reported;
 use hs_base::{Memory, TraceId};
-use hs_ledger::Entry;
+use hs_ledger::{Entry, is_reported};
 use std::alloc::Global;
 use std::collections::HashSet;
 

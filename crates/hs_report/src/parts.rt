@@ -11,7 +11,7 @@ ghost use Rattle.hs_report.specs.OutcomeText.{ledger_text, outcome_text, report_
 ghost use Rattle.hs_report.specs.declared.form.Form.TheVariants.{Text};
 ghost use Rattle.hs_ledger.specs.declared.ledger.Entry.{Entry};
 ghost use Rattle.hs_records.specs.Plain.{PlainWorkload};
-ghost use Rattle.hs_report.specs.Outcomes.{IsOutcome};
+ghost use Rattle.hs_outcome.specs.Outcomes.{IsOutcome};
 ghost use Rattle.hs_report.specs.Sorted.{AreSorted, count_line};
 ghost use Rattle.hs_report.specs.Sources.{Hold, report_by};
 ghost use Rattle.hs_text.specs.Text.{text_of};
@@ -20,13 +20,13 @@ ghost use Rattle.hs_records.specs.Validity.{IsValid};
 use crate::fates::Sorted;
 use crate::laws::journals_can_be_read;
 use crate::ledger::push_ledger;
-use crate::outcome::Outcome;
 use crate::text::push_reports;
 use crate::writing::{push_count_line, room_for, sort_out};
 use hs_base::{Bytes, Memory};
 use hs_collect::Collector;
 use hs_journal::write_journal;
 use hs_ledger::Ledger;
+use hs_outcome::Outcome;
 use hs_records::Journal;
 use std::alloc::Global;
 

@@ -13,11 +13,11 @@ ghost use Rattle.hs_report.specs.Fates.{AreFatesOf};
 ghost use Rattle.hs_report.specs.Sources.{Hold, report_by};
 ghost use Rattle.hs_text.specs.Text.{text_of};
 
-use crate::fates::{Fates, is_reported};
+use crate::fates::Fates;
 use crate::ledger::push_fate;
 use hs_base::{Memory, TraceId};
 use hs_collect::{Collector, TraceRecord};
-use hs_ledger::Entry;
+use hs_ledger::{Entry, is_reported};
 use hs_text::{end_line, push_number, push_spaced_number, push_spaced_payload, push_spaced_trace};
 
 /// Appends a record's line.

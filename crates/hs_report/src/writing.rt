@@ -9,7 +9,7 @@ ghost use Rattle.hs_report.specs.OutcomeText.{ledger_text, outcome_text, total_l
 ghost use Rattle.hs_report.specs.declared.form.Form.TheVariants.{Text};
 ghost use Rattle.hs_records.specs.Plain.{PlainWorkload};
 ghost use Rattle.hs_report.specs.Fates.{AreFatesOf, has_entry};
-ghost use Rattle.hs_report.specs.Outcomes.{IsOutcome};
+ghost use Rattle.hs_outcome.specs.Outcomes.{IsOutcome};
 ghost use Rattle.hs_report.specs.Sorted.{AreSorted, count_line};
 ghost use Rattle.hs_text.specs.Text.{text_of};
 ghost use Rattle.hs_records.specs.Validity.{IsValid};
@@ -18,12 +18,12 @@ use crate::fates::{Fates, Sorted};
 use crate::kept::kept_entries;
 use crate::laws::journals_can_be_read;
 use crate::ledger::{push_ledger, push_totals};
-use crate::outcome::Outcome;
 use crate::text::push_reports;
 use hs_base::{Bytes, Memory, TraceId};
 use hs_journal::write_journal;
 use hs_law_outcome::laws::collected_records_are_whole;
 use hs_ledger::Ledger;
+use hs_outcome::Outcome;
 use hs_text::{end_line, push_spaced_number};
 use std::alloc::Global;
 

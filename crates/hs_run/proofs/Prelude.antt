@@ -35,6 +35,7 @@ pub use Rattle.hs_lists.proofs.Updates.{same_everywhere}
 pub use Rattle.hs_live.specs.Calls.{AreMates}
 pub use Rattle.hs_live.specs.Keys.{Key}
 pub use Rattle.hs_live.specs.Live.{IsMate}
+pub use Rattle.hs_outcome.specs.declared.outcome.Books.{Books}
 pub use Rattle.hs_records.proofs.Sizes.{few_nodes, last_low, product_few}
 pub use Rattle.hs_records.specs.Books.{agent_book_of, client_book_of, PlainAgentBook, PlainClientBook}
 pub use Rattle.hs_records.specs.Journals.{PlainJournal}
@@ -45,7 +46,6 @@ pub use Rattle.hs_records.specs.declared.journal.Draw.{Draw}
 pub use Rattle.hs_records.specs.declared.journal.Step.{Step}
 pub use Rattle.hs_records.specs.declared.operation.Op.{Op}
 pub use Rattle.hs_records.specs.declared.operation.Workload.{Workload}
-pub use Rattle.hs_report.specs.declared.outcome.Books.{Books}
 pub use Rattle.hs_ring.specs.Parts.{AreAllEnds, Drawing, Giving, Leased}
 pub use Rattle.hs_run.specs.Changing.{EachChanged, FirstChanged}
 pub use Rattle.hs_run.specs.CountLaws.{TheseAreAllRounds}

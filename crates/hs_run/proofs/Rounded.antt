@@ -15,7 +15,7 @@ use Rattle.hs_run.specs.Nodes.{AreWhole}
 use Rattle.hs_run.proofs.FewTaken.{few_clients}
 use Rattle.hs_run.proofs.Few.{few_met}
 use Rattle.hs_run.proofs.Moments.{node_stands, node_low, node_there, site_there}
-use Rattle.hs_report.proofs.Fitting.{pieces_at_place}
+use Rattle.hs_outcome.proofs.Fitting.{pieces_at_place}
 
 -- what clients have sent
 abbrev pub SendSo : Type 0

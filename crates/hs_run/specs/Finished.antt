@@ -11,8 +11,8 @@ use Rattle.hs_records.specs.Plain.{PlainWorkload}
 use Rattle.hs_run_story.specs.RunStates.{RunState}
 use Rattle.hs_run_story.specs.Coming.{Came}
 use Rattle.hs_run_story.specs.Noting.{NotesRounds}
-use Rattle.hs_report.specs.Outcomes.{AreBooksOf}
-use Rattle.hs_report.specs.declared.outcome.Books.{Books}
+use Rattle.hs_outcome.specs.Outcomes.{AreBooksOf}
+use Rattle.hs_outcome.specs.declared.outcome.Books.{Books}
 
 -- The books are those of a lawful journal of the workload.
 abbrev pub AreLawfulBooks : PlainWorkload → Books → Type 0

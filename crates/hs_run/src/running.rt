@@ -3,7 +3,7 @@
 ghost use Rattle.std.specs.Prelude.{IfOk};
 ghost use Rattle.hs_records.specs.Journals.{PlainJournal};
 ghost use Rattle.hs_law_journal.specs.Lawful.{IsLawful};
-ghost use Rattle.hs_report.specs.Outcomes.{AreBooksOf, IsOutcome};
+ghost use Rattle.hs_outcome.specs.Outcomes.{AreBooksOf, IsOutcome};
 ghost use Rattle.hs_records.specs.Validity.{IsValid};
 ghost use Rattle.hs_records.specs.Views.{workload_of};
 
@@ -11,8 +11,8 @@ use crate::finishing::finish;
 use crate::making::make_all;
 use crate::rounds::make_rounds;
 use hs_base::{Gate, Memory};
+use hs_outcome::{Books, Outcome, gather};
 use hs_records::Workload;
-use hs_report::{Books, Outcome, gather};
 use std::alloc::Global;
 use std::marker::Sync;
 use std::thread::Threads;

@@ -1,7 +1,8 @@
 //! The replay, called by itself.
 
 use crate::calls::EXAMPLE;
-use hs_replay::{into_outcome, write_total};
+use hs_replay::into_outcome;
+use hs_report::write_total;
 use hs_workload::read_workload;
 use std::test::Fail;
 

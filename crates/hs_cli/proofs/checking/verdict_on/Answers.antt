@@ -1,7 +1,7 @@
 use Rattle.std.proofs.Common.{◌≡◌, Some, None, sym, subst, ◌∙◌}
 use Rattle.hs_records.specs.Journals.{journal_of}
 use Rattle.hs_law_journal.specs.Lawful.{IsLawful, first_unlawful}
-use Rattle.hs_report.specs.Outcomes.{IsOutcome}
+use Rattle.hs_outcome.specs.Outcomes.{IsOutcome}
 use Rattle.hs_records.specs.Views.{workload_of}
 use Rattle.hs_check.specs.Clauses.{number_of}
 use Rattle.hs_check.specs.Verdicts.{IsVerdict}
