@@ -41,14 +41,23 @@ pub record Core (L : Type 0) : Type 0 where
   pub pages : List PageNote
   -- whether the draws and the pages are kept, to be had at the end
   pub keeps : Bool
+  -- how often it was renewed
+  pub renewed : ℕ
 
 abbrev pub new_core : {L : Type 0} → ClientId → ℕ → ℕ → Core L
 new_core client size calls =
-    record { client = client; size = size; calls = calls; counted = 0; trace = None; number = 0; used = 0; current = None; draws = []; pages = []; keeps = true }
+    record { client = client; size = size; calls = calls; counted = 0; trace = None; number = 0; used = 0; current = None; draws = []; pages = []; keeps = true; renewed = 0 }
 
--- a core that keeps no book
+-- a core that keeps no book, after so many renewals
+abbrev pub bare_after : {L : Type 0} → ClientId → ℕ → ℕ → ℕ → Core L
+bare_after client size calls renewed = record (new_core client size calls) { keeps = false; renewed = renewed }
+
 abbrev pub bare_core : {L : Type 0} → ClientId → ℕ → ℕ → Core L
-bare_core client size calls = record (new_core client size calls) { keeps = false }
+bare_core client size calls = bare_after client size calls 0
+
+-- the bare core that comes in the place of this one, with the number of the next renewal
+abbrev pub renewed_core : {L : Type 0} → ℕ → Core L → Core L
+renewed_core calls core = bare_after core.client core.size calls (core.renewed + 1)
 
 -- ---- what may happen
 

@@ -27,6 +27,7 @@ core_of a =
       draws = a.draws.items;
       pages = a.pages.items;
       keeps = a.draws.keeps;
+      renewed = a.renewed;
     }
 
 -- The chunk has a page with so many used bytes.

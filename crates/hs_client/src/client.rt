@@ -3,7 +3,7 @@
 ghost use Rattle.std.specs.Prelude.{◌≡◌, ◌+◌, ◌-◌, ◌≤◌, ◌<◌, ◌^◌, length, IfOk, OnErr, true, false, None, IsSome, IsNone, count_by};
 ghost use Rattle.hs_base.specs.declared.limits.TheConstants.{FRAME_COST};
 ghost use Rattle.hs_client.specs.Calls.{May};
-ghost use Rattle.hs_client.specs.Core.{new_core, bare_core, after_step, Wrote, Fits, NeedsPage, began, ended_step, pointed_step, supplied, closed, handed, started, piece, BeginsBy, PointsBy, EndsBy, MaySupply, HasClearChunk, is_null};
+ghost use Rattle.hs_client.specs.Core.{new_core, bare_core, bare_after, renewed_core, after_step, Wrote, Fits, NeedsPage, began, ended_step, pointed_step, supplied, closed, handed, started, piece, BeginsBy, PointsBy, EndsBy, MaySupply, HasClearChunk, is_null};
 ghost use Rattle.hs_words.specs.Buffers.{buffer_in, buffer_of};
 
 use crate::answers::{Begun, Ended, Pointed};
@@ -32,6 +32,7 @@ pub struct ClientCore<L: Token> {
     pages: Notes<PageNote>,
     ended: u32,
     nulls: u32,
+    renewed: u64,
 }
 
 impl<L: Token> Model for ClientCore<L> {
@@ -75,6 +76,7 @@ impl<L: Token> ClientCore<L> {
             pages: Notes::with_room(alloc, calls as usize)?,
             ended: 0,
             nulls: 0,
+            renewed: 0,
         })
     }
 
@@ -83,6 +85,15 @@ impl<L: Token> ClientCore<L> {
         requires least { MIN_SIZE ≤ size }
         requires most { size ≤ MAX_SIZE }
         ensures core { result ≡ bare_core client size calls }
+    {
+        ClientCore::numbered(client, size, calls, 0)
+    }
+
+    /// A bare core, after so many renewals.
+    fn numbered(client: ClientId, size: u32, calls: u32, renewed: u64) -> ClientCore<L>
+        requires least { MIN_SIZE ≤ size }
+        requires most { size ≤ MAX_SIZE }
+        ensures { result ≡ bare_after client size calls renewed }
     {
         ClientCore {
             client,
@@ -99,7 +110,17 @@ impl<L: Token> ClientCore<L> {
             pages: Notes::bare(),
             ended: 0,
             nulls: 0,
+            renewed,
         }
+    }
+
+    /// Begins anew as a bare core for so many calls, between two traces, with the number of the next renewal. What it noted goes.
+    pub fn renew(&mut self, calls: u32)
+        requires closed { IsNone self.old.trace }
+        requires few { self.old.renewed + 1 < 2 ^ 64 }
+        ensures { self.new ≡ renewed_core calls self.old }
+    {
+        *self = ClientCore::numbered(self.client, self.size, calls, self.renewed + 1);
     }
 
     /// Opens a trace.
@@ -271,6 +292,13 @@ impl<L: Token> ClientCore<L> {
         ensures most { self.now.size ≤ MAX_SIZE }
     {
         self.size
+    }
+
+    /// How often it was renewed.
+    pub fn renewed(&self) -> u64
+        ensures { result ≡ self.now.renewed }
+    {
+        self.renewed
     }
 
     /// The calls that may still be counted.

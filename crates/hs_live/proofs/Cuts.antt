@@ -1,6 +1,6 @@
 -- A client that has recorded some pieces of a payload, and has the rest of it still to record.
 use Rattle.std.proofs.Common.{◌≡◌, ℕ, suc, ◌+◌, ◌-◌, ◌<◌, ◌≤◌, List, [], ◌∷◌, ◌++◌, length, map, take, drop, Bool, Option, IsSome, refl, sym, ap, ap₂, ◌∙◌, arith, subst, append_assoc, length-append}
-use Rattle.hs_live.proofs.Prelude.{option_to_list_short, AllByRecursion, option_to_list, Piece, Segment, piece_limit, record_pieces, Drawn, PoolEvent, Got, Empty, Answer, Buffer, Core, after_step, closed, supplied, Outgoing, sent, Leased, Drawing, Draws, after_draw, Key, GoesOn, Made, Writing, IsSound, IsWriting, WritesPieces}
+use Rattle.hs_live.proofs.Prelude.{option_to_list_short, AllByRecursion, option_to_list, Piece, Segment, piece_limit, record_pieces, Drawn, PoolEvent, Got, Empty, Answer, Buffer, Core, after_step, closed, supplied, Outgoing, sent, Leased, Drawing, after_draw, Key, GoesOn, Made, Writing, IsSound, IsWriting, WritesPieces, DrawsAs}
 use Rattle.hs_base.specs.declared.limits.TheConstants.{MIN_SIZE}
 use Rattle.hs_records.specs.Records.{payload_pieces, piece_count, count_cuts}
 use Rattle.hs_records.proofs.Payloads.{AreCut}
@@ -68,9 +68,9 @@ pub draws_none : (drawer : Drawing) → DrawsOn drawer drawer
 draws_none drawer = record { pool = refl; buffers = refl; size = refl; number = refl; floor = omega arith; added = []; since = refl; above = tt; drawn = tt }
 
 -- a page was drawn for
-pub draws_one : {g : _} (old new : Drawing) (draw : Drawn Leased g) → Draws old draw new → DrawsOn old new
-draws_one old new (drawn.Got held stamp) draws = drew_at old new stamp (Got held.chunk.number) tt draws.0 draws.1
-draws_one old new (drawn.Empty stamp) draws = drew_at old new stamp Empty tt draws.0 draws.1
+pub draws_one : {g : _} (mark : ℕ) (old new : Drawing) (draw : Drawn Leased g) → DrawsAs mark old draw new → DrawsOn old new
+draws_one mark old new (drawn.Got held stamp) draws = drew_at old new stamp (Got held.chunk.number) tt draws.0 draws.1
+draws_one mark old new (drawn.Empty stamp) draws = drew_at old new stamp Empty tt draws.0 draws.1
 
 pub spends_none : (a : Writing) → Spends 0 a a
 spends_none a =
@@ -98,24 +98,24 @@ is_supplied : {g : _} (core : Core Leased) (draw : Drawn Leased g) (moment : ℕ
 is_supplied core (drawn.Got held stamp) moment payload more = record { owner = refl; size = refl; calls_are = refl; keeps = refl; counted = refl }
 is_supplied core (drawn.Empty stamp) moment payload more = record { owner = refl; size = refl; calls_are = refl; keeps = refl; counted = refl }
 
-left_drawn : {g : _} (old new : Drawing) (draw : Drawn Leased g) → Draws old draw new → new.left ≡ old.left - 1
-left_drawn old new (drawn.Got held stamp) draws = ap (λ (d : Drawing). d.left) draws.0
-left_drawn old new (drawn.Empty stamp) draws = ap (λ (d : Drawing). d.left) draws.0
+left_drawn : {g : _} (mark : ℕ) (old new : Drawing) (draw : Drawn Leased g) → DrawsAs mark old draw new → new.left ≡ old.left - 1
+left_drawn mark old new (drawn.Got held stamp) draws = ap (λ (d : Drawing). d.left) draws.0
+left_drawn mark old new (drawn.Empty stamp) draws = ap (λ (d : Drawing). d.left) draws.0
 
 -- a piece that needed a page
-pub spends_page : {g : _} (old : Writing) (core : Core Leased) (drawer : Drawing) (chunks : Outgoing (Buffer Leased) Key) (handed : Option (Buffer Leased)) (draw : Drawn Leased g) (moment : ℕ) (payload : List ℕ) (more : Bool)
-    → core ≡ after_step (closed old.core) (supplied draw moment payload more) → Draws old.drawer draw drawer → GoesOn old.chunks chunks → sent chunks ≡ sent old.chunks ++ option_to_list handed
+pub spends_page : {g : _} (mark : ℕ) (old : Writing) (core : Core Leased) (drawer : Drawing) (chunks : Outgoing (Buffer Leased) Key) (handed : Option (Buffer Leased)) (draw : Drawn Leased g) (moment : ℕ) (payload : List ℕ) (more : Bool)
+    → core ≡ after_step (closed old.core) (supplied draw moment payload more) → DrawsAs mark old.drawer draw drawer → GoesOn old.chunks chunks → sent chunks ≡ sent old.chunks ++ option_to_list handed
     → Spends 1 old (record { core = core; drawer = drawer; chunks = chunks })
-spends_page old core drawer chunks handed draw moment payload more is draws goes sends =
+spends_page mark old core drawer chunks handed draw moment payload more is draws goes sends =
     let by = subst (λ (new : Core Leased). IsSupplied (closed old.core) new) (sym is) (is_supplied (closed old.core) draw moment payload more) in
-    let left = left_drawn old.drawer drawer draw draws in
+    let left = left_drawn mark old.drawer drawer draw draws in
     record {
       owner = by.owner;
       size = by.size;
       calls_are = by.calls_are;
       keeps = by.keeps;
       counted = by.counted;
-      drawer = draws_one old.drawer drawer draw draws;
+      drawer = draws_one mark old.drawer drawer draw draws;
       left = omega (arith, left);
       chunks = goes;
       items = omega (arith, ap length sends, length-append (sent old.chunks) (option_to_list handed), option_to_list_short handed);

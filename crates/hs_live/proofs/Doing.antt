@@ -1,23 +1,25 @@
 -- A client that has done some operations does one more.
-use Rattle.std.proofs.Common.{◌≡◌, ℕ, ◌+◌, Bool, false, List, [], ◌∷◌, ◌++◌, reverse, Option, Some, None, IsSome, refl, sym, ap, ap₂, ◌∙◌, subst, append_assoc}
-use Rattle.hs_live.proofs.Prelude.{append-nil, reverse-append, is_some, ClientId, TraceId, Crumb, Trigger, Operation, Begin, Point, End, Fire, Piece, Segment, numbered_of, record_pieces, segments_from, segments_of, Watch, HasSampled, Core, Current, Step, Began, after_step, AreSteps, IsBook, May, with_all, Outgoing, sent, Leased, trigger_in, Key, PlainClient, Made, new_of, Writing, IsWriting, WritesPieces, writing_of, HasDone, AreWatching, OneMore, Does, DoesNothing, made_of}
+use Rattle.std.proofs.Common.{◌≡◌, ℕ, ◌+◌, Bool, false, List, [], ◌∷◌, ◌++◌, reverse, Option, Some, None, IsSome, refl, sym, ap, ap₂, ◌∙◌, subst, append_assoc, arith, ◌<◌}
+use Rattle.hs_live.proofs.Prelude.{append-nil, reverse-append, is_some, ClientId, TraceId, Crumb, Trigger, Operation, Begin, Point, End, Fire, Piece, Segment, numbered_of, record_pieces, segments_from, segments_of, Watch, HasSampled, Core, Current, Step, Began, after_step, AreSteps, IsBook, May, with_all, Outgoing, sent, Leased, trigger_in, Key, PlainClient, Made, new_of, Writing, IsWriting, WritesPieces, writing_of, HasDone, AreWatching, OneMore, Does, DoesNothing, made_of, Buffer}
 use Rattle.hs_base.specs.declared.ids.NodeId.{NodeId}
 use Rattle.hs_records.specs.Plain as plain
 use Rattle.hs_records.specs.Records.{NumberedOperation, open_behind, pieces_until_end, coming}
-use Rattle.hs_client.specs.Core.{new_core}
+use Rattle.hs_client.specs.Core.{new_core, renewed_core}
 use Rattle.hs_client.proofs.Bare.{book_bare}
 use Rattle.hs_law_sends.specs.SoFar.{has_open_page}
-use Rattle.hs_law_sends.specs.Sending.{crumb_in}
+use Rattle.hs_law_sends.specs.Sending.{crumb_in, sent_crumbs, sent_triggers}
 use Rattle.hs_live.specs.Writing.{WritesEnd}
-use Rattle.hs_law_sends.specs.OneMore.{next_behind}
+use Rattle.hs_law_sends.specs.OneMore.{next_behind, open_after, items_of}
 use Rattle.hs_law_sends.proofs.Adding.{page_more, at, unseen, begin_unseen, point_unseen, end_unseen, crumb_unseen, fire_unseen, begin_no_crumb, begin_no_trigger, point_no_crumb, point_no_trigger, end_no_crumb, end_no_trigger, coming_crumb, crumb_no_trigger, coming_fire, fire_no_crumb, trigger_of_fire}
 use Rattle.hs_law_sends.proofs.OneMore.{open_push}
 use Rattle.hs_lists.proofs.Options.{is_some_true, some_item}
-use Rattle.hs_lists.proofs.Alls.{all_everywhere}
+use Rattle.hs_lists.proofs.Alls.{all_each, all_everywhere}
 use Rattle.hs_live.specs.declared.called.Called.{Called}
 use Rattle.hs_live.specs.declared.called.Called.TheVariants as called
-use Rattle.hs_live.specs.Calls.{IsNew, BeginsBy, EndsBy, WritesOnly, begun}
-use Rattle.hs_live.proofs.Steps.{began_trace, writing_kept, made_size}
+use Rattle.hs_live.specs.Calls.{IsNew, BeginsBy, EndsBy, RenewsBy, WritesOnly, begun, renewed, renewed_of, Renews}
+use Rattle.hs_live.proofs.Steps.{began_trace, writing_kept, made_size, made_client, made_renewed}
+use Rattle.hs_live.proofs.Apart.{IsMost, sent_apart}
+use Rattle.hs_live.specs.Done.{HasSent}
 
 abbrev Writes : Made → List Operation → List Operation → PlainClient → Type 0
 Writes made all rest client =
@@ -28,21 +30,40 @@ pub record DoesNow (made : Made) (ops : List Operation) (op : Operation) (old ne
   pub trace : new.core.trace ≡ open_behind old.core.trace op
   pub page : is_some new.core.current ≡ has_open_page (is_some old.core.current) (op ∷ [])
   pub crumbs : sent new.crumbs ≡ sent old.crumbs ++ crumb_in old.core.trace op
-  pub triggers : sent new.triggers ≡ sent old.triggers ++ trigger_in made.autos (reverse (numbered_of ops)) old.core.trace op
-  pub autos : AreWatching made.autos (at ops old.core.trace op ∷ reverse (numbered_of ops)) new.autos
+  pub triggers : sent new.triggers ≡ sent old.triggers ++ trigger_in made.autos (reverse (numbered_of (made.earlier ++ ops))) old.core.trace op
+  pub autos : AreWatching made.autos (at (made.earlier ++ ops) old.core.trace op ∷ reverse (numbered_of (made.earlier ++ ops))) new.autos
+
+-- ---- operations behind others
+
+over : (trace : Option TraceId) (first later : List Operation) → open_after trace (first ++ later) ≡ open_after (open_after trace first) later
+over trace [] later = refl
+over trace (op ∷ first) later = over (open_behind trace op) first later
+
+-- where all traces are closed behind the first ones, the later ones stand for themselves
+behind : (first later : List Operation) → open_after None first ≡ None → open_after None (first ++ later) ≡ open_after None later
+behind first later none = over None first later ∙ ap (λ (trace : Option TraceId). open_after trace later) none
 
 pub done_now : OneMore → (made : Made) (ops : List Operation) (op : Operation) (old new : PlainClient) → HasDone made ops old → DoesNow made ops op old new → HasDone made (ops ++ op ∷ []) new
 done_now laws made ops op old new h d =
-    let earlier : reverse (numbered_of (ops ++ op ∷ [])) ≡ next_behind ops op ∷ reverse (numbered_of ops) = ap reverse (laws.numbered ops op) ∙ reverse-append (numbered_of ops) (next_behind ops op ∷ []) in
+    let all = made.earlier ++ ops in
+    let joined : all ++ op ∷ [] ≡ made.earlier ++ (ops ++ op ∷ []) = append_assoc made.earlier ops (op ∷ []) in
+    let opened : old.core.trace ≡ open_after None all = h.trace ∙ sym (behind made.earlier ops h.before.ended) in
+    let earlier : reverse (numbered_of (made.earlier ++ (ops ++ op ∷ []))) ≡ next_behind all op ∷ reverse (numbered_of all) =
+    ap (λ (l : List Operation). reverse (numbered_of l)) (sym joined) ∙ ap reverse (laws.numbered all op) ∙ reverse-append (numbered_of all) (next_behind all op ∷ []) in
     record {
       writes = λ rest. subst (λ (all : List Operation). Writes made all rest new) (sym (append_assoc ops (op ∷ []) rest)) (d.writes rest);
       trace = d.trace ∙ ap (λ (trace : Option TraceId). open_behind trace op) h.trace ∙ sym (open_push None ops op);
       page = d.page ∙ ap (λ (page : Bool). has_open_page page (op ∷ [])) h.page ∙ sym (page_more false ops op);
-      crumbs = d.crumbs ∙ ap₂ (λ (l : List Crumb) (trace : Option TraceId). l ++ crumb_in trace op) h.crumbs h.trace ∙ sym (laws.crumbs ops op);
-      triggers = d.triggers ∙ ap₂ (λ (l : List Trigger) (trace : Option TraceId). l ++ trigger_in made.autos (reverse (numbered_of ops)) trace op) h.triggers h.trace ∙ sym (laws.triggers made.autos ops op);
+      crumbs =
+          d.crumbs ∙ ap₂ (λ (l : List Crumb) (trace : Option TraceId). l ++ crumb_in trace op) h.crumbs opened ∙ sym (laws.crumbs all op)
+          ∙ ap (λ (l : List Operation). items_of (sent_crumbs l)) joined;
+      triggers =
+          d.triggers ∙ ap₂ (λ (l : List Trigger) (trace : Option TraceId). l ++ trigger_in made.autos (reverse (numbered_of all)) trace op) h.triggers opened ∙ sym (laws.triggers made.autos all op)
+          ∙ ap (λ (l : List Operation). items_of (sent_triggers made.autos l)) joined;
       autos =
           subst (λ (earlier : List NumberedOperation). AreWatching made.autos earlier new.autos) (sym earlier)
-          (subst (λ (trace : Option TraceId). AreWatching made.autos (at ops trace op ∷ reverse (numbered_of ops)) new.autos) h.trace d.autos);
+          (subst (λ (trace : Option TraceId). AreWatching made.autos (at all trace op ∷ reverse (numbered_of all)) new.autos) opened d.autos);
+      before = h.before;
     }
 
 -- ---- begin
@@ -53,7 +74,7 @@ Books = (client : ClientId) (size calls : ℕ) (steps : List (Step Leased)) → 
 
 -- what the steps of a client's core make of it, whether it keeps its book or not
 pub book_of : Books → (made : Made) (steps : List (Step Leased)) → AreSteps (new_of made) steps → IsBook (new_of made) steps
-book_of books made steps may = book_bare made.keeps (new_core made.client made.size made.calls) steps (books made.client made.size made.calls steps) may
+book_of books made steps may = book_bare made.keeps made.renewed (new_core made.client made.size made.calls) steps (books made.client made.size made.calls steps) may
 
 -- where no trace is open, the core has no page
 no_page : Books → (made : Made) (pieces : List Piece) (later all : List Segment) (w : Writing) → IsWriting made pieces later all w → w.core.trace ≡ None → w.core.current ≡ None
@@ -79,8 +100,8 @@ begin_done laws books made ops trace old new may is h =
       trace = refl;
       page = ap (λ (current : Option (Current Leased)). is_some current) bare;
       crumbs = sym (ap (λ (l : List Crumb). sent old.crumbs ++ l) (begin_no_crumb trace old.core.trace) ∙ append-nil (sent old.crumbs));
-      triggers = sym (ap (λ (l : List Trigger). sent old.triggers ++ l) (begin_no_trigger made.autos (reverse (numbered_of ops)) trace old.core.trace) ∙ append-nil (sent old.triggers));
-      autos = unseen made.autos ops (Begin trace) old.core.trace old.autos (begin_unseen trace) h.autos;
+      triggers = sym (ap (λ (l : List Trigger). sent old.triggers ++ l) (begin_no_trigger made.autos (reverse (numbered_of (made.earlier ++ ops))) trace old.core.trace) ∙ append-nil (sent old.triggers));
+      autos = unseen made.autos (made.earlier ++ ops) (Begin trace) old.core.trace old.autos (begin_unseen trace) h.autos;
     } in
     subst (λ (client : PlainClient). HasDone made (ops ++ Begin trace ∷ []) client) (sym is) (done_now laws made ops (Begin trace) old begun h now)
 
@@ -116,10 +137,10 @@ point_done laws moment payload old new some trace number page written only = λ 
       trace = trace;
       page = is_some_true new.core.current page;
       crumbs = ap (λ (s : Outgoing Crumb _). sent s) only.crumbs ∙ sym (ap (λ (l : List Crumb). sent old.crumbs ++ l) (point_no_crumb moment payload old.core.trace) ∙ append-nil (sent old.crumbs));
-      triggers = ap (λ (s : Outgoing Trigger _). sent s) only.triggers ∙ sym (ap (λ (l : List Trigger). sent old.triggers ++ l) (point_no_trigger made.autos (reverse (numbered_of ops)) moment payload old.core.trace) ∙ append-nil (sent old.triggers));
+      triggers = ap (λ (s : Outgoing Trigger _). sent s) only.triggers ∙ sym (ap (λ (l : List Trigger). sent old.triggers ++ l) (point_no_trigger made.autos (reverse (numbered_of (made.earlier ++ ops))) moment payload old.core.trace) ∙ append-nil (sent old.triggers));
       autos =
-          subst (λ (autos : List Watch). AreWatching made.autos (at ops old.core.trace op ∷ reverse (numbered_of ops)) autos) (sym only.autos)
-          (unseen made.autos ops op old.core.trace old.autos (point_unseen moment payload) h.autos);
+          subst (λ (autos : List Watch). AreWatching made.autos (at (made.earlier ++ ops) old.core.trace op ∷ reverse (numbered_of (made.earlier ++ ops))) autos) (sym only.autos)
+          (unseen made.autos (made.earlier ++ ops) op old.core.trace old.autos (point_unseen moment payload) h.autos);
     })
 
 -- ---- end
@@ -141,10 +162,10 @@ end_done laws old new some trace page number written only = λ made ops h.
       trace = trace;
       page = ap (λ (current : Option (Current Leased)). is_some current) page;
       crumbs = ap (λ (s : Outgoing Crumb _). sent s) only.crumbs ∙ sym (ap (λ (l : List Crumb). sent old.crumbs ++ l) (end_no_crumb old.core.trace) ∙ append-nil (sent old.crumbs));
-      triggers = ap (λ (s : Outgoing Trigger _). sent s) only.triggers ∙ sym (ap (λ (l : List Trigger). sent old.triggers ++ l) (end_no_trigger made.autos (reverse (numbered_of ops)) old.core.trace) ∙ append-nil (sent old.triggers));
+      triggers = ap (λ (s : Outgoing Trigger _). sent s) only.triggers ∙ sym (ap (λ (l : List Trigger). sent old.triggers ++ l) (end_no_trigger made.autos (reverse (numbered_of (made.earlier ++ ops))) old.core.trace) ∙ append-nil (sent old.triggers));
       autos =
-          subst (λ (autos : List Watch). AreWatching made.autos (at ops old.core.trace End ∷ reverse (numbered_of ops)) autos) (sym only.autos)
-          (unseen made.autos ops End old.core.trace old.autos end_unseen h.autos);
+          subst (λ (autos : List Watch). AreWatching made.autos (at (made.earlier ++ ops) old.core.trace End ∷ reverse (numbered_of (made.earlier ++ ops))) autos) (sym only.autos)
+          (unseen made.autos (made.earlier ++ ops) End old.core.trace old.autos end_unseen h.autos);
     })
 
 pub ends : OneMore → (answer : Called) (old new : PlainClient) → EndsBy old.core answer → ((answer ≡ called.Done → ⊥) → new ≡ old) → (answer ≡ called.Done → new.core.trace ≡ None) → (answer ≡ called.Done → new.core.current ≡ None) → new.core.number ≡ old.core.number
@@ -169,8 +190,8 @@ crumb_done laws node trace old crumbs some sends = λ made ops h.
       trace = refl;
       page = refl;
       crumbs = sends ∙ ap (λ (found : Option TraceId). sent old.crumbs ++ crumb_in found op) (sym some);
-      triggers = sym (ap (λ (l : List Trigger). sent old.triggers ++ l) (crumb_no_trigger made.autos (reverse (numbered_of ops)) node old.core.trace) ∙ append-nil (sent old.triggers));
-      autos = unseen made.autos ops op old.core.trace old.autos (crumb_unseen node) h.autos;
+      triggers = sym (ap (λ (l : List Trigger). sent old.triggers ++ l) (crumb_no_trigger made.autos (reverse (numbered_of (made.earlier ++ ops))) node old.core.trace) ∙ append-nil (sent old.triggers));
+      autos = unseen made.autos (made.earlier ++ ops) op old.core.trace old.autos (crumb_unseen node) h.autos;
     })
 
 pub trigger_done : OneMore → (trigger : Trigger) (old : PlainClient) (triggers : Outgoing Trigger Key) → sent triggers ≡ sent old.triggers ++ trigger ∷ [] → Does (Fire trigger) called.Done old (record old { triggers = triggers })
@@ -184,8 +205,8 @@ trigger_done laws trigger old triggers sends = λ made ops h.
       trace = refl;
       page = refl;
       crumbs = sym (ap (λ (l : List Crumb). sent old.crumbs ++ l) (fire_no_crumb trigger old.core.trace) ∙ append-nil (sent old.crumbs));
-      triggers = sends ∙ ap (λ (l : List Trigger). sent old.triggers ++ l) (trigger_of_fire made.autos (reverse (numbered_of ops)) trigger old.core.trace);
-      autos = unseen made.autos ops op old.core.trace old.autos (fire_unseen trigger) h.autos;
+      triggers = sends ∙ ap (λ (l : List Trigger). sent old.triggers ++ l) (trigger_of_fire made.autos (reverse (numbered_of (made.earlier ++ ops))) trigger old.core.trace);
+      autos = unseen made.autos (made.earlier ++ ops) op old.core.trace old.autos (fire_unseen trigger) h.autos;
     })
 
 -- ---- nothing
@@ -202,7 +223,8 @@ nothing_done old new core autos answers pool size chunks crumbs triggers = λ ma
       page = ap (λ (c : Core Leased). is_some c.current) core ∙ h.page;
       crumbs = crumbs ∙ h.crumbs;
       triggers = triggers ∙ h.triggers;
-      autos = subst (λ (autos : List Watch). AreWatching made.autos (reverse (numbered_of ops)) autos) (sym autos) h.autos;
+      autos = subst (λ (autos : List Watch). AreWatching made.autos (reverse (numbered_of (made.earlier ++ ops))) autos) (sym autos) h.autos;
+      before = h.before;
     }
 
 -- ---- a new client
@@ -233,4 +255,61 @@ new_done client is =
       crumbs = is.crumbs.nothing;
       triggers = is.triggers.nothing;
       autos = record { rules_are = refl; each = λ auto watch found. all_everywhere (λ (w : Watch). HasSampled w []) client.autos is.autos auto watch found };
+      before = record { ended = refl; older = tt; apart = tt };
     }
+
+-- ---- a renewed core
+
+-- what is known of the chunks that a client sent
+abbrev pub Sends : Type 0
+Sends = (made : Made) (ops : List Operation) (client : PlainClient) → HasDone made ops client → HasSent made ops client
+
+-- Where no trace is open, a client goes on with a bare core. What it sent and what waits stays.
+renewed_done : Sends → (old new : PlainClient) (calls : ℕ) → new ≡ record old { core = renewed_core calls old.core } → old.core.trace ≡ None
+    → (made : Made) (ops : List Operation) → HasDone made ops old → HasDone (renewed_of made ops new) [] new
+renewed_done sends old new calls is none = λ made ops h.
+    let begun : PlainClient = record old { core = renewed_core calls old.core } in
+    let size : old.core.size ≡ made.size = made_size made _ _ _ (writing_of old) (h.writes []) in
+    let owner : old.core.client ≡ made.client = made_client made _ _ _ (writing_of old) (h.writes []) in
+    let number : old.core.renewed ≡ made.renewed = made_renewed made _ _ _ (writing_of old) (h.writes []) in
+    let told = sent_apart made ops old h (sends made ops old h) in
+    let all = made.earlier ++ ops in
+    let nothing : all ++ [] ≡ all = append-nil all in
+    let there : HasDone (renewed_of made ops begun) [] begun =
+    record {
+      writes = λ rest.
+          record {
+            steps = [];
+            comes =
+                record {
+                  may = tt;
+                  core = λ i. record (new_core (owner i) (size i) calls) { keeps = false; renewed = old.core.renewed + 1 };
+                  number = refl;
+                  chunks = sym (append-nil (sent old.chunks));
+                  answers = [];
+                  since = refl;
+                  draws = refl;
+                  buffers = refl;
+                };
+            gives = refl;
+          };
+      trace = refl;
+      page = refl;
+      crumbs = h.crumbs ∙ ap (λ (l : List Operation). items_of (sent_crumbs l)) (sym nothing);
+      triggers = h.triggers ∙ ap (λ (l : List Operation). items_of (sent_triggers made.autos l)) (sym nothing);
+      autos = subst (λ (l : List Operation). AreWatching made.autos (reverse (numbered_of l)) old.autos) (sym nothing) h.autos;
+      before =
+          record {
+            ended = behind made.earlier ops h.before.ended ∙ sym h.trace ∙ none;
+            older = all_each (IsMost made.renewed) (λ (b : Buffer Leased). b.lease.mark < old.core.renewed + 1) (sent old.chunks) (λ b most. omega (arith, most, number)) told.1;
+            apart = told.0;
+          };
+    } in
+    subst (λ (client : PlainClient). HasDone (renewed_of made ops client) [] client) (sym is) there
+
+pub renews : Sends → (calls : ℕ) (answer : Called) (old new : PlainClient) → RenewsBy old.core answer → new ≡ record old { core = renewed calls answer old.core } → Renews answer old new
+renews sends calls called.Done old new may is = renewed_done sends old new calls is may.0
+renews sends calls called.Spent old new may is = is
+renews sends calls called.AlreadyOpen old new may is = is
+renews sends calls called.NoTrace old new may is = is
+renews sends calls called.TooWide old new may is = is

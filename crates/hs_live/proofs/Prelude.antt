@@ -24,7 +24,7 @@ pub use Rattle.hs_live.specs.declared.called.Called.TheVariants.{Done}
 pub use Rattle.hs_live.specs.declared.writer.Writer.{Writer}
 pub use Rattle.hs_records.specs.Plain.{Begin, End, Fire, Operation, Point, Sample}
 pub use Rattle.hs_records.specs.Records.{numbered_of, Piece, piece_limit, record_pieces, Segment, segments_from, segments_of}
-pub use Rattle.hs_ring.specs.Parts.{after_draw, Drawing, Draws, Giving, Leased}
+pub use Rattle.hs_ring.specs.Parts.{after_draw, Drawing, DrawsAs, Giving, Leased}
 pub use Rattle.hs_words.specs.Buffers.{Buffer, buffer_in, buffer_of}
 pub use Rattle.hs_words.specs.Chunks.{Contents}
 pub use Rattle.hs_words.specs.Ends.{Answer}

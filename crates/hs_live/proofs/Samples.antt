@@ -34,7 +34,7 @@ pub sample_done : OneMore → (moment place value : ℕ) (trigger : TriggerId) (
     → sent triggers ≡ sent old.triggers ++ fired_trigger moment trigger lead answer → Does (Sample moment place value) called.Done old (record old { autos = autos; triggers = triggers })
 sample_done laws moment place value trigger lead old watch watch' answer autos triggers open_is found fires answered after same autos_are sends = λ made ops h.
     let op : Operation = Sample moment place value in
-    let earlier = reverse (numbered_of ops) in
+    let earlier = reverse (numbered_of (made.earlier ++ ops)) in
     let answer_is : answer ≡ sampled watch.rule (samples_of place earlier) (sample value lead) = answered (samples_of place earlier) (h.autos.each place watch found) in
     let rule_found : slice_get made.autos place ≡ Some watch.rule =
     ap (λ (rules : List AutoRule). slice_get rules place) (sym h.autos.rules_are) ∙ slice_get-map (λ (w : Watch). w.rule) old.autos place ∙ ap (option_map (λ (w : Watch). w.rule)) found in
@@ -51,7 +51,7 @@ sample_done laws moment place value trigger lead old watch watch' answer autos t
       crumbs = sym (ap (λ (l : List Crumb). sent old.crumbs ++ l) (sample_no_crumb moment place value old.core.trace) ∙ append-nil (sent old.crumbs));
       triggers = sends ∙ ap (λ (l : List Trigger). sent old.triggers ++ l) fired ∙ ap (λ (trace : Option TraceId). sent old.triggers ++ trigger_in made.autos earlier trace op) (sym open_is);
       autos =
-          let now = watches made.autos ops earlier old.autos moment place value lead watch watch' found after same h.autos in
-          let there = subst (λ (l : List Watch). AreWatching made.autos (at ops (Some lead) op ∷ earlier) l) (sym autos_are) now in
-          subst (λ (trace : Option TraceId). AreWatching made.autos (record { number = length ops; trace = trace; operation = op } ∷ earlier) autos) (sym open_is) there;
+          let now = watches made.autos (made.earlier ++ ops) earlier old.autos moment place value lead watch watch' found after same h.autos in
+          let there = subst (λ (l : List Watch). AreWatching made.autos (at (made.earlier ++ ops) (Some lead) op ∷ earlier) l) (sym autos_are) now in
+          subst (λ (trace : Option TraceId). AreWatching made.autos (record { number = length (made.earlier ++ ops); trace = trace; operation = op } ∷ earlier) autos) (sym open_is) there;
     })

@@ -1,6 +1,6 @@
 -- What was sent, from the steps of the core.
-use Rattle.std.proofs.Common.{◌≡◌, ℕ, ◌+◌, Bool, true, false, List, [], ◌∷◌, ◌++◌, map, reverse, Option, Some, None, refl, sym, ap, ap₂, ◌∙◌}
-use Rattle.hs_live.proofs.Prelude.{append-nil, is_some, option_to_list, ClientId, TraceId, Operation, Begin, Point, End, Fire, Sample, segments_of, PoolEvent, Got, Empty, Answer, Buffer, Core, Step, handed, AreSteps, IsBook, after, segments_of_steps, with_all, sent, Leased, PlainClient, Made, new_of, noted, buffer_got, buffers_by, HasDone}
+use Rattle.std.proofs.Common.{◌≡◌, ℕ, ◌+◌, Bool, true, false, List, [], ◌∷◌, ◌++◌, map, reverse, Option, Some, None, refl, sym, ap, ap₂, ◌∙◌, append_assoc}
+use Rattle.hs_live.proofs.Prelude.{append-nil, map-append, is_some, option_to_list, ClientId, TraceId, Operation, Begin, Point, End, Fire, Sample, segments_of, PoolEvent, Got, Empty, Answer, Buffer, Core, Step, handed, AreSteps, IsBook, after, segments_of_steps, with_all, sent, Leased, PlainClient, Made, new_of, noted, buffer_got, buffers_by, HasDone}
 use Rattle.std.specs.List.{flat_map}
 use Rattle.hs_records.specs.declared.journal.Draw.{Draw}
 use Rattle.hs_records.specs.Plain as plain
@@ -10,7 +10,7 @@ use Rattle.hs_records.proofs.Payloads.{nothing_comes}
 use Rattle.hs_words.specs.Pages.{Sheet}
 use Rattle.hs_words.specs.PoolHistory.{Given, Missed}
 use Rattle.hs_client.specs.Core.{all_pages}
-use Rattle.hs_client.specs.Calls.{open_trace, pages_of_steps, filled_chunks, sheet_for, note_of}
+use Rattle.hs_client.specs.Calls.{handed_out, open_trace, pages_of_steps, filled_chunks, sheet_for, note_of}
 use Rattle.hs_law_sends.specs.Timing.{TimedPage, timed_pages}
 use Rattle.hs_law_sends.specs.Drawn.{drawn_from, drawn_pages, has_buffer}
 use Rattle.hs_law_sends.specs.Sending.{Sent, sent_chunks}
@@ -36,8 +36,9 @@ has_sent made ops client h books =
       draws = ap (λ (c : Core Leased). c.draws) s.core ∙ book.draws ∙ s.draws;
       pages = ap (λ (c : Core Leased). all_pages c) s.core ∙ book.pages ∙ ap (map note_of) pages;
       chunks =
-          ap₂ (λ (l : List (Buffer Leased)) (c : Core Leased). l ++ option_to_list (handed c)) s.chunks s.core ∙ book.chunks
-          ∙ ap₂ (λ (p : List PlainPage) (b : List (Option (Buffer Leased))). filled_chunks made.client 0 p b) pages s.buffers;
+          ap₂ (λ (l : List (Buffer Leased)) (c : Core Leased). l ++ option_to_list (handed c)) s.chunks s.core
+          ∙ append_assoc made.before (handed_out (new_of made) steps) (option_to_list (handed core))
+          ∙ ap (λ (l : List (Buffer Leased)). made.before ++ l) (book.chunks ∙ ap₂ (λ (p : List PlainPage) (b : List (Option (Buffer Leased))). filled_chunks made.client 0 p b) pages s.buffers);
       closed = λ none.
           let open_none : open_trace steps ≡ None = sym book.trace ∙ ap (λ (c : Core Leased). c.trace) (sym s.core) ∙ h.trace ∙ none in
           ap (λ (c : Core Leased). c.current) s.core ∙ book.closed open_none;
@@ -64,11 +65,11 @@ Agree [] (draw ∷ draws) = ⊥
 Agree (buffer ∷ buffers) [] = ⊥
 Agree (buffer ∷ buffers) (draw ∷ draws) = (has_buffer draw ≡ is_some buffer) × Agree buffers draws
 
-one_agrees : (pool : _) (size stamp : ℕ) (event : PoolEvent) → has_buffer (noted stamp event) ≡ is_some (buffer_got pool size stamp event)
-one_agrees pool size stamp (Got buffer) = refl
-one_agrees pool size stamp Empty = refl
-one_agrees pool size stamp (Given buffer) = refl
-one_agrees pool size stamp Missed = refl
+one_agrees : (pool : _) (size mark stamp : ℕ) (event : PoolEvent) → has_buffer (noted stamp event) ≡ is_some (buffer_got pool size mark stamp event)
+one_agrees pool size mark stamp (Got buffer) = refl
+one_agrees pool size mark stamp Empty = refl
+one_agrees pool size mark stamp (Given buffer) = refl
+one_agrees pool size mark stamp Missed = refl
 
 more_agree : (buffers : List (Option (Buffer Leased))) (draws : List Draw) (buffer : Option (Buffer Leased)) (draw : Draw) → Agree buffers draws → has_buffer draw ≡ is_some buffer → Agree (buffers ++ buffer ∷ []) (draws ++ draw ∷ [])
 more_agree [] [] buffer draw h one = (one, tt)
@@ -76,11 +77,11 @@ more_agree [] (d ∷ draws) buffer draw h one = absurd h
 more_agree (b ∷ buffers) [] buffer draw h one = absurd h
 more_agree (b ∷ buffers) (d ∷ draws) buffer draw h one = (h.0, more_agree buffers draws buffer draw h.1 one)
 
-answers_agree : (pool : _) (size : ℕ) (answers : List Answer) → Agree (buffers_by pool size answers) (draws_by answers)
-answers_agree pool size [] = tt
-answers_agree pool size (answer ∷ earlier) =
-    more_agree (buffers_by pool size earlier) (draws_by earlier) (buffer_got pool size answer.stamp answer.event) (noted answer.stamp answer.event) (answers_agree pool size earlier)
-    (one_agrees pool size answer.stamp answer.event)
+answers_agree : (pool : _) (size mark : ℕ) (answers : List Answer) → Agree (buffers_by pool size mark answers) (draws_by answers)
+answers_agree pool size mark [] = tt
+answers_agree pool size mark (answer ∷ earlier) =
+    more_agree (buffers_by pool size mark earlier) (draws_by earlier) (buffer_got pool size mark answer.stamp answer.event) (noted answer.stamp answer.event) (answers_agree pool size mark earlier)
+    (one_agrees pool size mark answer.stamp answer.event)
 
 abbrev page_in : TimedPage → PlainPage
 page_in p = p.page
@@ -104,14 +105,16 @@ pub has_sent_all : (made : Made) (ops : List Operation) (client : PlainClient) �
 has_sent_all made ops client s timed bracketed =
     let none = s.closed (closes None false ops refl bracketed) in
     let nothing : option_to_list (handed client.core) ≡ [] = ap (λ (current : Option _). option_to_list (Rattle.std.specs.Option.option_and_then (λ c. c.buffer) current)) none in
-    let buffers = buffers_by client.drawer.pool client.drawer.size s.answers in
-    let chunks : sent client.chunks ≡ filled_chunks made.client 0 (pages_of made.size ops) buffers = sym (append-nil (sent client.chunks)) ∙ ap (λ l. sent client.chunks ++ l) (sym nothing) ∙ s.chunks in
+    let buffers = buffers_by client.drawer.pool client.drawer.size made.renewed s.answers in
+    let chunks : sent client.chunks ≡ made.before ++ filled_chunks made.client 0 (pages_of made.size ops) buffers = sym (append-nil (sent client.chunks)) ∙ ap (λ l. sent client.chunks ++ l) (sym nothing) ∙ s.chunks in
     let pages : pages_of made.size ops ≡ map page_in (timed_pages made.size ops) = sym (timed made.size ops bracketed) in
     record {
       sheets =
-          ap sheets chunks ∙ ap (λ (p : List PlainPage). sheets (filled_chunks made.client 0 p buffers)) pages
-          ∙ sheets_of made.client 0 (timed_pages made.size ops) buffers (draws_by s.answers) (answers_agree client.drawer.pool client.drawer.size s.answers)
-          ∙ ap (λ (draws : List Draw). some_sheets (sent_chunks (drawn_pages made.size made.client ops draws))) (sym s.draws);
+          ap sheets chunks ∙ map-append (λ (buffer : Buffer Leased). buffer.chunk.page) made.before (filled_chunks made.client 0 (pages_of made.size ops) buffers)
+          ∙ ap (λ (l : List (Option Sheet)). sheets made.before ++ l)
+          (ap (λ (p : List PlainPage). sheets (filled_chunks made.client 0 p buffers)) pages
+          ∙ sheets_of made.client 0 (timed_pages made.size ops) buffers (draws_by s.answers) (answers_agree client.drawer.pool client.drawer.size made.renewed s.answers)
+          ∙ ap (λ (draws : List Draw). some_sheets (sent_chunks (drawn_pages made.size made.client ops draws))) (sym s.draws));
       crumbs = s.crumbs;
       triggers = s.triggers;
     }

@@ -1,6 +1,6 @@
 -- What holds between calls holds after a page was supplied, too.
 use Rattle.std.proofs.Common.{◌≡◌, ℕ, ◌≤◌, Bool, List, length, Option, Some, None, IsSome, MatchOption, refl, sym, ap, ◌∙◌, subst, subst₂, arith}
-use Rattle.hs_live.proofs.Prelude.{option_map, option_to_list, TraceId, Drawn, Contents, Buffer, buffer_of, Core, Current, after_step, closed, handed, supplied, Outgoing, sent, IsSameSender, Leased, Drawing, Draws, Key, GoesOn, Writing, IsSound}
+use Rattle.hs_live.proofs.Prelude.{option_map, option_to_list, TraceId, Drawn, Contents, Buffer, buffer_of, Core, Current, after_step, closed, handed, supplied, Outgoing, sent, IsSameSender, Leased, Drawing, Key, GoesOn, Writing, IsSound, DrawsAs}
 use Rattle.std.specs.Option.{option_and_then}
 use Rattle.hs_words.specs.declared.token.Drawn.TheVariants as drawn
 use Rattle.hs_words.specs.Pages.{Piece}
@@ -23,10 +23,10 @@ some_page : (core : Core Leased) (buffer : Option (Buffer Leased)) (p : Piece) (
 some_page core buffer p used None some none = absurd cc
 some_page core buffer p used (Some trace) some none = absurd cc
 
-pub sound_supplied : {g : _} (old : Writing) (drawer : Drawing) (chunks : Outgoing (Buffer Leased) Key) (draw : Drawn Leased g) (moment : ℕ) (payload : List ℕ) (more : Bool)
-    → IsSound old → GoesOn old.chunks chunks → Draws old.drawer draw drawer
+pub sound_supplied : {g : _} (mark : ℕ) (old : Writing) (drawer : Drawing) (chunks : Outgoing (Buffer Leased) Key) (draw : Drawn Leased g) (moment : ℕ) (payload : List ℕ) (more : Bool)
+    → IsSound old → GoesOn old.chunks chunks → DrawsAs mark old.drawer draw drawer
     → IsSound (record { core = after_step (closed old.core) (supplied draw moment payload more); drawer = drawer; chunks = chunks })
-sound_supplied old drawer chunks (drawn.Got held stamp) moment payload more s goes draws =
+sound_supplied mark old drawer chunks (drawn.Got held stamp) moment payload more s goes draws =
     let key : chunks.key ≡ old.chunks.key = goes.same.1 in
     let size : drawer.size ≡ old.drawer.size = ap (λ (d : Drawing). d.size) draws.0 in
     let pool : drawer.pool ≡ old.drawer.pool = ap (λ (d : Drawing). d.pool) draws.0 in
@@ -42,7 +42,7 @@ sound_supplied old drawer chunks (drawn.Got held stamp) moment payload more s go
       ready = λ some none. some_page (closed old.core) (Some (buffer_of held)) (piece moment payload) _ old.core.trace some none;
       held = next_held chunks.key (closed old.core) (Some (buffer_of held)) (piece moment payload) old.core.trace (lease ∙ sym pool ∙ sym name, chunk ∙ s.drawn ∙ sym wide) owner;
     }
-sound_supplied old drawer chunks (drawn.Empty stamp) moment payload more s goes draws =
+sound_supplied mark old drawer chunks (drawn.Empty stamp) moment payload more s goes draws =
     let key : chunks.key ≡ old.chunks.key = goes.same.1 in
     let size : drawer.size ≡ old.drawer.size = ap (λ (d : Drawing). d.size) draws.0 in
     let pool : drawer.pool ≡ old.drawer.pool = ap (λ (d : Drawing). d.pool) draws.0 in

@@ -1,12 +1,13 @@
 -- What the calls of a client ask and answer. Each answers by what is seen of the client, and by nothing that an agent does.
-use Rattle.std.specs.Prelude.{◌≡◌, ℕ, ◌+◌, ◌^◌, ◌<◌, ◌≤◌, true, List, [], length, map, slice_get, Some, None, IsSome}
+use Rattle.std.specs.Prelude.{◌≡◌, ℕ, ◌+◌, ◌^◌, ◌<◌, ◌≤◌, true, false, List, [], ◌++◌, length, map, slice_get, Some, None, IsSome}
 use Rattle.std.specs.List.{AllByRecursion}
 use Rattle.hs_base.specs.declared.ids.TraceId.{TraceId}
 use Rattle.hs_base.specs.declared.ids.TriggerId.{TriggerId}
 use Rattle.hs_base.specs.declared.limits.TheConstants.{MAX_PAYLOAD, MOST_CLIENTS}
 use Rattle.hs_base.specs.Rules.{fired_by, is_declared}
 use Rattle.hs_auto.specs.Watching.{Watch, HasSampled}
-use Rattle.hs_client.specs.Core.{Core, Began, after_step, new_core, IsLeft}
+use Rattle.hs_records.specs.Plain.{Operation}
+use Rattle.hs_client.specs.Core.{Core, Began, after_step, new_core, renewed_core, IsLeft}
 use Rattle.hs_link.specs.Contents.{Outgoing, Incoming, sent}
 use Rattle.hs_ring.specs.Parts.{Leased, Giving, Meets}
 use Rattle.hs_live.specs.declared.called.Called.{Called}
@@ -14,6 +15,7 @@ use Rattle.hs_live.specs.declared.called.Called.TheVariants as called
 use Rattle.hs_live.specs.Keys.{Key}
 use Rattle.hs_live.specs.Live.{PlainClient, Port, IsMate, MeetAt, IsEnd}
 use Rattle.hs_live.specs.Writing.{Made}
+use Rattle.hs_live.specs.Done.{HasDone}
 
 -- ---- what a client is made of
 
@@ -27,7 +29,7 @@ pub record IsUnused {T : Type 0} (client : PlainClient) (s : Outgoing T Key) : T
 -- Nothing was done with its parts, and the keys of its links name its client, its pool, the size of the pool's chunks, one
 -- number of nodes, and declared ids with those of the autotriggers among them.
 pub record IsNew (client : PlainClient) : Type 0 where
-  pub core : client.core ≡ record (new_core client.core.client client.core.size client.core.calls) { keeps = client.core.keeps }
+  pub core : client.core ≡ record (new_core client.core.client client.core.size client.core.calls) { keeps = client.core.keeps; renewed = client.core.renewed }
   pub autos : AllByRecursion (λ (watch : Watch). HasSampled watch []) client.autos
   pub declared : AllByRecursion (λ (watch : Watch). is_declared client.triggers.key.rules (fired_by watch.rule) ≡ true) client.autos
   pub drawer : client.drawer.size ≡ client.core.size
@@ -37,10 +39,33 @@ pub record IsNew (client : PlainClient) : Type 0 where
   pub nodes : (client.crumbs.key.nodes ≡ client.chunks.key.nodes) × (client.triggers.key.nodes ≡ client.chunks.key.nodes)
   pub rooms : client.chunks.room + client.crumbs.room + client.triggers.room < 2 ^ 32
 
--- what it was made with
+-- what it was made with, where it has done nothing
 abbrev pub made_of : PlainClient → Made
 made_of client =
-    record { client = client.core.client; size = client.core.size; calls = client.core.calls; autos = map (λ (watch : Watch). watch.rule) client.autos; answers = client.drawer.answers; keeps = client.core.keeps }
+    record { client = client.core.client; size = client.core.size; calls = client.core.calls; autos = map (λ (watch : Watch). watch.rule) client.autos; answers = client.drawer.answers; keeps = client.core.keeps; renewed = client.core.renewed; earlier = []; before = [] }
+
+-- what it goes on with where its core was renewed, after these operations since it was made or renewed before
+abbrev pub renewed_of : Made → List Operation → PlainClient → Made
+renewed_of made ops client =
+    record {
+      client = made.client;
+      size = made.size;
+      calls = client.core.calls;
+      autos = made.autos;
+      answers = client.drawer.answers;
+      keeps = false;
+      renewed = client.core.renewed;
+      earlier = made.earlier ++ ops;
+      before = sent client.chunks;
+    }
+
+-- After a renewal nothing was done yet, behind all that was. Any other answer changes nothing.
+abbrev pub Renews : Called → PlainClient → PlainClient → Type 0
+Renews called.Done old new = (made : Made) (ops : List Operation) → HasDone made ops old → HasDone (renewed_of made ops new) [] new
+Renews called.Spent old new = new ≡ old
+Renews called.AlreadyOpen old new = new ≡ old
+Renews called.NoTrace old new = new ≡ old
+Renews called.TooWide old new = new ≡ old
 
 -- ---- answers
 
@@ -73,6 +98,14 @@ EndsBy core called.AlreadyOpen = ⊥
 EndsBy core called.NoTrace = IsLeft core × (core.trace ≡ None)
 EndsBy core called.TooWide = ⊥
 
+-- The number of a renewal has 64 bits.
+abbrev pub RenewsBy : Core Leased → Called → Type 0
+RenewsBy core called.Done = (core.trace ≡ None) × (core.renewed + 1 < 2 ^ 64)
+RenewsBy core called.Spent = (core.trace ≡ None) × (core.renewed + 1 ≡ 2 ^ 64)
+RenewsBy core called.AlreadyOpen = IsSome core.trace
+RenewsBy core called.NoTrace = ⊥
+RenewsBy core called.TooWide = ⊥
+
 -- the core after a begin
 abbrev pub begun : TraceId → Called → Core Leased → Core Leased
 begun trace called.Done core = after_step core (Began trace)
@@ -80,6 +113,14 @@ begun trace called.Spent core = core
 begun trace called.AlreadyOpen core = core
 begun trace called.NoTrace core = core
 begun trace called.TooWide core = core
+
+-- the core after a renewal
+abbrev pub renewed : ℕ → Called → Core Leased → Core Leased
+renewed calls called.Done core = renewed_core calls core
+renewed calls called.Spent core = core
+renewed calls called.AlreadyOpen core = core
+renewed calls called.NoTrace core = core
+renewed calls called.TooWide core = core
 
 -- how many calls of the core are counted
 abbrev pub counts : ℕ → Called → ℕ

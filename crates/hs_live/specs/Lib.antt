@@ -1,6 +1,7 @@
 pub mod Keys
 pub mod Live
 pub mod Writing
+pub mod Apart
 pub mod Done
 pub mod Calls
 pub mod Inside

@@ -5,6 +5,7 @@ use Rattle.std.specs.List.{AllByRecursion}
 use Rattle.hs_base.specs.declared.ids.ClientId.{ClientId}
 use Rattle.hs_base.specs.declared.settings.AutoRule.{AutoRule}
 use Rattle.hs_base.specs.declared.limits.TheConstants.{MIN_SIZE}
+use Rattle.hs_records.specs.Plain.{Operation}
 use Rattle.hs_records.specs.Records.{Piece, Segment}
 use Rattle.hs_records.specs.declared.journal.Draw.{Draw}
 use Rattle.hs_records.specs.declared.journal.Draw.TheVariants as draws
@@ -20,7 +21,8 @@ use Rattle.hs_ring.specs.Parts.{Leased, Drawing}
 use Rattle.hs_live.specs.Keys.{Key, IsChunkOf}
 use Rattle.hs_live.specs.Live.{PlainClient, GoesOn}
 
--- what a client was made with; its drawer may have drawn before
+-- What a client was made with, or what its core was renewed with; its drawer may have drawn before. A renewed one has done
+-- operations before, all of whose traces are closed, and sent the chunks of their pages.
 pub record Made : Type 0 where
   pub client : ClientId
   pub size : ℕ
@@ -29,6 +31,10 @@ pub record Made : Type 0 where
   pub answers : List Answer
   -- whether its core keeps its book
   pub keeps : Bool
+  -- how often it was renewed
+  pub renewed : ℕ
+  pub earlier : List Operation
+  pub before : List (Buffer Leased)
 
 -- a client without its crumbs and triggers
 pub record Writing : Type 0 where
@@ -41,7 +47,7 @@ writing_of client = record { core = client.core; drawer = client.drawer; chunks 
 
 -- the core as it was made
 abbrev pub new_of : Made → Core Leased
-new_of made = record (new_core made.client made.size made.calls) { keeps = made.keeps }
+new_of made = record (new_core made.client made.size made.calls) { keeps = made.keeps; renewed = made.renewed }
 
 -- ---- what was drawn
 
@@ -57,17 +63,17 @@ abbrev pub draws_by : List Answer → List Draw
 draws_by [] = []
 draws_by (answer ∷ earlier) = draws_by earlier ++ noted answer.stamp answer.event ∷ []
 
--- the buffer that an answer gave, with a lease of its own
-abbrev pub buffer_got : PoolName → ℕ → ℕ → PoolEvent → Option (Buffer Leased)
-buffer_got pool size stamp (Got buffer) = Some (record { chunk = clear_chunk size buffer; lease = record { pool = pool; buffer = buffer; draw = stamp } })
-buffer_got pool size stamp Empty = None
-buffer_got pool size stamp (Given buffer) = None
-buffer_got pool size stamp Missed = None
+-- the buffer that an answer gave, with a lease of its own, which has this number
+abbrev pub buffer_got : PoolName → ℕ → ℕ → ℕ → PoolEvent → Option (Buffer Leased)
+buffer_got pool size mark stamp (Got buffer) = Some (record { chunk = clear_chunk size buffer; lease = record { pool = pool; buffer = buffer; draw = stamp; mark = mark } })
+buffer_got pool size mark stamp Empty = None
+buffer_got pool size mark stamp (Given buffer) = None
+buffer_got pool size mark stamp Missed = None
 
 -- the buffers of these answers, the last of which stands first
-abbrev pub buffers_by : PoolName → ℕ → List Answer → List (Option (Buffer Leased))
-buffers_by pool size [] = []
-buffers_by pool size (answer ∷ earlier) = buffers_by pool size earlier ++ buffer_got pool size answer.stamp answer.event ∷ []
+abbrev pub buffers_by : PoolName → ℕ → ℕ → List Answer → List (Option (Buffer Leased))
+buffers_by pool size mark [] = []
+buffers_by pool size mark (answer ∷ earlier) = buffers_by pool size mark earlier ++ buffer_got pool size mark answer.stamp answer.event ∷ []
 
 -- ---- the steps of the core
 
@@ -76,12 +82,13 @@ pub record ComesBy (made : Made) (steps : List (Step Leased)) (w : Writing) : Ty
   pub may : AreSteps (new_of made) steps
   pub core : w.core ≡ after (new_of made) steps
   pub number : w.core.number ≡ next_number steps
-  pub chunks : sent w.chunks ≡ handed_out (new_of made) steps
+  pub chunks : sent w.chunks ≡ made.before ++ handed_out (new_of made) steps
   -- what its drawer answered since it was made
   pub answers : List Answer
   pub since : w.drawer.answers ≡ answers ++ made.answers
   pub draws : draws_supplied steps ≡ draws_by answers
-  pub buffers : chunks_supplied steps ≡ buffers_by w.drawer.pool w.drawer.size answers
+  -- the leases of its chunks have the number of the renewal
+  pub buffers : chunks_supplied steps ≡ buffers_by w.drawer.pool w.drawer.size made.renewed answers
 
 -- ---- what is recorded, and what is still to be recorded
 
@@ -159,6 +166,6 @@ pub record IsSound (w : Writing) : Type 0 where
 two_draws : draws_by (record { stamp = 4; event = Empty; draw = 0 } ∷ record { stamp = 2; event = Got 7; draw = 0 } ∷ []) ≡ draws.Got 7 2 ∷ draws.Empty 4 ∷ []
 two_draws = refl
 
-one_buffer : buffers_by [] 64 (record { stamp = 4; event = Empty; draw = 0 } ∷ record { stamp = 2; event = Got 7; draw = 0 } ∷ [])
-    ≡ Some (record { chunk = clear_chunk 64 7; lease = record { pool = []; buffer = 7; draw = 2 } }) ∷ None ∷ []
+one_buffer : buffers_by [] 64 3 (record { stamp = 4; event = Empty; draw = 0 } ∷ record { stamp = 2; event = Got 7; draw = 0 } ∷ [])
+    ≡ Some (record { chunk = clear_chunk 64 7; lease = record { pool = []; buffer = 7; draw = 2; mark = 3 } }) ∷ None ∷ []
 one_buffer = refl

@@ -13,10 +13,11 @@ ghost use Rattle.hs_live.specs.Keys.{IsTriggerOf};
 ghost use Rattle.hs_live.specs.Live.{outgoing, incoming, GoesOn, Sends, Flushes};
 ghost use Rattle.hs_live.specs.Writing.{Spends, writing_of};
 ghost use Rattle.hs_live.specs.Done.{HasDone, Does, DoesNothing};
-ghost use Rattle.hs_live.specs.Calls.{IsNew, made_of, BeginsBy, PointsBy, NotesBy, EndsBy, begun, counts, IsAutoOf, WritesOnly, AreMates, MeetsAt};
+ghost use Rattle.hs_live.specs.Calls.{IsNew, made_of, BeginsBy, PointsBy, NotesBy, EndsBy, RenewsBy, begun, renewed, counts, Renews, IsAutoOf, WritesOnly, AreMates, MeetsAt};
 
 use crate::called::{Called, Closed, Left, Parted};
 use crate::key::ClientKey;
+use crate::laws::what_was_done_was_sent;
 use crate::links::meet_at;
 use crate::writer::Writer;
 use hs_auto::{Auto, Sampled};
@@ -219,6 +220,18 @@ impl Client {
             }
         }
         Called::Done
+    }
+
+    /// Goes on with a new bare core for so many calls, as if it were made, where no trace is open. What was sent stays sent, what
+    /// waits in the outboxes waits on, and the autotriggers go on. The chunks that come have the number of the renewal as the mark
+    /// of their leases, and records and pages count from 0.
+    pub fn renew(&mut self, calls: u32) -> Called
+        ensures answer { RenewsBy self.old.core result }
+        ensures only { self.new ≡ record self.old { core = renewed calls result self.old.core } }
+        ensures does { Renews result self.old self.new }
+    {
+        what_was_done_was_sent();
+        self.writer.renew(calls)
     }
 
     /// Closes the open trace.

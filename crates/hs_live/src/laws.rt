@@ -3,7 +3,7 @@
 ghost use Rattle.std.specs.Prelude.{false, List};
 ghost use Rattle.hs_base.specs.declared.told.Crumb.{Crumb};
 ghost use Rattle.hs_base.specs.declared.told.Trigger.{Trigger};
-ghost use Rattle.hs_link.specs.Contents.{Outgoing};
+ghost use Rattle.hs_link.specs.Contents.{Outgoing, sent};
 ghost use Rattle.hs_records.specs.Plain.{Operation};
 ghost use Rattle.hs_records.specs.Records.{AreBracketed};
 ghost use Rattle.hs_ring.specs.Parts.{Drawing, Leased};
@@ -11,6 +11,7 @@ ghost use Rattle.hs_words.specs.Buffers.{Buffer};
 ghost use Rattle.hs_live.specs.Keys.{Key};
 ghost use Rattle.hs_live.specs.Live.{PlainClient, GoesOn};
 ghost use Rattle.hs_live.specs.Writing.{DrawsOn, Made};
+ghost use Rattle.hs_live.specs.Apart.{AreApart};
 ghost use Rattle.hs_live.specs.Done.{HasDone, HasSent, HasSentAll};
 
 use hs_client::any_steps_make_the_book;
@@ -30,6 +31,13 @@ pub fn all_was_sent()
 {
     what_was_done_was_sent();
     timed_pages_are_the_pages();
+}
+
+/// The chunks that a client sent, over all its renewals, are told apart by the mark of the lease and the number of the page.
+pub fn sent_chunks_are_told_apart()
+    ensures { (made : Made) (ops : List Operation) (client : PlainClient) → HasDone made ops client → AreApart (sent client.chunks) }
+{
+    what_was_done_was_sent();
 }
 
 /// An end that went on, and then went on, went on.

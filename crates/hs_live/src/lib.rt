@@ -13,5 +13,5 @@ mod writer;
 pub use called::{Called, Closed, Left, Parted};
 pub use client::Client;
 pub use key::ClientKey;
-pub use laws::{all_was_sent, ends_go_on, what_was_done_was_sent};
+pub use laws::{all_was_sent, ends_go_on, sent_chunks_are_told_apart, what_was_done_was_sent};
 pub use port::{AgentPort, PortParts};

@@ -12,7 +12,7 @@ ghost use Rattle.hs_live.specs.declared.called.Called.TheVariants.{Done};
 ghost use Rattle.hs_live.specs.Keys.{IsChunkOf};
 ghost use Rattle.hs_live.specs.Live.{outgoing, GoesOn};
 ghost use Rattle.hs_live.specs.Writing.{Spends, WritesPieces, WritesEnd};
-ghost use Rattle.hs_live.specs.Calls.{BeginsBy, EndsBy, begun, counts};
+ghost use Rattle.hs_live.specs.Calls.{BeginsBy, EndsBy, RenewsBy, begun, renewed, counts};
 ghost use Rattle.hs_live.specs.Inside.{writing_in, IsSoundIn};
 
 use crate::called::Called;
@@ -140,8 +140,8 @@ impl Writer {
         }
     }
 
-    /// Records a piece that needs a page: the full chunk of the page before is sent, and then the new page draws a buffer. It stands
-    /// apart, since most pieces need no page.
+    /// Records a piece that needs a page: the full chunk of the page before is sent, and then the new page draws a buffer, whose
+    /// lease gets the number of the core's renewal. It stands apart, since most pieces need no page.
     #[cold]
     #[inline(never)]
     fn turn_page(&mut self, moment: u64, payload: &[u8], more: bool)
@@ -162,12 +162,27 @@ impl Writer {
         match self.core.piece(moment, payload, more) {
             Pointed::NeedPage(full) => {
                 send_chunk(&mut self.chunks, full);
-                let drawn = self.drawer.draw();
+                let drawn = self.drawer.draw_marked(self.core.renewed());
                 self.core.supply(drawn, moment, payload, more);
             }
             Pointed::Written | Pointed::Spent | Pointed::NoTrace | Pointed::TooWide =>
                 unreachable!(),
         }
+    }
+
+    /// Goes on with a new bare core, where no trace is open.
+    pub(crate) fn renew(&mut self, calls: u32) -> Called
+        ensures answer { RenewsBy self.old.core result }
+        ensures only { self.new ≡ record self.old { core = renewed calls result self.old.core } }
+    {
+        if self.core.trace().is_some() {
+            return Called::AlreadyOpen;
+        }
+        if self.core.renewed() == u64::MAX {
+            return Called::Spent;
+        }
+        self.core.renew(calls);
+        Called::Done
     }
 
     /// Ends the open trace, and sends its last chunk.

@@ -84,7 +84,7 @@ IsLease (giver_note floor) = ⊥
 -- ---- between two calls
 
 abbrev pub lease_at : PoolSeat → Leased
-lease_at s = record { pool = name_of s.table_id; buffer = buffer_of s.me.0; draw = draw_of s.me.0 }
+lease_at s = record { pool = name_of s.table_id; buffer = buffer_of s.me.0; draw = draw_of s.me.0; mark = 0 }
 
 abbrev pub IsLeaseSeat : PoolSeat → Type 0
 IsLeaseSeat s = s.me ≡ (leasing (buffer_of s.me.0) (draw_of s.me.0), [])

@@ -38,20 +38,20 @@ answered_seat table old new post buffers number at same halves is counted none f
       above = subst (λ (p : GiverSeat). AllBelow p.floor (answers_in p.turns)) (sym there) above;
     }
 
-pub still_giver : {g : _} (table : TableId) (first old new : PoolSeat) (buffers number : ℕ) (chunk : Contents) (result : Answered Leased g) → IsGiverSeat table first buffers number → IsSeatAt table old
-    → giver_seat_of old.me.0 ≡ giver_seat_of first.me.0 → IsSameSeat old new → Publishes old chunk result new → number < MAX_PUBLISHED → (giver_seat_of first.me.0).misses < MAX_PUBLISHED
+pub still_giver : {g : _} (table : TableId) (first old new : PoolSeat) (buffers number mark : ℕ) (chunk : Contents) (result : Answered Leased g) → IsGiverSeat table first buffers number → IsSeatAt table old
+    → giver_seat_of old.me.0 ≡ giver_seat_of first.me.0 → IsSameSeat old new → Publishes mark old chunk result new → number < MAX_PUBLISHED → (giver_seat_of first.me.0).misses < MAX_PUBLISHED
     → IsGiverSeat table new buffers (published_after number result)
-still_giver table first old new buffers number chunk (given.Given stamp) seat at is same told few misses =
+still_giver table first old new buffers number mark chunk (given.Given stamp) seat at is same told few misses =
     answered_seat table old new (given_giver_seat old.me.0 stamp) buffers number at same seat.halves told.0
     (let before = seat.published_is in let turns = ap (λ (p : GiverSeat). length (answers_in p.turns)) is in omega arith)
     (ap (λ (p : GiverSeat). p.closed) is ∙ seat.none_closed) few (let m = ap (λ (p : GiverSeat). p.misses) is in omega arith)
     (raised stamp (giver_seat_of old.me.0) (subst (λ (p : GiverSeat). AllBelow p.floor (answers_in p.turns)) (sym is) seat.above) told.1)
-still_giver table first old new buffers number chunk (given.Missed back stamp) seat at is same told few misses =
+still_giver table first old new buffers number mark chunk (given.Missed back stamp) seat at is same told few misses =
     answered_seat table old new (missed_giver_seat old.me.0 stamp) buffers number at same seat.halves told.0
     (let before = seat.published_is in let turns = ap (λ (p : GiverSeat). length (answers_in p.turns)) is in omega arith)
     (ap (λ (p : GiverSeat). p.closed) is ∙ seat.none_closed) few (let m = ap (λ (p : GiverSeat). p.misses) is in omega arith)
     (raised stamp (giver_seat_of old.me.0) (subst (λ (p : GiverSeat). AllBelow p.floor (answers_in p.turns)) (sym is) seat.above) told.1)
-still_giver table first old new buffers number chunk (given.Unread back) seat at is same told few misses = absurd told
+still_giver table first old new buffers number mark chunk (given.Unread back) seat at is same told few misses = absurd told
 
 -- the giver's seat is the same while a lease is taken and a number is laid
 pub post_laid : (v : View) → giver_seat_of (having_laid v) ≡ giver_seat_of v

@@ -13,11 +13,12 @@ use Rattle.hs_words.specs.declared.token.Given.{Given as Answered}
 use Rattle.hs_words.specs.declared.token.Given.TheVariants as given
 use Rattle.hs_words.specs.declared.token.Tally.{Tally}
 
--- a lease: the buffer that it lets write, and the stamp of the draw that made it
+-- a lease: the buffer that it lets write, the stamp of the draw that made it, and a number that it was drawn with, or 0
 pub record Leased : Type 0 where
   pub pool : PoolName
   pub buffer : ℕ
   pub draw : ℕ
+  pub mark : ℕ
 
 pub record Drawing : Type 0 where
   pub pool : PoolName
@@ -51,12 +52,17 @@ after_draw old stamp event =
       answers = record { stamp = stamp; event = event; draw = 0 } ∷ old.answers;
     }
 
--- The answer's stamp is not below the floor. A chunk that was got is clear, and has the pool's size and a lease of its own.
-abbrev pub Draws : {g : _} → Drawing → Drawn Leased g → Drawing → Type 0
-Draws old (drawn.Got held stamp) new =
+-- The answer's stamp is not below the floor. A chunk that was got is clear, and has the pool's size and a lease of its own with
+-- this mark.
+abbrev pub DrawsAs : {g : _} → ℕ → Drawing → Drawn Leased g → Drawing → Type 0
+DrawsAs mark old (drawn.Got held stamp) new =
     (new ≡ after_draw old stamp (Got held.chunk.number)) × (old.floor ≤ stamp)
-    × (held.chunk ≡ clear_chunk old.size held.chunk.number) × (held.lease ≡ record { pool = old.pool; buffer = held.chunk.number; draw = stamp })
-Draws old (drawn.Empty stamp) new = (new ≡ after_draw old stamp Empty) × (old.floor ≤ stamp)
+    × (held.chunk ≡ clear_chunk old.size held.chunk.number) × (held.lease ≡ record { pool = old.pool; buffer = held.chunk.number; draw = stamp; mark = mark })
+DrawsAs mark old (drawn.Empty stamp) new = (new ≡ after_draw old stamp Empty) × (old.floor ≤ stamp)
+
+-- the same with the mark 0
+abbrev pub Draws : {g : _} → Drawing → Drawn Leased g → Drawing → Type 0
+Draws old draw new = DrawsAs 0 old draw new
 
 -- ---- a give
 

@@ -145,8 +145,8 @@ CanRetake entries number (giver_note floor) = ⊥
 
 -- ---- between two calls
 
-abbrev pub lease_at : PoolSeat → Leased
-lease_at s = record { pool = name_of s.table_id; buffer = buffer_of s.me.0; draw = draw_of s.me.0 }
+abbrev pub lease_at : ℕ → PoolSeat → Leased
+lease_at mark s = record { pool = name_of s.table_id; buffer = buffer_of s.me.0; draw = draw_of s.me.0; mark = mark }
 
 abbrev pub IsLeaseSeat : PoolSeat → Type 0
 IsLeaseSeat s = s.me ≡ (leasing (buffer_of s.me.0) (draw_of s.me.0), [])
@@ -205,8 +205,8 @@ pub record IsGiverSeat (table : TableId) (s : PoolSeat) (buffers published : ℕ
 abbrev pub IsLaying : PoolSeat → ℕ → Type 0
 IsLaying s entry = s.me ≡ (giving (giver_seat_of s.me.0) (lays (buffer_held s.me.0) (draw_held s.me.0)), (entry, None) ∷ [])
 
-abbrev pub lease_held_at : PoolSeat → Leased
-lease_held_at s = record { pool = name_of s.table_id; buffer = buffer_held s.me.0; draw = draw_held s.me.0 }
+abbrev pub lease_held_at : ℕ → PoolSeat → Leased
+lease_held_at mark s = record { pool = name_of s.table_id; buffer = buffer_held s.me.0; draw = draw_held s.me.0; mark = mark }
 
 -- what the giver's seat is after an answer
 abbrev pub given_giver_seat : View → ℕ → GiverSeat
@@ -215,12 +215,12 @@ given_giver_seat v stamp = giver_seat_after (giver_seat_of v) (answered (record 
 abbrev pub missed_giver_seat : View → ℕ → GiverSeat
 missed_giver_seat v stamp = giver_seat_after (giver_seat_of v) (answered (record { stamp = stamp; event = Missed; draw = 0 })) (suc stamp) (suc (giver_seat_of v).misses)
 
--- a chunk that was laid is given, or comes back
-abbrev pub Publishes : {g : _} → PoolSeat → Contents → Answered Leased g → PoolSeat → Type 0
-Publishes old chunk (given.Given stamp) new = (new.me ≡ (giving (given_giver_seat old.me.0 stamp) bare, [])) × ((giver_seat_of old.me.0).floor ≤ stamp) × (draw_held old.me.0 < stamp)
-Publishes old chunk (given.Missed back stamp) new =
-    (new.me ≡ (giving (missed_giver_seat old.me.0 stamp) bare, [])) × ((giver_seat_of old.me.0).floor ≤ stamp) × (back.chunk ≡ chunk) × (back.lease ≡ lease_held_at old)
-Publishes old chunk (given.Unread back) new = ⊥
+-- a chunk that was laid is given, or comes back with the number that its lease had
+abbrev pub Publishes : {g : _} → ℕ → PoolSeat → Contents → Answered Leased g → PoolSeat → Type 0
+Publishes mark old chunk (given.Given stamp) new = (new.me ≡ (giving (given_giver_seat old.me.0 stamp) bare, [])) × ((giver_seat_of old.me.0).floor ≤ stamp) × (draw_held old.me.0 < stamp)
+Publishes mark old chunk (given.Missed back stamp) new =
+    (new.me ≡ (giving (missed_giver_seat old.me.0 stamp) bare, [])) × ((giver_seat_of old.me.0).floor ≤ stamp) × (back.chunk ≡ chunk) × (back.lease ≡ lease_held_at mark old)
+Publishes mark old chunk (given.Unread back) new = ⊥
 
 -- the counts of a giver after an answer
 abbrev pub published_after : {g : _} → ℕ → Answered Leased g → ℕ

@@ -1,7 +1,7 @@
 //! The end that draws.
 ghost use Rattle.std.specs.Prelude.{◌≡◌, ◌+◌, ◌-◌, ◌*◌, ◌<◌, ◌≤◌};
 ghost use Rattle.hs_ring.specs.Views.{drawer_seat_of};
-ghost use Rattle.hs_ring.specs.Parts.{Draws};
+ghost use Rattle.hs_ring.specs.Parts.{Draws, DrawsAs};
 ghost use Rattle.hs_ring.specs.Seats.{IsDrawerSeat, IsSameSeat, drawing_of};
 
 use crate::board::{Board, Entries, Place};
@@ -38,13 +38,19 @@ impl Model for Drawer {
     ghost invariant = { λ s. IsDrawerSeat (arc_value s.board).shared.table_id s.place s.buffers s.left };
 }
 
-/// Draws a number, and takes its chunk where there is one.
-fn draw_from(entries: &Entries, place: &mut Place, buffers: u32, left: u32) -> Drawn<Lease>
+/// Draws a number, and takes its chunk where there is one, with a lease of this mark.
+fn draw_from(
+    entries: &Entries,
+    place: &mut Place,
+    buffers: u32,
+    left: u32,
+    mark: u64,
+) -> Drawn<Lease>
     requires seat { IsDrawerSeat entries.now.table_id place.old buffers left }
     requires left { 1 ≤ left }
     ensures same { IsSameSeat place.old place.new }
     ensures seat { IsDrawerSeat entries.now.table_id place.new buffers (left - 1) }
-    ensures drawn { Draws (drawing_of place.old.table_id buffers (drawer_seat_of place.old.me.0)) result (drawing_of place.new.table_id buffers (drawer_seat_of place.new.me.0)) }
+    ensures drawn { DrawsAs mark (drawing_of place.old.table_id buffers (drawer_seat_of place.old.me.0)) result (drawing_of place.new.table_id buffers (drawer_seat_of place.new.me.0)) }
 {
     let counts = Counts::of(draw_number(entries, place));
     let stamp = counts.stamp(buffers);
@@ -54,6 +60,7 @@ fn draw_from(entries: &Entries, place: &mut Place, buffers: u32, left: u32) -> D
     let chunk = collect(entries, place, entry_of(counts.drawn, buffers));
     let lease = Lease {
         place: make_lease(entries, place),
+        mark,
     };
     Drawn::Got {
         held: Held { chunk, lease },
@@ -75,8 +82,22 @@ impl Drawer {
         requires { 1 ≤ self.old.left }
         ensures { Draws self.old result self.new }
     {
+        self.draw_marked(0)
+    }
+
+    /// The same, and the lease has this mark.
+    pub fn draw_marked(&mut self, mark: u64) -> Drawn<Lease>
+        requires { 1 ≤ self.old.left }
+        ensures { DrawsAs mark self.old result self.new }
+    {
         let board = &self.board;
-        let drawn = draw_from(&board.shared, &mut self.place, self.buffers, self.left);
+        let drawn = draw_from(
+            &board.shared,
+            &mut self.place,
+            self.buffers,
+            self.left,
+            mark,
+        );
         self.left -= 1;
         drawn
     }

@@ -45,13 +45,15 @@ impl Model for Giver {
     ghost invariant = { λ s. IsGiverSeat (arc_value s.board).shared.table_id s.place s.buffers s.published × (s.misses ≡ (giver_seat_of s.place.me.0).misses) };
 }
 
-/// Publishes the number of a chunk that was laid, or takes the chunk out again where the number was drawn before.
+/// Publishes the number of a chunk that was laid, or takes the chunk out again where the number was drawn before, with a lease of
+/// this mark.
 fn publish_or_retake(
     entries: &Entries,
     place: &mut Place,
     buffers: u32,
     entry: usize,
     chunk: Chunk,
+    mark: u64,
 ) -> Given<Lease>
     requires at { IsSeatAt entries.now.table_id place.old }
     requires laid { IsLaying place.old entry }
@@ -59,7 +61,7 @@ fn publish_or_retake(
     requires next { (number : ℕ) × IsNext entries.now.table_id.slots number (giver_seat_of place.old.me.0) × (entry ≡ number % entries.now.table_id.slots) }
     requires halves { 2 * buffers ≡ entries.now.table_id.slots }
     ensures same { IsSameSeat place.old place.new }
-    ensures published { Publishes place.old chunk result place.new }
+    ensures published { Publishes mark place.old chunk result place.new }
     ensures few { (number : ℕ) → IsNext entries.now.table_id.slots number (giver_seat_of place.old.me.0) → number < MAX_PUBLISHED }
     ensures misses { (giver_seat_of place.old.me.0).misses < MAX_PUBLISHED }
 {
@@ -71,6 +73,7 @@ fn publish_or_retake(
     let chunk = retake(entries, place, entry);
     let lease = Lease {
         place: make_lease(entries, place),
+        mark,
     };
     Given::Missed {
         held: Held { chunk, lease },
@@ -95,19 +98,20 @@ fn give_to(
     ensures given { Gives (giving_of place.old.table_id buffers (giver_seat_of place.old.me.0)) held result (giving_of place.new.table_id buffers (giver_seat_of place.new.me.0)) }
 {
     let Held { mut chunk, lease } = held;
-    let Lease { place: lease } = lease;
+    let Lease { place: lease, mark } = lease;
     take_lease(entries, place, lease);
     let entry = entry_of(number, buffers);
     if !lay(entries, place, entry, number) {
         let lease = Lease {
             place: make_lease(entries, place),
+            mark,
         };
         return Given::Unread {
             held: Held { chunk, lease },
         };
     }
     chunk.clear();
-    publish_or_retake(entries, place, buffers, entry, chunk)
+    publish_or_retake(entries, place, buffers, entry, chunk, mark)
 }
 
 /// Each of two ends hears of what the other knows.

@@ -7,10 +7,12 @@ use std::marker::Model;
 
 /// The right to write one chunk of a ring. A draw makes it, and a give or the closing of the pool spends it.
 ///
-/// Contracts see it as its pool, the number of the chunk, and the stamp of the draw that made it.
+/// Contracts see it as its pool, the number of the chunk, the stamp of the draw that made it, and its mark: a number that it was
+/// drawn with, or 0. The pool does not read the mark.
 #[derive(Drop)]
 pub struct Lease {
     pub(crate) place: Place,
+    pub(crate) mark: u64,
 }
 
 impl Model for Lease {
@@ -21,9 +23,18 @@ impl Model for Lease {
 
     ghost use Rattle.hs_ring.specs.Seats.{lease_at, IsLeaseSeat};
 
-    ghost view = { λ s. lease_at s.place };
+    ghost view = { λ s. lease_at s.mark s.place };
 
     ghost invariant = { λ s. IsLeaseSeat s.place };
+}
+
+impl Lease {
+    /// The number that it was drawn with, or 0.
+    pub fn mark(&self) -> u64
+        ensures { result ≡ self.now.mark }
+    {
+        self.mark
+    }
 }
 
 impl Token for Lease {

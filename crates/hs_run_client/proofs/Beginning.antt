@@ -93,6 +93,7 @@ is_new settings id ops giver client chunks crumbs triggers playable is =
     let size : client.core.size ≡ settings.size = ap (λ (c : Core Leased). c.size) is.core in
     let owner : client.core.client ≡ id = ap (λ (c : Core Leased). c.client) is.core in
     let calls : client.core.calls ≡ client_pieces settings.size ops = ap (λ (c : Core Leased). c.calls) is.core in
+    let renewed : client.core.renewed ≡ 0 = ap (λ (c : Core Leased). c.renewed) is.core in
     let keeps : client.core.keeps ≡ true = ap (λ (c : Core Leased). c.keeps) is.core in
     let rules : client.triggers.key.rules ≡ settings.triggers = ap (λ (k : Key). k.rules) is.new_triggers.keys.0 in
     let known = by_steps (λ (auto : AutoRule). is_declared settings.triggers (fired_by auto) ≡ true) settings.autos playable.autos.declared in
@@ -100,7 +101,7 @@ is_new settings id ops giver client chunks crumbs triggers playable is =
     let few = fewer_crumbs settings.size ops in
     let fewer = fewer_triggers settings.size ops in
     record {
-      core = is.core ∙ sym (λ i. record (new_core (owner i) (size i) (calls i)) { keeps = keeps i });
+      core = is.core ∙ sym (λ i. record (new_core (owner i) (size i) (calls i)) { keeps = keeps i; renewed = renewed i });
       autos = is.autos.fresh;
       declared = subst (λ (l : List TriggerRule). AllByRecursion (λ (watch : Watch). is_declared l (fired_by watch.rule) ≡ true) client.autos) (sym rules) (declared settings.triggers client.autos known_here);
       drawer = is.drawer.size ∙ sym size;
@@ -113,7 +114,7 @@ is_new settings id ops giver client chunks crumbs triggers playable is =
 
 made_so : (settings : PlainSettings) (id : ClientId) (ops : List Operation) (giver : Giving) (client : PlainClient) (chunks : Incoming (Buffer Leased) Key) (crumbs : Incoming Crumb Key) (triggers : Incoming Trigger Key) → AreParts settings id ops giver client chunks crumbs triggers → made_of client ≡ made_for settings id ops
 made_so settings id ops giver client chunks crumbs triggers is =
-    λ i. record { client = (is.core i).client; size = (is.core i).size; calls = (is.core i).calls; autos = is.autos.rules_are i; answers = is.drawer.fresh i; keeps = (is.core i).keeps }
+    λ i. record { client = (is.core i).client; size = (is.core i).size; calls = (is.core i).calls; autos = is.autos.rules_are i; answers = is.drawer.fresh i; keeps = (is.core i).keeps; renewed = (is.core i).renewed; earlier = []; before = [] }
 
 pub new_at : (settings : PlainSettings) (id : ClientId) (ops : List Operation) (giver : Giving) (client : PlainClient) (chunks : Incoming (Buffer Leased) Key) (crumbs : Incoming Crumb Key) (triggers : Incoming Trigger Key) → IsPlayable settings ops → AreParts settings id ops giver client chunks crumbs triggers → HasDone (made_of client) [] client
     → ClientActorIsAt settings id ops (record { done = 0; client = client })

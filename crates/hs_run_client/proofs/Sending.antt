@@ -51,7 +51,7 @@ Agree (buffer ∷ buffers) [] = ⊥
 Agree (None ∷ buffers) (draw ∷ draws) = Agree buffers draws
 Agree (Some b ∷ buffers) (draw ∷ draws) = (draw ≡ noted.Got b.chunk.number b.lease.draw) × Agree buffers draws
 
-one_agrees : (pool : PoolName) (size stamp : ℕ) (event : PoolEvent) → Agree (buffer_got pool size stamp event ∷ []) (noted_as stamp event ∷ [])
+one_agrees : (pool : PoolName) (size stamp : ℕ) (event : PoolEvent) → Agree (buffer_got pool size 0 stamp event ∷ []) (noted_as stamp event ∷ [])
 one_agrees pool size stamp (Got buffer) = (refl, tt)
 one_agrees pool size stamp Empty = tt
 one_agrees pool size stamp (Given buffer) = tt
@@ -64,10 +64,10 @@ more_agree (b ∷ buffers) more [] others h k = absurd h
 more_agree (None ∷ buffers) more (d ∷ draws) others h k = more_agree buffers more draws others h k
 more_agree (Some b ∷ buffers) more (d ∷ draws) others h k = (h.0, more_agree buffers more draws others h.1 k)
 
-answers_agree : (pool : PoolName) (size : ℕ) (answers : List Answer) → Agree (buffers_by pool size answers) (draws_by answers)
+answers_agree : (pool : PoolName) (size : ℕ) (answers : List Answer) → Agree (buffers_by pool size 0 answers) (draws_by answers)
 answers_agree pool size [] = tt
 answers_agree pool size (answer ∷ earlier) =
-    more_agree (buffers_by pool size earlier) (buffer_got pool size answer.stamp answer.event ∷ []) (draws_by earlier) (noted_as answer.stamp answer.event ∷ []) (answers_agree pool size earlier)
+    more_agree (buffers_by pool size 0 earlier) (buffer_got pool size 0 answer.stamp answer.event ∷ []) (draws_by earlier) (noted_as answer.stamp answer.event ∷ []) (answers_agree pool size earlier)
     (one_agrees pool size answer.stamp answer.event)
 
 -- so many draws stand before the others
@@ -92,9 +92,9 @@ filled_leased id number (p ∷ pages) (Some b ∷ buffers) (d ∷ draws) all agr
 )
 
 leased : (id : ClientId) (pages : List PlainPage) (client : PlainClient) (answers : List Answer) (chunks rest : List (Buffer Leased)) → client.core.draws ≡ draws_by answers
-    → chunks ++ rest ≡ filled_chunks id 0 pages (buffers_by client.drawer.pool client.drawer.size answers) → AllByRecursion (IsLeasedTo id client.core.draws) chunks
+    → chunks ++ rest ≡ filled_chunks id 0 pages (buffers_by client.drawer.pool client.drawer.size 0 answers) → AllByRecursion (IsLeasedTo id client.core.draws) chunks
 leased id pages client answers chunks rest draws is =
-    let buffers = buffers_by client.drawer.pool client.drawer.size answers in
+    let buffers = buffers_by client.drawer.pool client.drawer.size 0 answers in
     let all = filled_leased id 0 pages buffers (draws_by answers) (draws_by answers) (answers_agree client.drawer.pool client.drawer.size answers) (λ place. let same : 0 + place ≡ place = omega arith in ap (slice_get (draws_by answers)) same) in
     subst (λ (l : List Draw). AllByRecursion (IsLeasedTo id l) chunks) (sym draws)
     (all_front (IsLeasedTo id (draws_by answers)) chunks rest (subst (λ (l : List (Buffer Leased)). AllByRecursion (IsLeasedTo id (draws_by answers)) l) (sym is) all))
@@ -103,10 +103,10 @@ abbrev calling : ℕ → PlainClient → PlainClientActor
 calling place client = record { done = place; client = client }
 
 so_far_of : Laws → (settings : PlainSettings) (id : ClientId) (front rest : List Operation) (calls : ℕ) (client : PlainClient) → IsPlayable settings (front ++ rest)
-    → HasDone (record { client = id; size = settings.size; calls = calls; autos = settings.autos; answers = []; keeps = true }) front client
+    → HasDone (record { client = id; size = settings.size; calls = calls; autos = settings.autos; answers = []; keeps = true; renewed = 0; earlier = []; before = [] }) front client
     → length (sent client.triggers) ≤ client_pieces settings.size (front ++ rest) → HasSentSoFar settings id (front ++ rest) (calling (length front) client)
 so_far_of laws settings id front rest calls client playable h few =
-    let made : Made = record { client = id; size = settings.size; calls = calls; autos = settings.autos; answers = []; keeps = true } in
+    let made : Made = record { client = id; size = settings.size; calls = calls; autos = settings.autos; answers = []; keeps = true; renewed = 0; earlier = []; before = [] } in
     let size = settings.size in
     let ops = front ++ rest in
     let n = length front in

@@ -29,7 +29,7 @@ use Rattle.hs_run_client.specs.Counting.{crumbs_of, triggers_of}
 
 -- what a client is made with; its drawer has drawn nothing
 abbrev pub made_for : PlainSettings → ClientId → List Operation → Made
-made_for settings client ops = record { client = client; size = settings.size; calls = client_pieces settings.size ops; autos = settings.autos; answers = []; keeps = true }
+made_for settings client ops = record { client = client; size = settings.size; calls = client_pieces settings.size ops; autos = settings.autos; answers = []; keeps = true; renewed = 0; earlier = []; before = [] }
 
 -- the key of the three links of a client of this giver's pool
 abbrev pub key_for : PlainSettings → ClientId → Giving → Key

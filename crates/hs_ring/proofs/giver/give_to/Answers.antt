@@ -14,6 +14,6 @@ returns-clause-seat c =
     let next : IsNext table.slots c.args.number (giver_seat_of c.lay.new.place.me.0) =
     (let turns = ap (λ (p : GiverSeat). length (answers_in p.turns)) same in let p = c.requires.seat.published_is in let h = c.requires.seat.halves in omega arith) in
     let misses = ap (λ (p : GiverSeat). p.misses) same in
-    still_giver table c.args.place.now c.lay.new.place c.publish_or_retake.new.place c.args.buffers c.args.number c.clear.new.self c.publish_or_retake.result c.requires.seat
+    still_giver table c.args.place.now c.lay.new.place c.publish_or_retake.new.place c.args.buffers c.args.number c.lease.inside.mark c.clear.new.self c.publish_or_retake.result c.requires.seat
     (at_there table c.take_lease.new.place c.lay.new.place (at_there table c.args.place.now c.take_lease.new.place c.requires.seat.at c.take_lease.ensures.seat) c.lay.ensures.seat) same c.publish_or_retake.ensures.same c.publish_or_retake.ensures.published
     (c.publish_or_retake.ensures.few c.args.number next) (let m = c.publish_or_retake.ensures.misses in omega arith)
