@@ -1,4 +1,4 @@
-//! A core that counts as many calls as may be, one that counts none, and a bare one. What a client writes is shown by `examples/` and `cases/pages`.
+//! A core that counts as many calls as may be, one that counts none, a bare one, and a renewed one. What a client writes is shown by `examples/` and `cases/pages`.
 
 use crate::rows::row;
 use hs_base::limits::{MAX_OPERATIONS, MAX_SIZE, MIN_SIZE};
@@ -40,9 +40,23 @@ fn bare_calls() -> bool {
     taken && core.left() == u32::MAX - 2 * MAX_OPERATIONS
 }
 
+/// A core that is spent counts anew once it is renewed.
+fn renewed_calls() -> bool {
+    let mut core = ClientCore::<()>::bare(OWNER, MIN_SIZE, 2);
+    let taken = opens_and_closes(&mut core, 1);
+    let spent = core.begin(TraceId(0)) == Begun::Spent;
+    if core.trace().is_some() || core.renewed() > 0 {
+        return false;
+    }
+    core.renew(4);
+    let again = opens_and_closes(&mut core, 2);
+    taken && spent && again && core.renewed() == 1 && core.left() == 0
+}
+
 #[test]
 fn cores(rt: HostRuntime) {
     row(&rt, "most calls", most_calls(rt.alloc()));
     row(&rt, "no call", no_call(rt.alloc()));
     row(&rt, "bare calls", Ok(bare_calls()));
+    row(&rt, "renewed calls", Ok(renewed_calls()));
 }

@@ -14,7 +14,7 @@ use hs_words::Tally;
 use std::alloc::Global;
 use tests_with::{
     CLIENT, ID, Making, PairEnding, client_and_port, close_all, flush, meet, next_crumb,
-    next_trigger, nothing_comes,
+    next_trigger, nothing_comes, renew,
 };
 
 /// Two chunks of the least size.
@@ -110,12 +110,14 @@ const CALLS: [(Call, Called); 16] = [
 
 const SHEETS: [Sheet; 2] = [
     Sheet {
+        mark: 0,
         page: 0,
         trace: 1,
         first: 0,
         points: &[(5, &FULL)],
     },
     Sheet {
+        mark: 0,
         page: 1,
         trace: 1,
         first: 1,
@@ -129,6 +131,15 @@ const LATER: [(Call, Called); 3] = [
     (Call::Full { moment: 12 }, Called::Done),
     (Call::End, Called::Done),
 ];
+
+/// What the calls of `LATER` write after a renewal: numbers count from 0 again.
+const RENEWED: Sheet = Sheet {
+    mark: 1,
+    page: 0,
+    trace: 4,
+    first: 0,
+    points: &[(12, &FULL)],
+};
 
 /// The buffer that was given first is got first.
 const DRAWS: [Draw; 5] = [
@@ -367,6 +378,35 @@ fn what_waits_is_put_once_there_is_room(alloc: Global) -> Result<bool, Memory> {
     flushes(alloc, &mut client, &mut port)
 }
 
+/// Makes the calls of `CALLS` over links of one entry each, and renews the client while a chunk and a trigger wait. These come
+/// still, and then what the calls of `LATER` write.
+fn goes_on(alloc: Global, client: &mut Client, port: &mut AgentPort) -> Result<bool, Memory>
+    requires can { CanCall MIN_SIZE 39 client.old }
+    requires ends { HasClient port.old }
+{
+    let others = do_calls(client, &CALLS);
+    let renewed = renew(client);
+    let first = take_sheet(alloc, port, &SHEETS[0])?;
+    let sampled = next_trigger(port);
+    let waits = flush(client);
+    let second = take_sheet(alloc, port, &SHEETS[1])?;
+    let fired = next_trigger(port);
+    let later = do_calls(client, &LATER);
+    let third = take_sheet(alloc, port, &RENEWED)?;
+    Ok(
+        (others, waits, later, client.nulls()) == (0, 0, 0, 0)
+            && renewed
+            && (first, second, third) == (Some((2, 6)), Some((0, 7)), Some((0, 9)))
+            && sampled == trigger_of(10, 3, both())
+            && fired == trigger_of(11, 2, Laterals::none()),
+    )
+}
+
+fn a_renewed_client_goes_on(alloc: Global) -> Result<bool, Memory> {
+    let (mut client, mut port) = client_and_port(alloc, NARROW)?;
+    goes_on(alloc, &mut client, &mut port)
+}
+
 /// Makes calls of a client that may have one counted. Those that are not counted are done still.
 fn is_spent(client: &mut Client) -> bool
     requires { CanCall MIN_SIZE 1 client.old }
@@ -415,6 +455,7 @@ fn clients(rt: HostRuntime) {
         "what waits",
         what_waits_is_put_once_there_is_room(rt.alloc()),
     );
+    row(&rt, "renewed", a_renewed_client_goes_on(rt.alloc()));
     row(&rt, "spent", a_spent_client_still_leaves_crumbs(rt.alloc()));
     row(&rt, "nothing", nothing_at_all(rt.alloc()));
 }

@@ -11,8 +11,9 @@ use std::alloc::Global;
 use tests_with::{CLIENT, give_back, next_chunk};
 
 /// What stands on a page: its number, its trace, the number of its first record, and of each piece the moment and the
-/// payload.
+/// payload. Its chunk's lease has this mark.
 pub struct Sheet {
+    pub mark: u64,
     pub page: u32,
     pub trace: u128,
     pub first: u32,
@@ -35,12 +36,12 @@ fn is_page(page: &Page, sheet: &Sheet) -> bool {
     right
 }
 
-/// Whether this stands on the page of a chunk.
+/// Whether this stands on the page of a chunk, and its lease has the mark.
 pub fn is_sheet(alloc: Global, held: &Held<Lease>, sheet: &Sheet) -> Result<bool, Memory>
     requires { IsSome held.now.chunk.page }
 {
     match read_page(alloc, held.chunk.bytes()) {
-        Ok(page) => Ok(is_page(&page, sheet)),
+        Ok(page) => Ok(is_page(&page, sheet) && held.lease.mark() == sheet.mark),
         Err(PageFault::Memory) => Err(Memory),
         Err(_) => Ok(false),
     }

@@ -15,7 +15,9 @@ mod spent;
 
 pub use ends::{CLIENT, ID, Making, PairEnding, client_and_port, close_all};
 pub use locks::locked_of;
-pub use moves::{flush, give_back, meet, next_chunk, next_crumb, next_trigger, nothing_comes};
+pub use moves::{
+    flush, give_back, meet, next_chunk, next_crumb, next_trigger, nothing_comes, renew,
+};
 pub use pages::{add_page, fill_page, no_pages};
 pub use pins::{
     CLAIMED, arrives, claims, claims_pages, fresh_pins, group_of, lets_go, page_of, pages_of, went,

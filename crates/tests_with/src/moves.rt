@@ -1,10 +1,10 @@
 //! What goes from the client to the port and back.
 
-ghost use Rattle.std.specs.Prelude.{◌≡◌, ℕ, IsSome, IfSome};
+ghost use Rattle.std.specs.Prelude.{◌≡◌, ◌≤◌, ℕ, IsSome, IfSome};
 ghost use Rattle.tests_with.specs.Pairs.{CanCall, KeepsClient, KeepsPort, IsOnly, HasClient, IsOfPool};
 
 use hs_base::{Crumb, Trigger};
-use hs_live::{AgentPort, Client};
+use hs_live::{AgentPort, Called, Client};
 use hs_ring::Lease;
 use hs_words::{Given, Held};
 
@@ -51,6 +51,17 @@ pub fn flush(client: &mut Client) -> u32
     ensures trace { client.new.core.trace ≡ client.old.core.trace }
 {
     client.flush()
+}
+
+/// Renews the client for 64 calls, and answers whether it could.
+pub fn renew(client: &mut Client) -> bool
+    ensures left { (size n : ℕ) → n ≤ 64 → CanCall size n client.old → CanCall size n client.new }
+    ensures trace { client.new.core.trace ≡ client.old.core.trace }
+{
+    match client.renew(64) {
+        Called::Done => true,
+        Called::Spent | Called::AlreadyOpen | Called::NoTrace | Called::TooWide => false,
+    }
 }
 
 /// Gives a chunk back. Answers how often that missed before, and the stamp of the give, or `None` where it was not given

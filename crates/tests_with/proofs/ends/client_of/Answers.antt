@@ -6,17 +6,15 @@ use Rattle.hs_client.specs.Core.{Core, new_core}
 use Rattle.hs_ring.specs.Parts.{Leased}
 use Rattle.tests_with.proofs.ends.client_of.Goals as goal
 
--- one that was made keeps its book, so it is new whatever it keeps
-is_new : (core : Core Leased) → core ≡ new_core core.client core.size core.calls → core ≡ record (new_core core.client core.size core.calls) { keeps = core.keeps }
-is_new core made = made ∙ sym (ap (λ keeps. record (new_core core.client core.size core.calls) { keeps = keeps }) (ap (λ (c : Core Leased). c.keeps) made))
-
 pub make-requires-2 : goal.make-requires-2
 make-requires-2 c =
     let one = c.in_ok-autos.ensures in
     let fires : is_declared c.args.ends.triggers.key.rules (fired_by c.in_ok-make.field-0.rule) ≡ true =
     ap (λ rule. is_declared c.args.ends.triggers.key.rules (fired_by rule)) c.in_ok-make.ensures.rule ∙ c.requires.triggers.1.declared in
+    let keeps : c.args.core.keeps ≡ true = ap (λ (k : Core Leased). k.keeps) c.requires.core in
+    let renewed : c.args.core.renewed ≡ 0 = ap (λ (k : Core Leased). k.renewed) c.requires.core in
     record {
-      core = is_new c.args.core c.requires.core;
+      core = c.requires.core ∙ sym (λ i. record (new_core c.args.core.client c.args.core.size c.args.core.calls) { keeps = keeps i; renewed = renewed i });
       autos = subst (λ (l : List Watch). AllByRecursion (λ (watch : Watch). HasSampled watch []) l) (sym one) (search rules);
       declared = subst (λ (l : List Watch). AllByRecursion (λ (watch : Watch). is_declared c.args.ends.triggers.key.rules (fired_by watch.rule) ≡ true) l) (sym one) (search rules);
       drawer = c.requires.drawer;
