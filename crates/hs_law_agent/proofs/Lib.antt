@@ -20,3 +20,5 @@ pub mod Bearing
 pub mod Reporting
 pub mod Leading
 pub mod Bringing
+pub mod Held
+pub mod Lives

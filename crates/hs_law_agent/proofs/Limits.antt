@@ -13,7 +13,7 @@ use Rattle.hs_law_agent.proofs.Least.{the_least_goes}
 
 -- ---- the traces of indexed chunks are touched
 
-abbrev IsTouched : List TraceId → Taken → Type 0
+abbrev pub IsTouched : List TraceId → Taken → Type 0
 IsTouched touched c = is_indexed c.standing ≡ true → 1 ≤ count_traces touched (trace_of c)
 
 abbrev pub AreTouched : AgentState → Type 0
@@ -252,10 +252,10 @@ record IsIndexWithin (settings : PlainSettings) (s : AgentState) : Type 0 where
   traces : length s.touched ≤ settings.traces
 
 -- what every step keeps, and the limits
-record IsFull (settings : PlainSettings) (s : AgentState) : Type 0 where
-  places : PlacesMatch s
-  touched : AreTouched s
-  within : IsWithin settings s
+pub record IsFull (settings : PlainSettings) (s : AgentState) : Type 0 where
+  pub places : PlacesMatch s
+  pub touched : AreTouched s
+  pub within : IsWithin settings s
 
 module _ (settings : PlainSettings) (node : ℕ) where
   index_within : (s : AgentState) → is_over settings s ≡ false → IsIndexWithin settings s
@@ -350,7 +350,7 @@ module _ (settings : PlainSettings) (node : ℕ) where
   event_within s (Took input) f = let w = input_within s input f in record { chunks = w.chunks; traces = w.traces; pins = w.pins }
   event_within s (Gave answer) f = let w = answer_within s answer f.within in record { chunks = w.chunks; traces = w.traces; pins = w.pins }
 
-  full_from : (s : AgentState) (events : List AgentEvent) → IsFull settings s → IsFull settings (after_from settings node s events)
+  pub full_from : (s : AgentState) (events : List AgentEvent) → IsFull settings s → IsFull settings (after_from settings node s events)
   full_from s [] f = f
   full_from s (event ∷ events) f =
       full_from (after_event settings node s event) events (record {

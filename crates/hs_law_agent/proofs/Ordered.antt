@@ -3,11 +3,16 @@ use Rattle.std.proofs.Common.{◌≡◌, ℕ, zero, suc, ◌+◌, ◌<◌, ◌�
 use Rattle.hs_law_agent.proofs.Prelude.{◌⊎◌, ◌==◌, ◌||◌, filter, slice_get, option_map, option_map_or, option_and_then, AllByRecursion, cases_Bool, and_parts, eqb-true, tied_itself, is_le, one_if, one_few, filter_none, filter_all, TraceId, Ask, Group, same_trace, PlainSettings, count_sent, Sheet, ChunkStanding, Indexed, Pinned, Reported, Evicted, Abandoned, Taken, trace_of, is_indexed, is_pinned, is_reported, is_indexed_of, is_of_trace, is_pinned_for, indexed_places, passes, stands, pinned_for, pinning_group, is_among, moved, AgentState, ClaimedTrace, claim_of, is_claimed, claim_trace, abandon_group, is_pinned_under, place_is_no_greater, put_before, by_priority, order_of, costs_of, reported_standing, report, with_pinned, after, count_of, claiming_group, StandsByClaim, PlacesMatch, AreRising}
 use Rattle.hs_lists.proofs.Alls.{all_at}
 use Rattle.hs_law_agent.specs.Laws.{ReportedInOrder}
-use Rattle.hs_law_agent.proofs.Counts.{count-append, counted_one, passes_before, places_counted_at}
+use Rattle.hs_lists.proofs.Alls.{all_append}
+use Rattle.hs_law_agent.proofs.Counts.{count-append, counted_one, passes_before, places_counted_at, passes_too, passes_moved_at}
 use Rattle.hs_law_agent.proofs.Traces.{same_trace-true}
 use Rattle.hs_law_agent.proofs.Traversal.{IsKept, kept_after}
 use Rattle.hs_law_agent.proofs.Placed.{match_kept, match_start, count-by_priority, count-order}
-use Rattle.hs_law_agent.proofs.Claims.{ByClaim, by_claim_kept}
+use Rattle.hs_law_agent.specs.Lives.{HeldByClaim}
+use Rattle.hs_law_agent.proofs.Held.{Held, held_kept}
+use Rattle.hs_law_agent.proofs.Limits.{reported_indexed}
+use Rattle.hs_law_agent.proofs.Placed.{visit_few}
+use Rattle.std.proofs.lemmas.Bool.{cases_lt}
 use Rattle.hs_law_agent.proofs.Unevicted.{of_moved, passed_within}
 use Rattle.hs_law_agent.proofs.Least.{group_order}
 use Rattle.hs_law_agent.proofs.Rising.{filter-append, filter_same, filter_swap, all_counted, counted_filtered, rising_filtered, rising_left, rising_front, rising_push, places_rising, front_and_rest}
@@ -33,26 +38,28 @@ unclaimed_group (c ∷ claims) t e = go (same_trace t c.trace) e (unclaimed_grou
 
 pub record InOrder (s : AgentState) : Type 0 where
   pub places : PlacesMatch s
-  pub by_claim : ByClaim s
+  pub held : Held s
   pub rising : (t : TraceId) → AreRising (filter (is_of_trace s.taken t) (s.reported ++ s.pinned))
+  -- what is indexed of a trace came behind all that was reported of it
+  pub ahead : (t : TraceId) (p q : ℕ) → 1 ≤ count_of s.reported p → is_of_trace s.taken t p ≡ true → stands is_indexed s.taken q ≡ true → is_of_trace s.taken t q ≡ true → p < q
 
--- what is pinned or reported of a trace is so for the group that claimed it
+-- what is pinned of a trace is so for the group that claims it
 abbrev IsFor : List ClaimedTrace → TraceId → ChunkStanding → Group → Type 0
 IsFor claims t u h = (pinning_group u ≡ Some h) × (claiming_group claims t ≡ Some h)
 
-pinned_is_for : (claims : List ClaimedTrace) (t : TraceId) (u : ChunkStanding) → is_pinned u ≡ true → StandsByClaim claims t u → (h : Group) × IsFor claims t u h
+pinned_is_for : (claims : List ClaimedTrace) (t : TraceId) (u : ChunkStanding) → is_pinned u ≡ true → HeldByClaim claims t u → (h : Group) × IsFor claims t u h
 pinned_is_for claims t Indexed e m = absurd (true≢false (sym e))
 pinned_is_for claims t (Pinned g) e m = (g, (refl, m))
 pinned_is_for claims t (Reported g) e m = absurd (true≢false (sym e))
 pinned_is_for claims t (Evicted a b) e m = absurd (true≢false (sym e))
 pinned_is_for claims t (Abandoned g) e m = absurd (true≢false (sym e))
 
-reported_is_for : (claims : List ClaimedTrace) (t : TraceId) (u : ChunkStanding) → is_reported u ≡ true → StandsByClaim claims t u → (h : Group) × (claiming_group claims t ≡ Some h)
-reported_is_for claims t Indexed e m = absurd (true≢false (sym e))
-reported_is_for claims t (Pinned g) e m = absurd (true≢false (sym e))
-reported_is_for claims t (Reported g) e m = (g, m)
-reported_is_for claims t (Evicted a b) e m = absurd (true≢false (sym e))
-reported_is_for claims t (Abandoned g) e m = absurd (true≢false (sym e))
+indexed_is_free : (claims : List ClaimedTrace) (t : TraceId) (u : ChunkStanding) → is_indexed u ≡ true → HeldByClaim claims t u → is_claimed claims t ≡ false
+indexed_is_free claims t Indexed e m = m
+indexed_is_free claims t (Pinned g) e m = absurd (true≢false (sym e))
+indexed_is_free claims t (Reported g) e m = absurd (true≢false (sym e))
+indexed_is_free claims t (Evicted a b) e m = absurd (true≢false (sym e))
+indexed_is_free claims t (Abandoned g) e m = absurd (true≢false (sym e))
 
 module _ (s : AgentState) (m : InOrder s) where
   pinned_stands : (p : ℕ) → 1 ≤ count_of s.pinned p → stands is_pinned s.taken p ≡ true
@@ -65,18 +72,17 @@ module _ (s : AgentState) (m : InOrder s) where
   pinned_of t p few of =
       let at = chunk_at (λ c. is_pinned c.standing) s.taken p (pinned_stands p few) in
       let same : t ≡ trace_of at.0 = same_trace-true t (trace_of at.0) (sym (passes_there (λ c. same_trace t (trace_of c)) s.taken p at.0 at.1) ∙ of) in
-      let by = all_at (λ (c : Taken). StandsByClaim s.claims (trace_of c) c.standing) s.taken p at.0 m.by_claim at.1 in
+      let by = all_at (λ (c : Taken). HeldByClaim s.claims (trace_of c) c.standing) s.taken p at.0 m.held at.1 in
       let is = pinned_is_for s.claims (trace_of at.0) at.0.standing at.2 by in
       let for : pinned_for s.taken p ≡ pinning_group at.0.standing = ap (λ o. option_and_then (λ (chunk : Taken). pinning_group chunk.standing) o) at.1 in
       (is.0, for ∙ is.1.0, subst (λ v. claiming_group s.claims v ≡ Some is.0) (sym same) is.1.1)
 
-  reported_of : (t : TraceId) (p : ℕ) → 1 ≤ count_of s.reported p → is_of_trace s.taken t p ≡ true → (h : Group) × (claiming_group s.claims t ≡ Some h)
-  reported_of t p few of =
-      let at = chunk_at (λ c. is_reported c.standing) s.taken p (reported_stands p few) in
+  indexed_of : (t : TraceId) (p : ℕ) → stands is_indexed s.taken p ≡ true → is_of_trace s.taken t p ≡ true → is_claimed s.claims t ≡ false
+  indexed_of t p is of =
+      let at = chunk_at (λ c. is_indexed c.standing) s.taken p is in
       let same : t ≡ trace_of at.0 = same_trace-true t (trace_of at.0) (sym (passes_there (λ c. same_trace t (trace_of c)) s.taken p at.0 at.1) ∙ of) in
-      let by = all_at (λ (c : Taken). StandsByClaim s.claims (trace_of c) c.standing) s.taken p at.0 m.by_claim at.1 in
-      let is = reported_is_for s.claims (trace_of at.0) at.0.standing at.2 by in
-      (is.0, subst (λ v. claiming_group s.claims v ≡ Some is.0) (sym same) is.1)
+      let by = all_at (λ (c : Taken). HeldByClaim s.claims (trace_of c) c.standing) s.taken p at.0 m.held at.1 in
+      subst (λ v. is_claimed s.claims v ≡ false) (sym same) (indexed_is_free s.claims (trace_of at.0) at.0.standing at.2 by)
 
   -- a place in either list is one of the chunks
   within : (p : ℕ) → 1 ≤ count_of (s.reported ++ s.pinned) p → p < length s.taken
@@ -90,23 +96,13 @@ module _ (s : AgentState) (m : InOrder s) where
       cases_few zero b h = inr (omega arith)
       cases_few (suc a) b h = inl (omega arith)
 
-  -- nothing of an unclaimed trace is pinned or reported
-  none_of : (t : TraceId) → is_claimed s.claims t ≡ false → filter (is_of_trace s.taken t) (s.reported ++ s.pinned) ≡ []
-  none_of t free =
-      filter_none (is_of_trace s.taken t) (s.reported ++ s.pinned) (all_counted (λ p. is_of_trace s.taken t p ≡ false) (s.reported ++ s.pinned) (λ p few. go p few (is_of_trace s.taken t p) refl))
+  -- nothing of an unclaimed trace is pinned
+  none_of : (t : TraceId) → is_claimed s.claims t ≡ false → filter (is_of_trace s.taken t) s.pinned ≡ []
+  none_of t free = filter_none (is_of_trace s.taken t) s.pinned (all_counted (λ p. is_of_trace s.taken t p ≡ false) s.pinned (λ p few. go p few (is_of_trace s.taken t p) refl))
     where
-      cases_few : (a b : ℕ) → 1 ≤ a + b → (1 ≤ a) ⊎ (1 ≤ b)
-      cases_few zero b h = inr (omega arith)
-      cases_few (suc a) b h = inl (omega arith)
-
-      go : (p : ℕ) → 1 ≤ count_of (s.reported ++ s.pinned) p → (b : Bool) → is_of_trace s.taken t p ≡ b → b ≡ false
+      go : (p : ℕ) → 1 ≤ count_of s.pinned p → (b : Bool) → is_of_trace s.taken t p ≡ b → b ≡ false
       go p few false e = refl
-      go p few true e =
-          let no_group = unclaimed_group s.claims t free in
-          elim (cases_few (count_of s.reported p) (count_of s.pinned p) (let e = count-append s.reported s.pinned p in omega arith)) [
-            | inl h ↦ let is = reported_of t p h e in let f = is.1 in absurd cc
-            | inr h ↦ let is = pinned_of t p h e in let f = is.2 in absurd cc
-          ]
+      go p few true e = let no_group = unclaimed_group s.claims t free in let is = pinned_of t p few e in let f = is.2 in absurd cc
 
 -- ---- the order of what waits
 
@@ -170,6 +166,10 @@ of_all_moved change places taken t xs = filter_same _ _ xs (all_counted _ xs (λ
 rising_moved : (change : ChunkStanding → ChunkStanding) (places : List ℕ) (taken : List Taken) (t : TraceId) (xs : List ℕ) → AreRising (filter (is_of_trace taken t) xs) → AreRising (filter (is_of_trace (moved places change taken) t) xs)
 rising_moved change places taken t xs r = subst AreRising (sym (of_all_moved change places taken t xs)) r
 
+rising_join : (xs ys : List ℕ) → AreRising xs → AreRising ys → AllByRecursion (λ x. AllByRecursion (λ y. x < y) ys) xs → AreRising (xs ++ ys)
+rising_join [] ys r q h = q
+rising_join (x ∷ xs) ys r q h = (all_append (λ y. x < y) xs ys r.0 h.0, rising_join xs ys r.1 q h.1)
+
 rising_claims : (ask : Ask) (trace : TraceId) (s : AgentState) → is_claimed s.claims trace ≡ false → (m : InOrder s) → (t : TraceId)
     → AreRising (filter (is_of_trace (claim_trace ask trace s).taken t) (s.reported ++ (s.pinned ++ indexed_places s.taken trace)))
 rising_claims ask trace s free m t =
@@ -184,10 +184,21 @@ rising_claims ask trace s free m t =
         let same : trace ≡ trace_of at.0 = same_trace-true trace (trace_of at.0) (and_parts (is_indexed at.0.standing) (same_trace trace (trace_of at.0)) at.2).1 in
         passes_there (λ c. same_trace t (trace_of c)) s.taken p at.0 at.1 ∙ ap (λ v. same_trace t v) (sym same)
 
+    indexed_place : (p : ℕ) → 1 ≤ count_of (indexed_places s.taken trace) p → stands is_indexed s.taken p ≡ true
+    indexed_place p few =
+        let count : count_of (indexed_places s.taken trace) p ≡ one_if (passes (is_indexed_of trace) s.taken p) = places_counted_at (is_indexed_of trace) s.taken p in
+        passes_too (is_indexed_of trace) (λ c. is_indexed c.standing) true (λ c e. (and_parts (is_indexed c.standing) (same_trace trace (trace_of c)) e).0) s.taken p (counted_one (passes (is_indexed_of trace) s.taken p) (omega arith))
+
     go : (b : Bool) → same_trace t trace ≡ b → AreRising (filter (is_of_trace s.taken t) (s.reported ++ s.pinned) ++ filter (is_of_trace s.taken t) (indexed_places s.taken trace))
     go true e =
+        let f = is_of_trace s.taken t in
         let none = none_of s m t (subst (λ v. is_claimed s.claims v ≡ false) (sym (same_trace-true t trace e)) free) in
-        subst (λ xs. AreRising (xs ++ filter (is_of_trace s.taken t) (indexed_places s.taken trace))) (sym none) (rising_filtered (is_of_trace s.taken t) (indexed_places s.taken trace) (places_rising 0 (is_indexed_of trace) s.taken))
+        let front : filter f (s.reported ++ s.pinned) ≡ filter f s.reported = filter-append f s.reported s.pinned ∙ ap (λ xs. filter f s.reported ++ xs) none ∙ append-nil (filter f s.reported) in
+        subst (λ xs. AreRising (xs ++ filter f (indexed_places s.taken trace))) (sym front)
+        (rising_join (filter f s.reported) (filter f (indexed_places s.taken trace)) (subst AreRising front (m.rising t)) (rising_filtered f (indexed_places s.taken trace) (places_rising 0 (is_indexed_of trace) s.taken))
+        (all_counted (λ p. AllByRecursion (λ q. p < q) (filter f (indexed_places s.taken trace))) (filter f s.reported)
+        (λ p few. let mine = counted_filtered f s.reported p few in
+        all_counted (λ q. p < q) (filter f (indexed_places s.taken trace)) (λ q more. let other = counted_filtered f (indexed_places s.taken trace) q more in m.ahead t p q mine.1 mine.0 (indexed_place q other.1) other.0))))
     go false e =
         let none : filter (is_of_trace s.taken t) (indexed_places s.taken trace) ≡ [] =
         filter_none (is_of_trace s.taken t) (indexed_places s.taken trace) (all_counted (λ p. is_of_trace s.taken t p ≡ false) (indexed_places s.taken trace) (λ p few. of_place p few ∙ e))
@@ -276,59 +287,112 @@ rising_pins sheet group s m t =
       | false ↦ subst AreRising (sym (append-nil (filter f (s.reported ++ s.pinned)))) (rising_more s m c t)
     ]))
 
+-- ---- what is indexed is behind what was reported
+
+still_indexed : (change : ChunkStanding → ChunkStanding) → ((u : ChunkStanding) → is_indexed (change u) ≡ true → is_indexed u ≡ true) → (places : List ℕ) (taken : List Taken) (q : ℕ)
+    → stands is_indexed (moved places change taken) q ≡ true → stands is_indexed taken q ≡ true
+still_indexed change only places taken q e = go (is_among places q) (sym (passes_moved_at (λ c. is_indexed c.standing) change places taken q) ∙ e)
+  where
+    go : (b : Bool) → cond b (passes (λ c. is_indexed (change c.standing)) taken q) (stands is_indexed taken q) ≡ true → stands is_indexed taken q ≡ true
+    go true h = passes_too (λ c. is_indexed (change c.standing)) (λ c. is_indexed c.standing) true (λ c. only c.standing) taken q h
+    go false h = h
+
+abbrev Ahead : List Taken → List ℕ → Type 0
+Ahead taken reported = (t : TraceId) (p q : ℕ) → 1 ≤ count_of reported p → is_of_trace taken t p ≡ true → stands is_indexed taken q ≡ true → is_of_trace taken t q ≡ true → p < q
+
+ahead_moved : (change : ChunkStanding → ChunkStanding) → ((u : ChunkStanding) → is_indexed (change u) ≡ true → is_indexed u ≡ true) → (places : List ℕ) (taken : List Taken) (reported : List ℕ) → Ahead taken reported → Ahead (moved places change taken) reported
+ahead_moved change only places taken reported m t p q few of is ofq =
+    m t p q few (sym (of_moved change places taken t p) ∙ of) (still_indexed change only places taken q is) (sym (of_moved change places taken t q) ∙ ofq)
+
+ahead_more : (s : AgentState) → InOrder s → (c : Taken) → Ahead (s.taken ++ c ∷ []) s.reported
+ahead_more s m c t p q few of is ofq =
+    let low : p < length s.taken = within s m p (let both = count-append s.reported s.pinned p in omega arith) in
+    elim (cases_lt q (length s.taken)) [
+      | inl below ↦
+          m.ahead t p q few (sym (passes_before (λ d. same_trace t (trace_of d)) s.taken (c ∷ []) p low) ∙ of)
+          (sym (passes_before (λ d. is_indexed d.standing) s.taken (c ∷ []) q below) ∙ is) (sym (passes_before (λ d. same_trace t (trace_of d)) s.taken (c ∷ []) q below) ∙ ofq)
+      | inr above ↦ omega arith
+    ]
+
+ahead_reports : (places : List ℕ) (s : AgentState) → InOrder s → ((p : ℕ) → count_of places p ≤ count_of s.pinned p) → Ahead (report places s).taken (report places s).reported
+ahead_reports places s m sent t p q few of is ofq =
+    let of' : is_of_trace s.taken t p ≡ true = sym (of_moved reported_standing places s.taken t p) ∙ of in
+    let is' : stands is_indexed s.taken q ≡ true = still_indexed reported_standing reported_indexed places s.taken q is in
+    let ofq' : is_of_trace s.taken t q ≡ true = sym (of_moved reported_standing places s.taken t q) ∙ ofq in
+    go of' is' ofq' (count_of s.reported p) refl (count-append s.reported places p)
+  where
+    go : is_of_trace s.taken t p ≡ true → stands is_indexed s.taken q ≡ true → is_of_trace s.taken t q ≡ true → (n : ℕ) → count_of s.reported p ≡ n → count_of (s.reported ++ places) p ≡ count_of s.reported p + count_of places p → p < q
+    go of' is' ofq' zero e both =
+        let some : 1 ≤ count_of places p = omega (arith, few, both, e) in
+        let le = sent p in
+        let pinned = pinned_of s m t p (omega (arith, some, le)) of' in
+        let free = unclaimed_group s.claims t (indexed_of s m t q is' ofq') in
+        let claimed = pinned.2 in absurd cc
+    go of' is' ofq' (suc n) e both = m.ahead t p q (omega (arith, e)) of' is' ofq'
+
+no_index : (u : ChunkStanding) → false ≡ true → is_indexed u ≡ true
+no_index u e = absurd (true≢false (sym e))
+
 pub in_order_kept : (settings : PlainSettings) (node : ℕ) → IsKept settings node InOrder
 in_order_kept settings node =
     let places = match_kept settings node in
-    let claims = by_claim_kept settings node in
+    let claims = held_kept settings node in
     record {
       evicts = λ trace later s e over m. record {
         places = places.evicts trace later s e over m.places;
-        by_claim = claims.evicts trace later s e over m.by_claim;
+        held = claims.evicts trace later s e over m.held;
         rising = λ t. rising_moved _ (indexed_places s.taken trace) s.taken t (s.reported ++ s.pinned) (m.rising t);
+        ahead = ahead_moved (λ _. Evicted _ _) no_index (indexed_places s.taken trace) s.taken s.reported m.ahead;
       };
       claims = λ ask trace s free m. record {
         places = places.claims ask trace s free m.places;
-        by_claim = claims.claims ask trace s free m.by_claim;
+        held = claims.claims ask trace s free m.held;
         rising = rising_claims ask trace s free m;
+        ahead = ahead_moved (λ _. Pinned ask.group) no_index (indexed_places s.taken trace) s.taken s.reported m.ahead;
       };
       abandons = λ group s chosen m. record {
         places = places.abandons group s chosen m.places;
-        by_claim = claims.abandons group s chosen m.by_claim;
+        held = claims.abandons group s chosen m.held;
         rising = rising_abandons group s m;
+        ahead = ahead_moved (λ _. Abandoned group) no_index (filter (is_pinned_for s.taken group) s.pinned) s.taken s.reported m.ahead;
       };
       visits = λ s share m. record {
         places = places.visits s share m.places;
-        by_claim = claims.visits s share m.by_claim;
+        held = claims.visits s share m.held;
         rising = rising_reports (count_sent settings.size share (costs_of s share.trigger.0)) share.trigger.0 s m;
+        ahead = ahead_reports (take (count_sent settings.size share (costs_of s share.trigger.0)) (order_of s share.trigger.0)) s m (visit_few settings s share);
       };
-      shares = λ shares s m. record { places = m.places; by_claim = m.by_claim; rising = m.rising };
+      shares = λ shares s m. record { places = m.places; held = m.held; rising = m.rising; ahead = m.ahead };
       indexes = λ sheet s free m. record {
         places = places.indexes sheet s free m.places;
-        by_claim = claims.indexes sheet s free m.by_claim;
+        held = claims.indexes sheet s free m.held;
         rising = rising_more s m _;
+        ahead = ahead_more s m _;
       };
       drops = λ sheet claim s had gone m. record {
         places = places.drops sheet claim s had gone m.places;
-        by_claim = claims.drops sheet claim s had gone m.by_claim;
+        held = claims.drops sheet claim s had gone m.held;
         rising = rising_more s m _;
+        ahead = ahead_more s m _;
       };
       pins = λ sheet claim s had m. record {
         places = places.pins sheet claim s had m.places;
-        by_claim = claims.pins sheet claim s had m.by_claim;
+        held = claims.pins sheet claim s had m.held;
         rising = rising_pins sheet claim.group s m;
+        ahead = ahead_more s m _;
       };
-      touches = λ crumb s free m. record { places = m.places; by_claim = m.by_claim; rising = m.rising };
-      tells = λ crumb claim s had new m. record { places = m.places; by_claim = m.by_claim; rising = m.rising };
-      tries = λ trigger s m. record { places = m.places; by_claim = m.by_claim; rising = m.rising };
-      counts = λ s m. record { places = m.places; by_claim = m.by_claim; rising = m.rising };
-      says = λ told s m. record { places = m.places; by_claim = m.by_claim; rising = m.rising };
-      notes = λ step s m. record { places = m.places; by_claim = m.by_claim; rising = m.rising };
-      gives = λ stamp place hand s e m. record { places = places.gives stamp place hand s e m.places; by_claim = m.by_claim; rising = m.rising };
+      touches = λ crumb s free m. record { places = m.places; held = m.held; rising = m.rising; ahead = m.ahead };
+      tells = λ crumb claim s had new m. record { places = m.places; held = m.held; rising = m.rising; ahead = m.ahead };
+      tries = λ trigger s m. record { places = m.places; held = m.held; rising = m.rising; ahead = m.ahead };
+      counts = λ s m. record { places = m.places; held = m.held; rising = m.rising; ahead = m.ahead };
+      says = λ told s m. record { places = m.places; held = m.held; rising = m.rising; ahead = m.ahead };
+      notes = λ step s m. record { places = m.places; held = m.held; rising = m.rising; ahead = m.ahead };
+      gives = λ stamp place hand s e m. record { places = places.gives stamp place hand s e m.places; held = m.held; rising = m.rising; ahead = m.ahead };
     }
 
 pub reported_in_order : ReportedInOrder
 reported_in_order settings node events t =
-    let m = kept_after settings node InOrder (in_order_kept settings node) (record { places = match_start settings; by_claim = tt; rising = λ t. tt }) events in
+    let m = kept_after settings node InOrder (in_order_kept settings node) (record { places = match_start settings; held = tt; rising = λ t. tt; ahead = λ t p q few of is ofq. absurd (omega arith) }) events in
     let s = after settings node events in
     let f = is_of_trace s.taken t in
     rising_front (filter f s.reported) (filter f s.pinned) (subst AreRising (filter-append f s.reported s.pinned) (m.rising t))

@@ -21,7 +21,7 @@ three_ways [] p = refl
 three_ways (c ∷ taken) zero = one_way c.standing
 three_ways (c ∷ taken) (suc p) = three_ways taken p
 
-in_one_place : (s : AgentState) (p : ℕ) → PlacesMatch s → IsInOnePlace s p
+pub in_one_place : (s : AgentState) (p : ℕ) → PlacesMatch s → IsInOnePlace s p
 in_one_place s p m =
     let pinned : count_of s.pinned p ≡ one_if (stands is_pinned s.taken p) = m.pinned_each p in
     let gone : count_of (given_places s ++ s.hand) p ≡ one_if (stands is_let_go s.taken p) = m.gone_each p in

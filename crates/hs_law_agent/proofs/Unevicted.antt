@@ -11,12 +11,12 @@ use Rattle.hs_law_agent.proofs.Placed.{AreSome, Turns, moved_counted, indexed_so
 use Rattle.hs_law_agent.proofs.Partition.{lists_have_their_chunks}
 use Rattle.hs_law_agent.proofs.Claims.{Apart, apart_kept, traces_are_claimed_once}
 
-record Unevicted (p : ℕ) (t : TraceId) (b : Bool) (s : AgentState) : Type 0 where
-  of_trace : is_of_trace s.taken t p ≡ true
-  claimed : is_claimed s.claims t ≡ true
-  apart : Apart s
-  places : PlacesMatch s
-  same : stands is_evicted s.taken p ≡ b
+pub record Unevicted (p : ℕ) (t : TraceId) (b : Bool) (s : AgentState) : Type 0 where
+  pub of_trace : is_of_trace s.taken t p ≡ true
+  pub claimed : is_claimed s.claims t ≡ true
+  pub apart : Apart s
+  pub places : PlacesMatch s
+  pub same : stands is_evicted s.taken p ≡ b
 
 -- a chunk's trace stays
 pub of_moved : (change : ChunkStanding → ChunkStanding) (places : List ℕ) (taken : List Taken) (t : TraceId) (p : ℕ) → is_of_trace (moved places change taken) t p ≡ is_of_trace taken t p
@@ -78,7 +78,7 @@ same_evicts trace t later s p e of claimed apart =
     go true f count = let n = among_counted (indexed_places s.taken trace) p f in absurd (omega arith)
     go false f count = refl
 
-unevicted_kept : (settings : PlainSettings) (node p : ℕ) (t : TraceId) (b : Bool) → IsKept settings node (Unevicted p t b)
+pub unevicted_kept : (settings : PlainSettings) (node p : ℕ) (t : TraceId) (b : Bool) → IsKept settings node (Unevicted p t b)
 unevicted_kept settings node p t b =
     let apart = apart_kept settings node in
     let places = match_kept settings node in

@@ -34,7 +34,7 @@ module _ (settings : PlainSettings) where
   one_more [] chunk all h = (h, tt)
   one_more (first ∷ taken) chunk all h = (all.0, one_more taken chunk all.1 h)
 
-  over_kept : (node : ℕ) → IsKept settings node (λ (s : AgentState). AllWereOver settings s.taken)
+  pub over_kept : (node : ℕ) → IsKept settings node (λ (s : AgentState). AllWereOver settings s.taken)
   over_kept node =
       record {
         evicts = λ trace later s touched over p.

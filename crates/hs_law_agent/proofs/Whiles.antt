@@ -45,7 +45,7 @@ abandons_while_over settings s m = drops settings s.pinned s m (omega arith)
 pub indexed_stay_touched : IndexedStayTouched
 indexed_stay_touched settings node events = kept_after settings node IndexedAreTouched (touched_kept settings node) tt events
 
-goes_on : (settings : PlainSettings) (node : ℕ) (s : AgentState) (events later : List AgentEvent) → after_from settings node s (events ++ later) ≡ after_from settings node (after_from settings node s events) later
+pub goes_on : (settings : PlainSettings) (node : ℕ) (s : AgentState) (events later : List AgentEvent) → after_from settings node s (events ++ later) ≡ after_from settings node (after_from settings node s events) later
 goes_on settings node s [] later = refl
 goes_on settings node s (event ∷ events) later = goes_on settings node (after_event settings node s event) events later
 

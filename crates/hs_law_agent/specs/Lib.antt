@@ -16,3 +16,4 @@ pub mod AbandonExamples
 pub mod TurnExamples
 pub mod BookExamples
 pub mod Bringing
+pub mod Lives

@@ -3,6 +3,7 @@
 ghost use Rattle.hs_law_agent.specs.Leading.{CrumbsLeadBelow};
 ghost use Rattle.hs_law_agent.specs.Laws.{ListsHaveTheirChunks, StandingsPartition, HeldChunksAreInNoHand, TracesAreClaimedOnce, ClaimsHoldForGood, ChunksStandByTheirClaim, NothingClaimedIsEvicted, TheLeastGoes, LimitsHold, ReportedInOrder, EvictsWhileOver, EvictedWereOver, IndexedStayTouched, AbandonsWhileOver, EventsGoOn, ClientsPagesRise, VisitsAreApart, StepsSayWhatTheyTell, EventsAddThis, EventsAddFew, TurnsReport};
 ghost use Rattle.hs_law_agent.specs.Bringing.{ClaimsAreOfWhatIsBrought};
+ghost use Rattle.hs_law_agent.specs.Lives.{LivesGoOnWell, NothingClaimedGoes, ClaimsStand, EventsLeadOn, ListsGoOn};
 
 /// The pinned and the reported chunks stand in their lists, each once, and the evicted, abandoned and
 /// reported ones in the hand, each once, until they are given back.
@@ -128,3 +129,28 @@ pub fn claims_are_of_what_is_brought()
 {
     steps_say_what_they_tell();
 }
+
+/// An agent that forgets groups between events goes from good states to good ones, from its beginning on.
+pub fn lives_go_on_well()
+    ensures { LivesGoOnWell }
+{}
+
+/// In a good state no event evicts a chunk of a claimed trace, and forgetting moves none.
+pub fn nothing_claimed_goes()
+    ensures { NothingClaimedGoes }
+{}
+
+/// A claim stands until its group is forgotten.
+pub fn claims_stand()
+    ensures { ClaimsStand }
+{}
+
+/// Events lead on from any state, as those do that follow others.
+pub fn events_lead_on()
+    ensures { EventsLeadOn }
+{}
+
+/// From a state whose lists have their chunks, events and forgetting lead to such states.
+pub fn lists_go_on()
+    ensures { ListsGoOn }
+{}
