@@ -1,6 +1,6 @@
 -- An agent follows its run from call to call.
 use Rattle.std.proofs.Common.{◌≡◌, ◌<◌, ◌≤◌, append-nil, ℕ, List, [], ◌∷◌, ◌++◌, length, slice_set, Some, None, IsSome, refl, sym, ap, subst, ◌∙◌}
-use Rattle.hs_agent.proofs.Prelude.{IfOk, IfSome, option_map_or, Step, PlainSettings, Schedule, IsSchedule, Buffer, buffer_of, IsInOnePlace, EventsGoOn, AgentState, Answered, Given, Missed, Unread, Took, Gave, note, step_of, take_input, step_of_answer, give_back, take_answer, after_gave, Kept, PlainAgent, Holds, Point, answered, Run, input_of, taken_in, Follows, StandsAt, point_of, state_of, after_offer, Input}
+use Rattle.hs_agent.proofs.Prelude.{IfOk, IfSome, option_map_or, Step, PlainSettings, Schedule, IsSchedule, Buffer, buffer_of, IsInOnePlace, PlacesMatch, EventsLeadOn, ListsGoOn, AgentState, Answered, Given, Missed, Unread, Took, Gave, note, step_of, take_input, step_of_answer, give_back, take_answer, after_gave, Kept, PlainAgent, Holds, Point, answered, Run, input_of, taken_in, Follows, StandsAt, point_of, state_of, after_offer, Input}
 use Rattle.hs_lists.proofs.Options.{some_item}
 use Rattle.hs_base.specs.declared.limits.TheConstants.{MOST_NODES}
 use Rattle.hs_words.specs.declared.token.Given.{Given as Answer}
@@ -39,9 +39,10 @@ module _ {L : Type 0} where
       working = spent ∙ follows.working;
       stands = record { chunks = holds; shares = schedule ∙ follows.stands.shares; is_schedule = subst IsSchedule (sym schedule) follows.stands.is_schedule; nodes = follows.stands.nodes };
       log = log ∙ follows.log;
+      good = follows.good;
     }
 
-    module _ (go_on : EventsGoOn) (one : (place : ℕ) → IsInOnePlace (state_of run) place) (some : IsSome run.offered) where
+    module _ (go_on : EventsLeadOn) (one : (place : ℕ) → IsInOnePlace (state_of run) place) (some : IsSome run.offered) where
       abbrev place : ℕ
       place = (some_item run.offered some).0
 
@@ -67,7 +68,7 @@ module _ {L : Type 0} where
           → next.log ≡ agent.log ++ step_of_answer (answer_of answer) ∷ [] → next.spent ≡ agent.spent → Follows next (after_answer run answer)
       follows-answered answer kept schedule log spent =
           let state : AgentState = after_gave (state_of run) (answer_of answer) in
-          let goes : state_of (after_answer run answer) ≡ state = go_on run.settings run.node run.events (Gave (answer_of answer) ∷ []) in
+          let goes : state_of (after_answer run answer) ≡ state = go_on run.settings run.node run.start run.events (Gave (answer_of answer) ∷ []) in
           record {
             working = spent ∙ follows.working;
             stands = record {
@@ -82,14 +83,15 @@ module _ {L : Type 0} where
                 log
                 ∙ ap (λ l. l ++ step_of_answer (answer_of answer) ∷ []) (follows.log ∙ sym (answer-log (state_of run) (answer_of answer)))
                 ∙ ap (λ (s : AgentState). s.log) (sym goes);
+            good = follows.good;
           }
 
-    module _ (go_on : EventsGoOn) where
+    module _ (go_on : EventsLeadOn) where
       pub follows-taken : {g : _} → (input : Input L g) → StandsAt next.kept next.schedule (taken_in input (point_of run)) → next.log ≡ agent.log ++ step_of (input_of input) ∷ [] → next.spent ≡ agent.spent
           → Follows next (after_input run input)
       follows-taken input stands log spent =
           let state : AgentState = take_input run.settings run.node (state_of run) (input_of input) in
-          let goes : state_of (after_input run input) ≡ note (step_of (input_of input)) state = go_on run.settings run.node run.events (Took (input_of input) ∷ []) in
+          let goes : state_of (after_input run input) ≡ note (step_of (input_of input)) state = go_on run.settings run.node run.start run.events (Took (input_of input) ∷ []) in
           let point : Point L = taken_in input (point_of run) in
           record {
             working = spent ∙ follows.working;
@@ -105,7 +107,16 @@ module _ {L : Type 0} where
                 log
                 ∙ ap (λ l. l ++ step_of (input_of input) ∷ []) (follows.log ∙ sym (input-log run.settings run.node (state_of run) (input_of input)))
                 ∙ ap (λ (s : AgentState). s.log) (sym goes);
+            good = follows.good;
           }
+
+-- the lists of an agent's state have their chunks
+module _ {L : Type 0} (last : ListsGoOn) (agent : PlainAgent L) (run : Run L) (follows : Follows agent run) where
+  pub places_now : PlacesMatch (state_of run)
+  places_now = (last run.settings run.node run.start follows.good).events run.events
+
+  pub one_place : (place : ℕ) → IsInOnePlace (state_of run) place
+  one_place = (last run.settings run.node (state_of run) places_now).partition
 
 -- the same shares, with other chunks
 pub stands-then : {L : Type 0} (old new : Kept L) (schedule : Schedule) (point next : Point L) → StandsAt old schedule point → next.settings ≡ point.settings → next.state.shares ≡ point.state.shares → Holds new next → StandsAt new schedule next

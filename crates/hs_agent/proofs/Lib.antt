@@ -35,3 +35,4 @@ pub mod Admitting
 pub mod Meeting
 pub mod Few
 pub mod Brought
+pub mod Forgetting

@@ -29,7 +29,8 @@ pub use Rattle.hs_law_agent.specs.Abandoning.{abandon}
 pub use Rattle.hs_law_agent.specs.Books.{book_of, bytes_at, claim_note, fate_of, page_standing}
 pub use Rattle.hs_law_agent.specs.Claiming.{claim_each, claim_trace, claim_unclaimed, traces_of}
 pub use Rattle.hs_law_agent.specs.Evicting.{evict, evict_trace}
-pub use Rattle.hs_law_agent.specs.Laws.{count_of, EventsGoOn, IsInOnePlace, PlacesMatch}
+pub use Rattle.hs_law_agent.specs.Laws.{count_of, IsInOnePlace, PlacesMatch}
+pub use Rattle.hs_law_agent.specs.Lives.{EventsLeadOn, ListsGoOn, forget_group, is_settled}
 pub use Rattle.hs_law_agent.specs.Messages.{crumb_nodes, has_crumb, late_of, same_crumb, told_of, with_crumb}
 pub use Rattle.hs_law_agent.specs.Standings.{Abandoned, ChunkStanding, Evicted, indexed_count, indexed_places, is_among, is_indexed, is_indexed_of, moved, moved_from, Pinned, pinned_for, pinning_group, places_from, Reported, stands, Taken, trace_of}
 pub use Rattle.hs_law_agent.specs.State.{AgentState, ClaimedTrace, is_abandoned, is_claimed, start}

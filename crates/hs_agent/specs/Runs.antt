@@ -1,4 +1,4 @@
--- A run of an agent: its settings, its node, the events so far, and of each chunk that it took the buffer as it came last,
+-- A run of an agent: its settings, its node, where it began, the events since, and of each chunk that it took the buffer as it came last,
 -- with its lease. An agent that memory failed follows no run any more.
 use Rattle.std.specs.Prelude.{◌≡◌, ℕ, ◌+◌, ◌<◌, ◌≤◌, ◌^◌, true, false, List, [], ◌∷◌, ◌++◌, slice_get, slice_set, Option, Some, None, IsSome}
 use Rattle.std.specs.Option.{option_map_or, option_and_then}
@@ -10,8 +10,11 @@ use Rattle.hs_sched.specs.Turns.{Schedule, IsSchedule}
 use Rattle.hs_words.specs.declared.token.Given.{Given}
 use Rattle.hs_words.specs.declared.token.Given.TheVariants as given
 use Rattle.hs_words.specs.Buffers.{Buffer, buffer_of}
-use Rattle.hs_law_agent.specs.State.{AgentState}
-use Rattle.hs_law_agent.specs.Stepping.{AgentEvent, Took, Gave, Answered, after, take_input, told_by}
+use Rattle.hs_law_agent.specs.State.{AgentState, start}
+use Rattle.hs_law_agent.specs.Laws.{PlacesMatch}
+use Rattle.hs_law_agent.specs.Lives.{forget_group}
+use Rattle.hs_base.specs.declared.told.Group.{Group}
+use Rattle.hs_law_agent.specs.Stepping.{AgentEvent, Took, Gave, Answered, after_from, take_input, told_by}
 use Rattle.hs_law_agent.specs.Stepping as model
 use Rattle.hs_agent.specs.declared.input.Input.{Input}
 use Rattle.hs_agent.specs.declared.input.Input.TheVariants as inputs
@@ -21,6 +24,8 @@ use Rattle.hs_agent.specs.Points.{sheet_in}
 pub record Run (L : Type 0) : Type 0 where
   pub settings : PlainSettings
   pub node : ℕ
+  -- where the events begin
+  pub start : AgentState
   pub events : List AgentEvent
   pub buffers : List (Buffer L)
   -- the place of the chunk that was offered and not answered yet
@@ -28,11 +33,11 @@ pub record Run (L : Type 0) : Type 0 where
 
 -- what the model comes to
 abbrev pub state_of : {L : Type 0} → Run L → AgentState
-state_of run = after run.settings run.node run.events
+state_of run = after_from run.settings run.node run.start run.events
 
 -- an agent at its beginning
 abbrev pub new_run : {L : Type 0} → PlainSettings → ℕ → Run L
-new_run settings node = record { settings = settings; node = node; events = []; buffers = []; offered = None }
+new_run settings node = record { settings = settings; node = node; start = start settings; events = []; buffers = []; offered = None }
 
 -- the place of the first of the hand
 abbrev pub first_place : AgentState → Option ℕ
@@ -58,6 +63,11 @@ pub record Follows {L : Type 0} (agent : PlainAgent L) (run : Run L) : Type 0 wh
   pub working : agent.spent ≡ false
   pub stands : StandsAt agent.kept agent.schedule (point_of run)
   pub log : agent.log ≡ (state_of run).log
+  pub good : PlacesMatch run.start
+
+-- the run that begins where the group was forgotten
+abbrev pub forgetting : {L : Type 0} → Group → Run L → Run L
+forgetting group run = record run { start = forget_group group (state_of run); events = [] }
 
 abbrev pub IsSpent : {L : Type 0} → PlainAgent L → Type 0
 IsSpent agent = agent.spent ≡ true

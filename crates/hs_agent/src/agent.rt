@@ -1,6 +1,7 @@
 //! The agent.
 
-ghost use Rattle.std.specs.Prelude.{◌≡◌, ◌≤◌, [], length, map, false, None, IsSome, IfOk, IfNone, IsErr, OnOk, OnErr};
+ghost use Rattle.hs_law_agent.specs.Lives.{is_settled};
+ghost use Rattle.std.specs.Prelude.{◌≡◌, ◌≤◌, [], length, map, true, false, None, IsSome, IfOk, IfNone, IsErr, OnOk, OnErr};
 ghost use Rattle.hs_base.specs.Rules.{AreRules};
 ghost use Rattle.hs_records.specs.Plain.{settings_of};
 ghost use Rattle.hs_words.specs.Buffers.{buffer_of, buffer_in};
@@ -11,14 +12,14 @@ ghost use Rattle.hs_law_agent.specs.Laws.{PlacesMatch};
 ghost use Rattle.hs_law_agent.specs.Stepping.{step_of, step_of_answer, told_by};
 ghost use Rattle.hs_law_agent.specs.Turning as model;
 ghost use Rattle.hs_agent.specs.Keeping.{Point, Holds, HoldsThat, with_state};
-ghost use Rattle.hs_agent.specs.Runs.{Run, point_of, state_of, new_run, StandsAt, Follows, Knows, IsSpent, IsTakable, input_of, taken_in, after_input, after_chunk, after_turn, told_in, IsChunkFor, offered_next, after_offer, answer_of, back_in, after_answer};
+ghost use Rattle.hs_agent.specs.Runs.{Run, point_of, state_of, new_run, StandsAt, Follows, Knows, IsSpent, IsTakable, input_of, taken_in, after_input, after_chunk, after_turn, told_in, IsChunkFor, offered_next, after_offer, answer_of, back_in, after_answer, forgetting};
 ghost use Rattle.hs_agent.specs.Points.{buffers_left};
 
 use crate::holdings::Holdings;
 use crate::input::{Finished, Input};
 use hs_base::limits::MOST_NODES;
-use hs_base::{List, Memory, NodeId, Settings, Told, Why};
-use hs_law_agent::laws::{events_go_on, lists_have_their_chunks, standings_partition};
+use hs_base::{Group, List, Memory, NodeId, Settings, Told, Why};
+use hs_law_agent::laws::{events_lead_on, lists_go_on};
 use hs_records::Step;
 use hs_sched::Scheduler;
 use hs_words::{Given, Held, Token};
@@ -92,8 +93,8 @@ impl<L: Token> Agent<L> {
         ensures told { (run : Run L) → Follows self.old run → IfOk result (λ told. told ≡ told_in run input) }
         ensures after { (run : Run L) → Follows self.old run → OnOk result (Follows self.new (after_input run input)) }
     {
-        events_go_on();
-        lists_have_their_chunks();
+        events_lead_on();
+        lists_go_on();
         self.log.reserve(2)?;
         let step = step_of(&input);
         let told = take_input(&mut self.scheduler, &mut self.holdings, input)?;
@@ -125,7 +126,7 @@ impl<L: Token> Agent<L> {
         requires { (run : Run L) × Follows self.old run × IsChunkFor run.settings run.node client (buffer_of held) }
         ensures { (run : Run L) → Follows self.old run → OnOk result (Follows self.new (after_chunk run client (buffer_of held))) }
     {
-        events_go_on();
+        events_lead_on();
         self.log.reserve(2)?;
         self.holdings.take_chunk(held)?;
         self.log.push(Step::Chunk { client });
@@ -156,8 +157,8 @@ impl<L: Token> Agent<L> {
         requires { (run : Run L) × Follows self.old run }
         ensures { (run : Run L) → Follows self.old run → OnOk result (Follows self.new (after_turn run)) }
     {
-        events_go_on();
-        lists_have_their_chunks();
+        events_lead_on();
+        lists_go_on();
         self.log.reserve(2)?;
         turn(&mut self.scheduler, &mut self.holdings)?;
         self.log.push(Step::Turn);
@@ -192,7 +193,7 @@ impl<L: Token> Agent<L> {
         ensures empty { (run : Run L) → Follows self.old run → IfOk result (λ first. IfNone first ((state_of run).hand ≡ [])) }
         ensures after { (run : Run L) → Follows self.old run → OnOk result (Follows self.new (after_offer run)) }
     {
-        standings_partition();
+        lists_go_on();
         self.log.reserve(1)?;
         self.holdings.offer()
     }
@@ -208,11 +209,27 @@ impl<L: Token> Agent<L> {
         if self.spent {
             return;
         }
-        events_go_on();
-        standings_partition();
+        events_lead_on();
+        lists_go_on();
         let (step, back) = answer_in(given);
         self.holdings.answer(back);
         self.log.push(step);
+    }
+
+    /// Forgets a group for which nothing is pinned: its claims, their crumbs, and that it was abandoned. Answers whether it
+    /// did. The run begins anew there. It takes no memory.
+    pub fn forget(&mut self, group: Group) -> bool
+        ensures settled { (run : Run L) → Follows self.old run → result ≡ is_settled group (state_of run) }
+        ensures after { (run : Run L) → Follows self.old run → result ≡ true → Follows self.new (forgetting group run) }
+        ensures same { result ≡ false → self.new ≡ self.old }
+        ensures spent { self.new.spent ≡ self.old.spent }
+        ensures idle { IsSpent self.old → self.new ≡ self.old }
+    {
+        lists_go_on();
+        if self.spent {
+            return false;
+        }
+        self.holdings.forget(group)
     }
 
     /// The steps that were noted so far, in order: one for each input, and one for each answer of the pool.
@@ -243,7 +260,7 @@ impl<L: Token> Agent<L> {
         ensures rest { (run : Run L) → Follows self run → IfOk result (λ finished. map buffer_of finished.rest.items ≡ buffers_left (point_of run)) }
         ensures stays { IsSpent self → IsErr result }
     {
-        standings_partition();
+        lists_go_on();
         if self.spent {
             drop(self);
             return Err(Memory);

@@ -9,6 +9,9 @@ ghost use Rattle.hs_words.specs.Pages.{page_bytes};
 ghost use Rattle.hs_words.specs.Buffers.{Buffer, buffer_of, buffer_in};
 ghost use Rattle.hs_words.specs.Chunks.{used_in};
 ghost use Rattle.hs_law_agent.specs.State.{AgentState, start};
+ghost use Rattle.hs_law_agent.specs.Lives.{is_settled, forget_group};
+ghost use Rattle.hs_pins.specs.Priorities.{same_group};
+ghost use Rattle.std.specs.Prelude.{false, not, filter};
 ghost use Rattle.hs_pins.specs.Remembered.{Remembered, claim_of, claim_for, pin_of};
 ghost use Rattle.hs_pins.specs.Abandoning.{drops, relieved};
 ghost use Rattle.hs_pins.specs.PinsLayout.{Remembers, KnowsThat};
@@ -35,13 +38,14 @@ use hs_base::{
     TraceId, Trigger, TriggerId, Why, rank_of,
 };
 use hs_index::{Gone, TraceIndex};
-use hs_pins::{Admitted, Dropped, Pins, Taken2};
+use hs_pins::{Admitted, Dropped, Pins, Taken2, is_group};
 use hs_records::{AgentBook, Claim, Standing, Step};
 use hs_sched::Queues;
 use hs_words::{Chunk, Header, Held, Token};
 use std::alloc::Global;
 use std::collections::VecDeque;
 use std::marker::Model;
+use std::mem::replace;
 
 /// The chunks that an agent has, each in the index, pinned, or in the hand, and of each chunk that it took its fate so
 /// far. A chunk is named by its place in the order of arrival.
@@ -189,6 +193,21 @@ impl<L: Token> Holdings<L> {
             crumbs: NodeSet::only(crumb.node),
             why: Why::Late,
         }))
+    }
+
+    /// Forgets a group for which nothing is pinned. Answers whether it did. It takes no memory.
+    pub fn forget(&mut self, group: Group) -> bool
+        ensures settled { (point : Point L) → Holds self.old point → result ≡ is_settled group point.state }
+        ensures after { (point : Point L) → Holds self.old point → result ≡ true → Holds self.new (with_state (forget_group group point.state) point) }
+        ensures same { result ≡ false → self.new ≡ self.old }
+        ensures offered { self.new.offered ≡ self.old.offered }
+    {
+        let did = self.pins.forget(group);
+        if !did {
+            return false;
+        }
+        drop_notes(self.alloc, &mut self.claims, group);
+        true
     }
 
     /// Takes a trigger. Answers what is to be told, if it is admitted.
@@ -411,6 +430,19 @@ impl<L: Token> Queues for Holdings<L> {
             None => unreachable!(),
         }
     }
+}
+
+/// Drops the notes of a group's claims.
+fn drop_notes(alloc: Global, claims: &mut List<Claim>, group: Group)
+    ensures { claims.new.items ≡ filter (λ (claim : _). not (same_group group claim.group)) claims.old.items }
+{
+    let mut kept = replace(claims, List::new(alloc)).into_vec();
+    kept.retain(
+        |claim: &Claim| -> bool
+            ensures { result ≡ not (same_group group claim.now.group) }
+        { !is_group(&group, &claim.group) },
+    );
+    *claims = List::from_vec(kept);
 }
 
 /// The fate of a chunk whose group is abandoned.

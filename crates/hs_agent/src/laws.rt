@@ -4,7 +4,7 @@ ghost use Rattle.std.specs.Prelude.{ℕ, List};
 ghost use Rattle.hs_records.specs.Plain.{PlainSettings};
 ghost use Rattle.hs_agent.specs.Calls.{Call, MeetsModel, FewAreAdmitted};
 
-use hs_law_agent::laws::{events_go_on, steps_say_what_they_tell};
+use hs_law_agent::laws::{events_lead_on, steps_say_what_they_tell};
 use hs_words::Token;
 
 /// After any inputs, offers and answers, a new agent's run has come to the state in which the model is after these inputs and
@@ -13,7 +13,7 @@ use hs_words::Token;
 pub fn any_calls_meet_the_model<L: Token>()
     ensures { (settings : PlainSettings) (node : ℕ) (calls : List (Call L)) → MeetsModel settings node calls }
 {
-    events_go_on();
+    events_lead_on();
     steps_say_what_they_tell();
 }
 

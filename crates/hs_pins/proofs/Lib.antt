@@ -14,3 +14,4 @@ pub mod Noted
 pub mod Sound
 pub mod Remembering
 pub mod LookBack
+pub mod Forgetting

@@ -182,6 +182,23 @@ arrived memory chunk =
 abbrev pub crumbed : {L : Type 0} → Remembered L → TraceId → NodeId → Remembered L
 crumbed memory trace node = record memory { claims = with_crumb memory.claims trace node }
 
+-- ---- forgetting
+
+abbrev pub is_of_group : Group → Claim → Bool
+is_of_group group claim = same_group group claim.group
+
+-- whether nothing is pinned for the group
+abbrev pub is_settled : {L : Type 0} → Group → Remembered L → Bool
+is_settled group memory = not (list_any (is_for group) memory.pinned)
+
+-- after the group was forgotten, with its claims and the mark that it was abandoned
+abbrev pub forgot : {L : Type 0} → Group → Remembered L → Remembered L
+forgot group memory =
+    record memory {
+      claims = filter (λ (claim : Claim). not (is_of_group group claim)) memory.claims;
+      abandoned = filter (λ (other : Group). not (same_group group other)) memory.abandoned;
+    }
+
 -- ---- what always holds
 
 -- the claims are of different traces

@@ -1,12 +1,14 @@
 //! The claims of a node.
 
-ghost use Rattle.std.specs.Prelude.{◌≡◌, ◌<◌, ◌≤◌, ℕ, [], ◌∷◌, ◌++◌, length, slice_get, not, IsSome, Some, None, OnOk, option_map};
+ghost use Rattle.std.specs.Prelude.{◌≡◌, ◌<◌, ◌≤◌, ℕ, [], ◌∷◌, ◌++◌, length, slice_get, not, filter, IsSome, Some, None, OnOk, option_map};
 ghost use Rattle.std.specs.Bool.{OnTrue};
-ghost use Rattle.hs_pins.specs.Remembered.{claim_of, has_crumb, with_crumb};
+ghost use Rattle.hs_pins.specs.Priorities.{same_group};
+ghost use Rattle.hs_pins.specs.Remembered.{claim_of, has_crumb, with_crumb, is_of_group};
 ghost use Rattle.hs_pins.specs.ClaimsLayout.{party_at, claim_by};
 
+use crate::priority::is_group;
 use hs_base::limits::MOST_NODES;
-use hs_base::{Crumb, Group, Laterals, List, Memory, NodeSet, TraceId};
+use hs_base::{Crumb, Group, GroupId, Laterals, List, Memory, NodeSet, TraceId, TriggerId};
 use indexmap::IndexMap;
 use std::alloc::Global;
 use std::marker::Model;
@@ -124,6 +126,32 @@ impl Claims {
         let fresh = !note.crumbs.contains(crumb.node);
         note.crumbs = note.crumbs.with(crumb.node);
         fresh
+    }
+
+    /// Drops the claims of a group. It takes no memory.
+    pub fn forget(&mut self, group: Group)
+        ensures { self.new.claims ≡ filter (λ claim. not (is_of_group group claim)) self.old.claims }
+    {
+        let parties = self.parties.as_slice();
+        self.notes.retain(
+            |_trace: &TraceId, note: &mut ClaimNote| -> bool
+                ensures { (result ≡ not (same_group group (party_at parties.entry.now note.old.party).group)) × (note.new ≡ note.old) }
+            { !is_group(&group, &group_at(parties, note.party)) },
+        );
+    }
+}
+
+/// The group of the party at a place.
+fn group_at(parties: &[Party], place: usize) -> Group
+    ensures { result ≡ (party_at parties.now place).group }
+{
+    match parties.get(place) {
+        Some(party) => party.group,
+        None => Group {
+            id: GroupId { node: 0, number: 0 },
+            trigger: TriggerId(0),
+            lead: TraceId(0),
+        },
     }
 }
 

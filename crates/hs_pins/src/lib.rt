@@ -17,3 +17,4 @@ pub use bucket::{Attempt, Bucket};
 pub use claim::{Admitted, Dropped, Taken2};
 pub use laws::{any_calls_look_back, claims_stay};
 pub use pins::Pins;
+pub use priority::is_group;

@@ -1,6 +1,6 @@
 //! The pinned chunks of one trigger id (`docs/RULES.md`, "Pins").
 
-ghost use Rattle.std.specs.Prelude.{◌≡◌, ◌≢◌, ◌+◌, ◌<◌, ◌^◌, [], ◌∷◌, length, map, drop, slice_get, Some, OnOk, OnErr, IfErr, IfSome, OnSome, IfNone, IsSome, option_map};
+ghost use Rattle.std.specs.Prelude.{◌≡◌, ◌≢◌, ◌+◌, ◌<◌, ◌^◌, [], ◌∷◌, length, map, drop, slice_get, Some, OnOk, OnErr, IfErr, IfSome, OnSome, IfNone, IsSome, is_some, option_map};
 ghost use Rattle.std.specs.Map.{lookup};
 ghost use Rattle.std.specs.BTreeMap.{insert_entry};
 ghost use Rattle.hs_words.specs.Buffers.{buffer_of};
@@ -55,6 +55,13 @@ impl<L: Token> Pinned<L> {
         ensures { result ≡ count_of self.now }
     {
         self.chunks
+    }
+
+    /// Whether a chunk is pinned for the group of this priority.
+    pub fn has(&self, priority: Priority) -> bool
+        ensures { result ≡ is_some (lookup (same_priority priority) self.now) }
+    {
+        self.groups.get(&priority).is_some()
     }
 
     /// Pins chunks for the group of this priority. For want of memory they come back, and nothing

@@ -3,7 +3,7 @@
 ghost use Rattle.std.specs.Prelude.{◌≡◌, ◌≢◌, ◌+◌, ◌<◌, ◌≤◌, ◌^◌, ℕ, true, false, not, [], length, map, drop, slice_get, OnOk, OnErr, IfOk, IfErr, OnSome, IfNone, IsSome, None, Some, option_map};
 ghost use Rattle.hs_base.specs.Rules.{AreRules, is_declared};
 ghost use Rattle.hs_words.specs.Buffers.{buffer_of};
-ghost use Rattle.hs_pins.specs.Remembered.{Remembered, fresh, claim_of, claim_for, has_crumb, answered, tried_at, claimed, comes_back, handed_back, arrived, crumbed, pin_of};
+ghost use Rattle.hs_pins.specs.Remembered.{Remembered, fresh, claim_of, claim_for, has_crumb, answered, tried_at, claimed, comes_back, handed_back, arrived, crumbed, pin_of, is_settled, forgot};
 ghost use Rattle.hs_pins.specs.Abandoning.{drops, relieved};
 ghost use Rattle.hs_pins.specs.Waiting.{used_bytes, taken};
 ghost use Rattle.hs_pins.specs.PinsLayout.{Remembers, KnowsThat, waiting, bucket_in, fresh_buckets_of, Attempts};
@@ -255,6 +255,23 @@ impl<L: Token> Pins<L> {
         let (priority, held) = self.queues.take_next(trigger)?;
         let group = priority.group(trigger);
         Some(Dropped { held, group })
+    }
+
+    /// Forgets a group for which nothing is pinned: its claims with their crumbs, and that it was abandoned.
+    /// Answers whether it did. It takes no memory.
+    pub fn forget(&mut self, group: Group) -> bool
+        ensures settled { (memory : Remembered L) → Remembers self.old memory
+            → result ≡ is_settled group memory }
+        ensures after { (memory : Remembered L) → Remembers self.old memory
+            → result ≡ true → Remembers self.new (forgot group memory) }
+        ensures same { result ≡ false → self.new ≡ self.old }
+    {
+        if self.queues.has(group.trigger, Priority::of(&group)) {
+            return false;
+        }
+        self.claims.forget(group);
+        self.abandoned.shift_remove(&Mark::of(&group));
+        true
     }
 
     /// How many chunks are pinned.

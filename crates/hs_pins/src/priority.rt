@@ -1,7 +1,7 @@
 //! The order of groups.
 
 ghost use Rattle.std.specs.Prelude.{◌≡◌};
-ghost use Rattle.hs_pins.specs.Priorities.{priority_of, group_at, mark_of};
+ghost use Rattle.hs_pins.specs.Priorities.{priority_of, group_at, mark_of, same_group};
 
 use hs_base::{Group, GroupId, TraceId, TriggerId, rank_of};
 
@@ -42,6 +42,15 @@ impl Priority {
             lead: TraceId(self.lead),
         }
     }
+}
+
+/// Whether two groups are one: all that they name is the same.
+pub fn is_group(group: &Group, other: &Group) -> bool
+    ensures { result ≡ same_group group.now other.now }
+{
+    group.id.node == other.id.node
+        && (group.id.number == other.id.number
+            && (group.trigger.0 == other.trigger.0 && group.lead.0 == other.lead.0))
 }
 
 /// What names a group here: its trigger id and its priority.

@@ -1,10 +1,11 @@
 //! The pinned chunks of a node.
 
-ghost use Rattle.std.specs.Prelude.{◌≡◌, ◌+◌, ◌<◌, ◌^◌, [], ◌∷◌, length, map, drop, slice_get, OnOk, OnErr, IfOk, IfErr, IfSome, OnSome, IfNone, IsSome, option_map};
+ghost use Rattle.std.specs.Prelude.{◌≡◌, ◌+◌, ◌<◌, ◌^◌, [], ◌∷◌, length, map, drop, slice_get, OnOk, OnErr, IfOk, IfErr, IfSome, OnSome, IfNone, IsSome, is_some, option_map};
 ghost use Rattle.hs_words.specs.Buffers.{buffer_of};
 ghost use Rattle.hs_pins.specs.Waiting.{used_bytes};
 ghost use Rattle.hs_pins.specs.PinsLayout.{in_order};
-ghost use Rattle.hs_pins.specs.Priorities.{group_at};
+ghost use Rattle.hs_pins.specs.Priorities.{group_at, same_priority};
+ghost use Rattle.std.specs.Map.{lookup};
 ghost use Rattle.hs_pins.specs.Remembered.{pin_for};
 ghost use Rattle.hs_pins.specs.Groups.{count_of, greatest_of, next_of, without_next};
 ghost use Rattle.hs_pins.specs.Queues.{has_queue, groups_of, total_of, with_groups, pinned_in, fresh_queues, IsFullest};
@@ -46,6 +47,16 @@ impl<L: Token> TriggerQueues<L> {
     {
         let queues = empty_queues(alloc, rules)?;
         Ok(TriggerQueues { queues, chunks: 0 })
+    }
+
+    /// Whether a chunk is pinned for the group of this trigger id and priority.
+    pub fn has(&self, trigger: TriggerId, priority: Priority) -> bool
+        ensures { result ≡ is_some (lookup (same_priority priority) (groups_of self.now trigger)) }
+    {
+        match self.queues.get(&trigger) {
+            Some(pinned) => pinned.has(priority),
+            None => false,
+        }
     }
 
     /// How many chunks are pinned.

@@ -14,6 +14,7 @@ use Rattle.hs_law_journal.specs.Pooled.{buffer_of, page_of, pool_history}
 use Rattle.hs_law_lockstep.specs.Lockstep.{Machine, done_at}
 use Rattle.hs_law_lockstep.specs.Parts.{node_at, heard_in}
 use Rattle.hs_law_agent.specs.Laws.{sheets_of}
+use Rattle.hs_law_agent.specs.State.{start}
 use Rattle.hs_law_agent.specs.Stepping.{after}
 use Rattle.hs_replay_client.specs.Places.{ReplayClientIsAt}
 use Rattle.hs_replay_client.specs.ReplayClients.{PlainReplayClient}
@@ -50,7 +51,7 @@ pub record ReplayClientsStand (W : PlainWorkload) (m : Machine) (node : ℕ) (lo
 
 -- the run of the agent at a node's run, where the chunks came in these buffers
 abbrev pub run_of : PlainSettings → NodeRun → List (Buffer (Unit {0})) → Option ℕ → agents.Run (Unit {0})
-run_of settings run buffers offered = record { settings = settings; node = run.node; events = run.events; buffers = buffers; offered = offered }
+run_of settings run buffers offered = record { settings = settings; node = run.node; start = start settings; events = run.events; buffers = buffers; offered = offered }
 
 -- the buffer that the page of a chunk drew
 abbrev pub buffer_drawn : NodeRun → Buffer (Unit {0}) → Option ℕ

@@ -1,8 +1,13 @@
 -- The stages of a pass, item by item.
 use Rattle.std.proofs.Common.{◌≡◌, ℕ, ◌+◌, List, [], ◌∷◌, ◌++◌, refl, sym, ap, subst, ◌∙◌, append_assoc, append-nil, ap₂, cond, map}
 use Rattle.hs_run_agent.proofs.Prelude.{map-append, sum_by-append, Ask, ask_in, asks_in, AreTurns, Input, AgentEvent, Took, PlainSettings, PlainWorkload, Leased, Buffer, GiverTurn, AgentWorks, Intakes, AreIntakes, PlainWorkingAgent, WorkingAgentStands, lent_of, NodeWork, with_events, is_triggered, triggered}
+use Rattle.hs_agent.specs.Keeping.{PlainAgent}
+use Rattle.hs_agent.specs.Runs.{Follows, new_run}
+use Rattle.hs_base.specs.declared.told.Told.{Told}
 use Rattle.hs_law_journal.specs.Turns.{Lent, Begins, Takes}
 use Rattle.hs_law_journal.proofs.Lents.{turns_more}
+use Rattle.hs_run_agent.specs.Work.{no_work}
+use Rattle.hs_words.specs.Pools.{PoolName}
 
 -- ---- work
 
@@ -33,6 +38,11 @@ module _ (settings : PlainSettings) (node : ℕ) where
       subst (λ (lents : List Lent). AreTurns settings node lents events turns) (sym (map-append lent_of came more)) (turns_more settings node (map lent_of came) (map lent_of more) events turns are)
 
 -- ---- what stands
+
+-- an agent that has taken nothing
+pub works_none : (W : PlainWorkload) (node : ℕ) (pool : PoolName) (agent : PlainAgent Leased) (said : List Told) → said ≡ [] → Follows agent (new_run W.settings node) → AgentWorks W (no_work node pool) agent said
+works_none W node pool agent said none follows =
+    record { is = record { buffers = []; follows = follows; labels = refl; pooled = tt; pages = tt; sheets = refl; within = tt; hands = tt }; said_is = none }
 
 module _ (W : PlainWorkload) (work : NodeWork) where
   -- an input more

@@ -48,7 +48,6 @@ impl Model for AgentActor {
 
 impl AgentActor {
     /// The agent of a node that has taken nothing, with a port of which nothing was taken. It is the actor with this number.
-    #[tactic(auto, using(crate::proofs::Stages::turns_begin))]
     pub fn make(
         alloc: Global,
         actor: u32,

@@ -2,3 +2,4 @@ pub mod ClaimLemmas
 pub mod PageLemmas
 pub mod RuleLemmas
 pub mod Pairs
+pub mod Sites

@@ -1,4 +1,5 @@
--- An agent of node 0 whose pages are of 64 bytes and which knows the trigger id 1, after so many events at most, with no chunk out.
+-- An agent of node 0 whose pages are of 64 bytes and which knows the trigger id 1, after so many events at most, with no chunk out. It
+-- forgot no group.
 use Rattle.std.specs.Prelude.{◌≡◌, ℕ, ◌<◌, ◌≤◌, length, None, true, IsSome}
 use Rattle.hs_base.specs.declared.limits.TheConstants.{MIN_SIZE, MAX_NODES}
 use Rattle.hs_base.specs.Rules.{is_declared}
@@ -9,6 +10,7 @@ use Rattle.hs_agent.specs.declared.input.Input.TheVariants as inputs
 use Rattle.hs_agent.specs.Keeping.{PlainAgent}
 use Rattle.hs_agent.specs.Points.{sheet_in}
 use Rattle.hs_agent.specs.Runs.{Run, Knows}
+use Rattle.hs_law_agent.specs.State.{start}
 
 abbrev pub first_id : TriggerId
 first_id = record { 0 = 1 }
@@ -18,6 +20,7 @@ pub record IsOfSite {L : Type 0} (run : Run L) : Type 0 where
   pub size : run.settings.size ≡ MIN_SIZE
   pub nodes : run.settings.nodes ≡ MAX_NODES
   pub declared : is_declared run.settings.triggers first_id ≡ true
+  pub begins : run.start ≡ start run.settings
 
 pub record IsRested {L : Type 0} (events : ℕ) (run : Run L) : Type 0 where
   pub site : IsOfSite run

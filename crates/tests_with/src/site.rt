@@ -111,6 +111,7 @@ impl Site {
         self.take(Input::Trigger { client: 0, trigger })
     }
 
+    #[tactic(auto, using(crate::proofs::Sites::few_here))]
     fn take(&mut self, input: Input<()>) -> Result<Option<Told>, Memory>
         requires { Fits input }
     {

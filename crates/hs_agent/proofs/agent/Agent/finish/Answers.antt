@@ -1,6 +1,7 @@
 use Rattle.std.proofs.Common.{◌≡◌, ℕ, List, None, map, sym, ap, subst, ◌∙◌}
 use Rattle.hs_agent.proofs.Prelude.{IfOk, PlainAgentBook, agent_book_of, Step, book_of, Kept, PlainAgent, Holds, Point, Run, Follows, point_of, state_of}
 use Rattle.hs_agent.specs.declared.input.Finished.{Finished}
+use Rattle.hs_agent.proofs.Following.{one_place}
 use Rattle.hs_agent.proofs.agent.Agent.finish.Goals as goal
 
 pub finish-requires : goal.finish-requires
@@ -8,7 +9,7 @@ finish-requires g c =
     let known = c.requires (sym (ap (λ (k : PlainAgent g.row.L.Denot). k.spent) c.self.view_is) ∙ c.if-self.false) in
     let run = known.0 in
     let h : Holds c.self.inside.holdings (point_of run) = subst (λ (k : PlainAgent g.row.L.Denot). Holds k.kept (point_of run)) (sym c.self.view_is) known.1.stands.chunks in
-    (point_of run, h, (known.2.1, c.standings_partition.ensures run.settings run.node run.events))
+    (point_of run, h, (known.2.1, one_place c.lists_go_on.ensures c.args.self run known.1))
 
 pub returns-clause-book : goal.returns-clause-book
 returns-clause-book g c = λ run follows.

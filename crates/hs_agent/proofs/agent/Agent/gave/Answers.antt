@@ -1,20 +1,20 @@
 use Rattle.std.proofs.Common.{◌≡◌, ◌<◌, [], ◌∷◌, ◌++◌, List, length, Option, IsSome, refl, sym, ap, subst, ◌∙◌}
 use Rattle.hs_agent.proofs.Prelude.{IfSome, Kept, PlainAgent, Holds, answered, Run, Follows, point_of, state_of}
-use Rattle.hs_agent.proofs.Following.{offered-within, follows-answered}
+use Rattle.hs_agent.proofs.Following.{offered-within, follows-answered, one_place}
 use Rattle.hs_agent.proofs.agent.Agent.gave.Goals as goal
 
 pub answer-requires : goal.answer-requires
 answer-requires g c =
     let known = c.requires (sym (ap (λ (k : PlainAgent g.row.L.Denot). k.spent) c.self.view_is) ∙ c.if-self.false) in
     subst (λ (k : PlainAgent g.row.L.Denot). IfSome k.kept.offered (λ place. place < length k.kept.leases) × IsSome k.kept.offered) (sym c.self.view_is)
-    (offered-within c.args.self.now.kept (point_of known.0) known.1.stands.chunks (c.standings_partition.ensures known.0.settings known.0.node known.0.events) known.2)
+    (offered-within c.args.self.now.kept (point_of known.0) known.1.stands.chunks (one_place c.lists_go_on.ensures c.args.self.now known.0 known.1) known.2)
 
 pub returns-clause-after : goal.returns-clause-after
 returns-clause-after g c = λ run follows.
     let known = c.requires follows.working in
     let some : IsSome run.offered = subst IsSome (sym known.1.stands.chunks.offered ∙ follows.stands.chunks.offered) known.2 in
     let next : PlainAgent g.row.L.Denot = record { kept = c.answer.new.self; schedule = c.self.inside.scheduler; log = c.push.new.self.items; spent = c.self.inside.spent } in
-    follows-answered c.args.self.now next run follows c.events_go_on.ensures (c.standings_partition.ensures run.settings run.node run.events) some {g = g.L.Token} c.args.given
+    follows-answered c.args.self.now next run follows c.events_lead_on.ensures (one_place c.lists_go_on.ensures c.args.self.now run follows) some {g = g.L.Token} c.args.given
     (c.answer.ensures ∙ (λ i. answered (c.answer_in-step.ensures.back i) (c.self.view_is i).kept))
     (ap (λ (k : PlainAgent g.row.L.Denot). k.schedule) c.self.view_is)
     (c.push.ensures.items ∙ (λ i. (c.self.view_is i).log ++ c.answer_in-step.ensures.step i ∷ []))

@@ -16,4 +16,4 @@ invariant_of-self-2 c = λ working.
     let more = length-append run.events (Gave (answer_of c.unread.result) ∷ []) in
     let few = known.2.few in
     let site = known.2.site in
-    (after_answer (after_offer run) c.unread.result, c.gave.ensures.after (after_offer run) offered, record { site = record { node = site.node; size = site.size; nodes = site.nodes; declared = site.declared }; few = omega (arith, more, few); offered = refl })
+    (after_answer (after_offer run) c.unread.result, c.gave.ensures.after (after_offer run) offered, record { site = record { node = site.node; size = site.size; nodes = site.nodes; declared = site.declared; begins = site.begins }; few = omega (arith, more, few); offered = refl })
