@@ -100,6 +100,14 @@ abbrev pub is_watched : Command → Bool
 is_watched Watch = true
 is_watched command = false
 
+-- whether a command only looks at its workload; the others use it up
+abbrev pub only_looks : Command → Bool
+only_looks Check = true
+only_looks (Make seed size) = true
+only_looks (Drill seed size) = true
+only_looks (Compare one_in room) = true
+only_looks command = false
+
 -- ---- words
 
 abbrev pub needed : Text → Rule
@@ -108,13 +116,17 @@ needed name = record (new_rule name) { required = true }
 abbrev pub flag : Text → Rule
 flag name = record (new_rule name) { long = Some name; action = Some SetTrue }
 
+-- the three words of a call: a command, a seed and a size
+abbrev pub with_words : App → App
+with_words app = with_rule (with_rule (with_rule app (needed (codes "COMMAND"))) (new_rule (codes "SEED"))) (new_rule (codes "SIZE"))
+
+-- and its two flags
+abbrev pub with_flags : App → App
+with_flags app = with_rule (with_rule app (flag (codes "json"))) (flag (codes "watch"))
+
 -- how words are told apart
 abbrev pub parser : App
-parser =
-    with_rule (with_rule (with_rule (with_rule (with_rule
-    (on_top (λ top. record top { disable_help_flag = true }) (new_app (codes "hindsight")))
-    (needed (codes "COMMAND")))
-    (new_rule (codes "SEED"))) (new_rule (codes "SIZE"))) (flag (codes "json"))) (flag (codes "watch"))
+parser = with_flags (with_words (on_top (λ top. record top { disable_help_flag = true }) (new_app (codes "hindsight"))))
 
 abbrev pub is_set : Text → List Row → Bool
 is_set name rows = option_map_or (λ value. bytes_eq value (codes "true")) (first_of name rows) false

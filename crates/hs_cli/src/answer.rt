@@ -1,10 +1,10 @@
 //! The workload that a command is about, and what it answers for it.
 
-ghost use Rattle.std.specs.Prelude.{◌≡◌, ◌≤◌, ◌⊎◌, ◌++◌, [], false, IfOk, length};
+ghost use Rattle.std.specs.Prelude.{◌≡◌, ◌≤◌, ◌⊎◌, ◌++◌, [], true, false, IfOk, length};
 ghost use Rattle.hs_base.specs.declared.limits.TheConstants.{MAX_INPUT};
 ghost use Rattle.hs_records.specs.Validity.{IsValid};
 ghost use Rattle.hs_records.specs.Views.{workload_of};
-ghost use Rattle.hs_cli.specs.Commands.{IsSized, is_watched};
+ghost use Rattle.hs_cli.specs.Commands.{IsSized, is_watched, only_looks};
 ghost use Rattle.hs_cli.specs.Endings.{Due, IsReader, IsUntouched, drill_text, workload_in, journal_in};
 ghost use Rattle.hs_cli.specs.declared.command.Command.TheVariants.{Replay, Run, Convert};
 ghost use Rattle.hs_cli.specs.Answers.{IsSubject, IsFoundIn, IsAnswer};
@@ -203,6 +203,33 @@ fn drilled(alloc: Global, workload: &Workload) -> Result<Bytes, Memory>
     write_total(alloc, &outcome)
 }
 
+/// What a command answers that only looks at its workload. `check` looks at the text of a journal too.
+fn looked_up(
+    alloc: Global,
+    command: Command,
+    workload: &Workload,
+    journal: &[u8],
+) -> Result<Answer, Memory>
+    requires sized { IsSized command }
+    requires looks { only_looks command ≡ true }
+    requires valid { IsValid (workload_of workload.now) }
+    requires short { length journal.now ≤ MAX_INPUT }
+    ensures { IfOk result (λ answer. IsAnswer command (workload_of workload.now) journal.now answer.status (answer.front.items ++ answer.text.items)) }
+{
+    match command {
+        Command::Check => judge(alloc, workload, journal),
+        Command::Make { seed: _, size: _ } => Ok(done(alloc, write_workload(alloc, workload)?)),
+        Command::Drill { seed: _, size: _ } => Ok(done(alloc, drilled(alloc, workload)?)),
+        Command::Compare { one_in, room } => {
+            Ok(done(alloc, comparison(alloc, workload, one_in, room)?))
+        }
+        Command::Replay { form: _ }
+        | Command::Run { form: _ }
+        | Command::Watch
+        | Command::Convert => { unreachable!() }
+    }
+}
+
 /// What a command without watchers answers for a workload, and `check` for a workload and the text of a journal. Each actor of a
 /// run passes the gate before each of its steps.
 pub(crate) fn answer_for<R: Threads + Sync, G: Gate>(
@@ -220,15 +247,13 @@ pub(crate) fn answer_for<R: Threads + Sync, G: Gate>(
     ensures { IfOk result (λ answer. IsAnswer command (workload_of workload) journal.now answer.status (answer.front.items ++ answer.text.items)) }
 {
     match command {
-        Command::Check => judge(alloc, &workload, journal),
         Command::Replay { form } => Ok(done_with(replayed(alloc, workload, form)?)),
         Command::Run { form } => Ok(done_with(ran(rt, alloc, gate, workload, form)?)),
-        Command::Watch => unreachable!(),
         Command::Convert => Ok(done(alloc, converted(alloc, workload)?)),
-        Command::Make { seed: _, size: _ } => Ok(done(alloc, write_workload(alloc, &workload)?)),
-        Command::Drill { seed: _, size: _ } => Ok(done(alloc, drilled(alloc, &workload)?)),
-        Command::Compare { one_in, room } => {
-            Ok(done(alloc, comparison(alloc, &workload, one_in, room)?))
-        }
+        Command::Watch => unreachable!(),
+        Command::Check
+        | Command::Make { seed: _, size: _ }
+        | Command::Drill { seed: _, size: _ }
+        | Command::Compare { one_in: _, room: _ } => looked_up(alloc, command, &workload, journal),
     }
 }

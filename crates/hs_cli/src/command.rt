@@ -2,7 +2,7 @@
 
 ghost use Rattle.std.specs.Prelude.{◌≡◌, ◌≤◌, false, Option, IfOk, IfSome, map, string_bytes, option_map};
 ghost use Rattle.hs_base.specs.declared.limits.TheConstants.{MAX_REQUESTS};
-ghost use Rattle.hs_cli.specs.Commands.{Line, command_of, command_in, unwatched_in, asks_to_watch, is_watched, line_in, line_of, is_set, named, parser, needed, flag, seed_of, size_of, form_in, run_in, number_within, sizes_in, samplers_in, AreSamplers, is_alone, alone, IsSized};
+ghost use Rattle.hs_cli.specs.Commands.{Line, command_of, command_in, unwatched_in, asks_to_watch, is_watched, line_in, line_of, is_set, named, parser, with_words, with_flags, needed, flag, seed_of, size_of, form_in, run_in, number_within, sizes_in, samplers_in, AreSamplers, is_alone, alone, IsSized};
 ghost use Rattle.clap.specs.Words.{app_of, rule_of, first_of, found_of, rows_of};
 
 use clap::error::ErrorKind;
@@ -199,19 +199,31 @@ fn flag<'a>(alloc: Global, name: &'a str) -> Arg<'a>
     Arg::new(alloc, name).long(name).action(ArgAction::SetTrue)
 }
 
-/// How the words of a call are told apart: a command, a seed and a size behind it, and two flags anywhere.
+/// With the three words of a call: a command, and behind it a seed and a size.
+fn with_words<'a>(alloc: Global, parser: Parser<'a>) -> Result<Parser<'a>, Memory>
+    ensures { IfOk result (λ p. app_of p ≡ with_words (app_of parser.entry)) }
+{
+    Ok(
+        parser
+            .arg(needed(alloc, "COMMAND"))?
+            .arg(Arg::new(alloc, "SEED"))?
+            .arg(Arg::new(alloc, "SIZE"))?,
+    )
+}
+
+/// With the two flags, which may stand anywhere.
+fn with_flags<'a>(alloc: Global, parser: Parser<'a>) -> Result<Parser<'a>, Memory>
+    ensures { IfOk result (λ p. app_of p ≡ with_flags (app_of parser.entry)) }
+{
+    Ok(parser.arg(flag(alloc, "json"))?.arg(flag(alloc, "watch"))?)
+}
+
+/// How the words of a call are told apart.
 fn parser<'a>(alloc: Global) -> Result<Parser<'a>, Memory>
     ensures { IfOk result (λ p. app_of p ≡ parser) }
 {
-    Ok(
-        Parser::new(alloc, "hindsight")
-            .disable_help_flag(true)
-            .arg(needed(alloc, "COMMAND"))?
-            .arg(Arg::new(alloc, "SEED"))?
-            .arg(Arg::new(alloc, "SIZE"))?
-            .arg(flag(alloc, "json"))?
-            .arg(flag(alloc, "watch"))?,
-    )
+    let bare = Parser::new(alloc, "hindsight").disable_help_flag(true);
+    with_flags(alloc, with_words(alloc, bare)?)
 }
 
 /// The word of this name, if it is there.

@@ -1,8 +1,15 @@
 //! What `run --watch` does.
 
 ghost use Rattle.std.specs.Prelude.{◌≡◌, ◌++◌, [], map, IfOk};
+ghost use Rattle.hs_records.specs.Journals.{PlainJournal};
+ghost use Rattle.hs_records.specs.Plain.{PlainWorkload};
 ghost use Rattle.hs_records.specs.Validity.{IsValid};
 ghost use Rattle.hs_records.specs.Views.{workload_of};
+ghost use Rattle.hs_law_journal.specs.Lawful.{IsLawful};
+ghost use Rattle.hs_outcome.specs.Outcomes.{IsOutcome};
+ghost use Rattle.hs_report.specs.OutcomeText.{outcome_text};
+ghost use Rattle.hs_report.specs.declared.form.Form.TheVariants.{Text as Lines};
+ghost use Rattle.hs_run.specs.Ended.{items_of};
 ghost use Rattle.hs_board.specs.WatchText.{watch_text};
 ghost use Rattle.hs_cli.specs.Endings.{Due, EndsWith};
 ghost use Rattle.hs_cli.specs.declared.command.Command.TheVariants.{Watch};
@@ -14,7 +21,7 @@ use hs_board::{Progress, write_watched};
 use hs_json::write_outcome;
 use hs_records::Workload;
 use hs_report::Form;
-use hs_run::run_watched;
+use hs_run::{Watched, run_watched};
 use hs_streams::{Status, finish, refuse_too_long};
 use std::alloc::Global;
 use std::marker::Sync;
@@ -55,6 +62,15 @@ fn answer_watched<R: Threads + Wait + Sync, G: Gate>(
     ensures { IfOk result (λ text. Due Watch (workload_of workload.now) [] text.items) }
 {
     let watched = run_watched(rt, alloc, workload, gate)?;
+    watched_text(alloc, &watched)
+}
+
+/// The text of a run and of its watchers.
+fn watched_text(alloc: Global, watched: &Watched) -> Result<Bytes, Memory>
+    requires { (W : PlainWorkload) × (J : PlainJournal) × IsValid W × IsLawful W J × IsOutcome W J watched.now.outcome }
+    ensures { IfOk result (λ text. (W : PlainWorkload) (J : PlainJournal) → IsValid W → IsLawful W J → IsOutcome W J watched.now.outcome
+        → text.items ≡ outcome_text W J Lines ++ watch_text (items_of watched.now.seen.items)) }
+{
     let text = write_outcome(alloc, &watched.outcome, Form::Text)?;
     with_watchers(text, watched.seen.as_slice())
 }
