@@ -1,6 +1,6 @@
-//! Tables over the parts of the program: the ground and the formats, what runs in a service, the collector, the agent's parts, the
-//! coordinator, a node's agent and the other samplers. Each call is made near its greatest size, with nothing at all, or with values from
-//! outside that no file of `examples/` or `cases/` has.
+//! Tables over the parts of the program: the ground and the formats, what runs in a service, its messages, the collector, the agent's
+//! parts, the coordinator, a node's agent and the other samplers. Each call is made near its greatest size, with nothing at all, or with
+//! values from outside that no file of `examples/` or `cases/` has.
 #![tactic(auto)]
 
 #[cfg(test)]
@@ -35,6 +35,8 @@ mod rows;
 mod sched;
 #[cfg(test)]
 mod text;
+#[cfg(test)]
+mod wire;
 #[cfg(test)]
 mod words;
 #[cfg(test)]

@@ -1,0 +1,6 @@
+pub mod Prelude
+pub mod Readers
+pub mod Spellings
+pub mod Putting
+pub mod Finding
+pub mod Loops
