@@ -15,3 +15,4 @@ pub mod Sound
 pub mod Remembering
 pub mod LookBack
 pub mod Forgetting
+pub mod Receiving

@@ -14,3 +14,4 @@ pub mod PinsLayout
 pub mod Calls
 pub mod PinningExamples
 pub mod PinsExamples
+pub mod Receiving

@@ -8,6 +8,8 @@ ghost use Rattle.hs_pins.specs.Abandoning.{drops, relieved};
 ghost use Rattle.hs_pins.specs.Waiting.{used_bytes, taken};
 ghost use Rattle.hs_pins.specs.PinsLayout.{Remembers, KnowsThat, waiting, bucket_in, fresh_buckets_of, Attempts};
 
+mod receive;
+
 use crate::abandon::abandon_over;
 use crate::bucket::{Attempt, Bucket};
 use crate::claim::{Admitted, Dropped, Taken2};
