@@ -36,3 +36,4 @@ pub mod Meeting
 pub mod Few
 pub mod Brought
 pub mod Forgetting
+pub mod Emptying

@@ -1,15 +1,15 @@
 -- A chunk that was taken: what is kept then is what the model says.
 use Rattle.std.proofs.Common.{◌≡◌, ℕ, ◌+◌, ◌≤◌, ◌<◌, ◌^◌, Bool, true, false, cond, [], ◌∷◌, ◌++◌, length, map, Option, Some, None, sym, ap, subst, ◌∙◌}
-use Rattle.hs_agent.proofs.Prelude.{option_map, option_map_or, option_and_then, by_answer, TraceId, Header, Sheet, used_of, header_of, Buffer, Claim, Remembered, claim_of, arrived, with_pin, Pinning, Remembers, drops, relieved, AgentState, ClaimedTrace, is_abandoned, abandon, evict, with_indexed, with_pinned, with_abandoned, pin_chunk, take_chunk, ArrivalPlace, Placed, placed_at, Kept, Holds, Point, with_state, plain_claim, Going, let_go_all, abandoned_going, abandoned_fate, noted, indexed, ArrivesAtPins, sheet_in, chunk_taken}
+use Rattle.hs_agent.proofs.Prelude.{option_map, option_map_or, option_and_then, by_answer, TraceId, Header, Sheet, used_of, header_of, Buffer, Claim, Remembered, claim_of, pin_for, arrived, with_pin, Pinning, Remembers, drops, relieved, AgentState, ClaimedTrace, is_abandoned, abandon, evict, with_indexed, with_pinned, with_abandoned, pin_chunk, take_chunk, ArrivalPlace, Placed, placed_at, Kept, Holds, Point, with_state, plain_claim, Going, let_go_all, abandoned_going, abandoned_fate, noted, indexed, sheet_in, chunk_taken}
 use Rattle.hs_words.specs.Chunks.{header_in}
 use Rattle.hs_index.specs.Index as index
 use Rattle.hs_pins.specs.Remembered.{claim_for}
 use Rattle.hs_pins.specs.Remembered as pins
-use Rattle.hs_agent.specs.Arriving.{goings_with}
+use Rattle.hs_agent.specs.Trying.{ComesToPins}
 use Rattle.hs_agent.proofs.Arrived.{holds-arrived, holds-pinned, holds-dropped}
 use Rattle.hs_agent.proofs.Crumbed.{claim_known}
 use Rattle.hs_agent.proofs.Relieving.{holds-abandoned}
-use Rattle.hs_agent.proofs.Returning.{back-for, arrived-for}
+use Rattle.hs_agent.proofs.Returning.{back-for, arrived-for, goes-for}
 use Rattle.hs_agent.proofs.Settling.{holds-settled}
 
 module _ {L : Type 0} (old : Kept L) (point : Point L) (h : Holds old point) (buffer : Buffer L) (sheet : Sheet)
@@ -39,7 +39,7 @@ module _ {L : Type 0} (old : Kept L) (point : Point L) (h : Holds old point) (bu
       (sym (taken_by ∙ ap (λ o. at (option_map_or (λ (claim : ClaimedTrace). pin_chunk point.settings sheet claim.group point.state) (option_map plain_claim o) (evict point.settings (with_indexed sheet point.state)))) free))
       (holds-settled (record came { index = index.arrived old.index placed }) (at (with_indexed sheet point.state)) (holds-arrived old point h buffer sheet page size room free))
 
-  module _ (claim : Claim) (found : claim_of h.memory.claims trace ≡ Some claim) (new : Kept L) (arrives : ArrivesAtPins h.memory claim.group placed came new) where
+  module _ (claim : Claim) (found : claim_of h.memory.claims trace ≡ Some claim) (new : Kept L) (arrives : ComesToPins h.memory placed came new) where
     abbrev taken : Bool → AgentState
     taken gone = cond gone (with_abandoned sheet claim.group point.state) (abandon point.settings (with_pinned sheet claim.group point.state))
 
@@ -58,8 +58,8 @@ module _ {L : Type 0} (old : Kept L) (point : Point L) (h : Holds old point) (bu
         (λ y.
         let back = back-for h.memory placed claim of_claim ∙ y in
         let remembers : Remembers new.pins h.memory = subst (Remembers new.pins) (ap (λ b. cond b h.memory (relieved (arrived h.memory placed))) back) arrives.remembers in
-        subst (λ k. Holds k (chunk_taken buffer point))
-        (sym (arrives.gone ∙ ap (λ b. let_go_all (record came { pins = new.pins }) (cond b (record { buffer = placed; fate = abandoned_fate claim.group } ∷ []) (map abandoned_going (drops (arrived h.memory placed))))) back))
+        let gone = goes-for h.memory placed claim of_claim ∙ ap (λ b. cond b (pin_for claim.group placed ∷ []) (drops (arrived h.memory placed))) y in
+        subst (λ k. Holds k (chunk_taken buffer point)) (sym (arrives.gone ∙ ap (λ ps. let_go_all (record came { pins = new.pins }) (map abandoned_going ps)) gone))
         (subst (Holds (let_go_all (record came { pins = new.pins }) (record { buffer = placed; fate = abandoned_fate claim.group } ∷ []))) (sym (taken_now ∙ ap (λ b. at (taken b)) y))
         (holds-dropped old point h buffer sheet page size room claim.group new.pins remembers)))
         (λ n.
@@ -69,9 +69,7 @@ module _ {L : Type 0} (old : Kept L) (point : Point L) (h : Holds old point) (bu
         let now = holds-pinned old point h buffer sheet page size room claim.group arrives.between between in
         let remembers : Remembers new.pins (relieved now.0.memory) =
         subst (Remembers new.pins) (ap (λ b. cond b h.memory (relieved (arrived h.memory placed))) stays ∙ ap relieved (pinned ∙ sym now.1)) arrives.remembers in
-        subst (λ k. Holds k (chunk_taken buffer point))
-        (sym (arrives.gone
-        ∙ ap (λ b. let_go_all (record came { pins = new.pins }) (cond b (record { buffer = placed; fate = abandoned_fate claim.group } ∷ []) (map abandoned_going (drops (arrived h.memory placed))))) stays
-        ∙ ap (λ m. let_go_all (record came { pins = new.pins }) (map abandoned_going (drops m))) (pinned ∙ sym now.1)))
+        let gone = goes-for h.memory placed claim of_claim ∙ ap (λ b. cond b (pin_for claim.group placed ∷ []) (drops (arrived h.memory placed))) n ∙ ap drops (pinned ∙ sym now.1) in
+        subst (λ k. Holds k (chunk_taken buffer point)) (sym (arrives.gone ∙ ap (λ ps. let_go_all (record came { pins = new.pins }) (map abandoned_going ps)) gone))
         (subst (Holds (let_go_all (record came { pins = new.pins }) (map abandoned_going (drops now.0.memory)))) (sym (taken_now ∙ ap (λ b. at (taken b)) n))
         (holds-abandoned (record came { pins = arrives.between }) new.pins (at (with_pinned sheet claim.group point.state)) now.0 remembers)))

@@ -10,3 +10,5 @@ pub mod AgentLayout
 pub mod Runs
 pub mod Calls
 pub mod CallExamples
+pub mod Trying
+pub mod Tries

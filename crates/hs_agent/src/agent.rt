@@ -15,6 +15,8 @@ ghost use Rattle.hs_agent.specs.Keeping.{Point, Holds, HoldsThat, with_state};
 ghost use Rattle.hs_agent.specs.Runs.{Run, point_of, state_of, new_run, StandsAt, Follows, Knows, IsSpent, IsTakable, input_of, taken_in, after_input, after_chunk, after_turn, told_in, IsChunkFor, offered_next, after_offer, answer_of, back_in, after_answer, forgetting};
 ghost use Rattle.hs_agent.specs.Points.{buffers_left};
 
+mod trying;
+
 use crate::holdings::Holdings;
 use crate::input::{Finished, Input};
 use hs_base::limits::MOST_NODES;
@@ -109,28 +111,13 @@ impl<L: Token> Agent<L> {
         ensures spent { OnErr result (IsSpent self.new) }
         ensures stays { IsSpent self.old → IsErr result }
     {
-        if self.spent {
-            return Err(Memory);
-        }
-        match self.note_chunk(client, held) {
+        match self.try_chunk(client, held) {
             Ok(()) => Ok(()),
             Err(_) => {
                 self.spent = true;
                 Err(Memory)
             }
         }
-    }
-
-    /// Takes a chunk where memory was never wanting.
-    fn note_chunk(&mut self, client: u16, held: Held<L>) -> Result<(), Memory>
-        requires { (run : Run L) × Follows self.old run × IsChunkFor run.settings run.node client (buffer_of held) }
-        ensures { (run : Run L) → Follows self.old run → OnOk result (Follows self.new (after_chunk run client (buffer_of held))) }
-    {
-        events_lead_on();
-        self.log.reserve(2)?;
-        self.holdings.take_chunk(held)?;
-        self.log.push(Step::Chunk { client });
-        Ok(())
     }
 
     /// Makes a fair turn, and notes one step in the log, as `step` does of this input. Nothing is told of it.

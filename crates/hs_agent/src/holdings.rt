@@ -30,6 +30,9 @@ ghost use Rattle.hs_agent.specs.Arriving.{noted, indexed, ArrivesAtPins};
 ghost use Rattle.hs_agent.specs.Offering.{Offers, answered};
 ghost use Rattle.hs_agent.specs.Points.{chunk_taken, crumb_taken, trigger_taken, claimed_for, buffers_left};
 
+mod trying;
+
+use crate::holdings::trying::evict_into;
 use crate::input::Finished;
 use crate::placed::{ArrivalPlace, Pledge};
 use hs_base::limits::MOST_NODES;
@@ -37,11 +40,11 @@ use hs_base::{
     Ask, Bytes, Crumb, Fate, Group, GroupId, List, Memory, NodeId, NodeSet, Settings, Told,
     TraceId, Trigger, TriggerId, Why, rank_of,
 };
-use hs_index::{Gone, TraceIndex};
+use hs_index::TraceIndex;
 use hs_pins::{Admitted, Dropped, Pins, Taken2, is_group};
 use hs_records::{AgentBook, Claim, Standing, Step};
 use hs_sched::Queues;
-use hs_words::{Chunk, Header, Held, Token};
+use hs_words::{Chunk, Held, Token};
 use std::alloc::Global;
 use std::collections::VecDeque;
 use std::marker::Model;
@@ -109,79 +112,26 @@ impl<L: Token> Holdings<L> {
         requires known { HoldsThat self.old (λ point. Unit {0}) }
         ensures { (point : Point L) → Holds self.old point → held.chunk.size ≡ point.settings.size → OnOk result (Holds self.new (chunk_taken (buffer_of held) point)) }
     {
-        let Some(header) = held.chunk.header() else {
-            unreachable!()
-        };
-        let held = self.note(header, held)?;
-        match self.pins.owner(header.trace) {
-            Some(group) => self.pin(held, group),
-            None => self.index_chunk(held),
-        }
-    }
-
-    /// Notes a chunk that came, whose page has this header, and keeps its lease. There are 2^32 - 1 chunks at most.
-    fn note(&mut self, header: Header, held: Held<L>) -> Result<Held<ArrivalPlace>, Memory>
-        ensures noted { OnOk result (self.new ≡ noted header (buffer_of held) self.old) }
-        ensures placed { IfOk result (λ placed. buffer_of placed ≡ placed_at (length self.old.standings) (buffer_of held)) }
-        ensures fits { OnOk result (length self.old.standings + 1 < 2 ^ 32) }
-        ensures used { OnOk result (used_in held.chunk ≤ held.chunk.size) }
-    {
-        let Ok(place) = u32::try_from(self.standings.len()) else {
-            return Err(Memory);
-        };
-        if place == u32::MAX {
-            return Err(Memory);
-        }
-        self.standings.append(Standing {
-            client: header.client,
-            page: header.page,
-            fate: Fate::Live,
-        })?;
-        let Held { chunk, lease } = held;
-        let number = chunk.number();
-        let _used = chunk.used();
-        self.leases.append(Some(Pledge { lease, number }))?;
-        Ok(Held {
-            chunk,
-            lease: ArrivalPlace(place),
-        })
-    }
-
-    /// Indexes a chunk of a trace that nobody claimed, and lets go what is too much then.
-    fn index_chunk(&mut self, held: Held<ArrivalPlace>) -> Result<(), Memory>
-        requires { IsSome held.chunk.page }
-        ensures { OnOk result (self.new ≡ indexed (buffer_of held) self.old) }
-    {
-        match self.index.arrive(held) {
-            Ok(gone) => self.evict(gone),
+        match self.try_chunk(held) {
+            Ok(()) => Ok(()),
             Err(_) => Err(Memory),
         }
     }
 
-    /// Pins a chunk of a trace that the group claimed, or lets it go where the group was abandoned.
-    fn pin(&mut self, held: Held<ArrivalPlace>, group: Group) -> Result<(), Memory>
-        requires { KnowsThat self.old.pins (λ memory. (IsSome (claim_for memory.claims (buffer_of held))) × (length memory.pinned + 1 < 2 ^ 32)) }
-        ensures { (memory : Remembered ArrivalPlace) → Remembers self.old.pins memory → OnOk result (ArrivesAtPins memory group (buffer_of held) self.old self.new) }
-    {
-        let room = (self.pins.chunks() as usize).saturating_add(1);
-        self.sent.reserve(room)?;
-        match self.pins.arrive(held) {
-            Ok(None) => self.abandon(),
-            Ok(Some(held)) => self.let_go(held, abandoned(group)),
-            Err(_) => Err(Memory),
-        }
-    }
-
-    /// Takes a crumb. Answers what is to be told, if its trace is claimed and its node is new there.
+    /// Takes a crumb. Answers what is to be told, if its trace is claimed and its node is new there. For want of memory
+    /// nothing changes.
     pub fn take_crumb(&mut self, crumb: Crumb) -> Result<Option<Told>, Memory>
         requires node { crumb.node.0 < MOST_NODES }
         requires known { HoldsThat self.old (λ point. Unit {0}) }
         ensures told { (point : Point L) → Holds self.old point → IfOk result (λ told. told ≡ model.told_by point.settings point.node point.state (model.Crumbed 0 crumb)) }
         ensures after { (point : Point L) → Holds self.old point → OnOk result (Holds self.new (crumb_taken crumb point)) }
+        ensures same { OnErr result (self.new ≡ self.old) }
     {
         let Some(group) = self.pins.owner(crumb.trace) else {
+            let room = (self.index.chunks() as usize).saturating_add(1);
+            self.hand.reserve(room)?;
             let gone = self.index.crumb(crumb)?;
-            self.evict(gone)?;
+            evict_into(&mut self.standings, &mut self.hand, gone);
             return Ok(None);
         };
         if !self.pins.crumb(crumb) {
@@ -303,21 +253,6 @@ impl<L: Token> Holdings<L> {
         for dropped in self.pins.abandon()?.into_vec() {
             let Dropped { held, group } = dropped;
             self.let_go(held, abandoned(group))?;
-        }
-        Ok(())
-    }
-
-    /// Lets go what the index evicted.
-    fn evict(&mut self, gone: List<Gone<ArrivalPlace>>) -> Result<(), Memory>
-        ensures { OnOk result (self.new ≡ let_go_all self.old (map evicted_going (map leaving_of gone.items))) }
-    {
-        for leaving in gone.into_vec() {
-            let Gone {
-                held,
-                chunks,
-                traces,
-            } = leaving;
-            self.let_go(held, Fate::Evicted { chunks, traces })?;
         }
         Ok(())
     }

@@ -1,69 +1,84 @@
-use Rattle.std.proofs.Common.{◌≡◌, ◌+◌, ◌≤◌, ◌<◌, true, false, cond, [], ◌∷◌, Some, None, length, map, refl, sym, ap, subst, ◌∙◌, arith}
-use Rattle.hs_agent.proofs.Prelude.{option_map, on_ok_weaker, buffer_of, Remembered, arrived, comes_back, pin_of, Remembers, drops, relieved, ArrivalPlace, Kept, kept_in, Going, let_go, let_go_all, abandoned_going, abandoned_fate, ArrivesAtPins}
-use Rattle.hs_pins.proofs.Remembering.{arrived-back}
-use Rattle.hs_agent.proofs.Outcomes.{on_ok_both}
-use Rattle.hs_agent.proofs.Returning.{length-arrived, none-back, some-back}
+use Rattle.std.proofs.Common.{◌≡◌, List, [], ◌∷◌, ◌++◌, length, map, Some, option_map, sym, ap, subst, ◌∙◌, arith}
+use Rattle.hs_agent.proofs.Prelude.{map-append, buffer_of, Standing, pin_of, Remembered, arrived, Remembers, Kept, kept_in, Placed, placed_at, pledged_of, pledges_in, Going, abandoned_going, let_go_all, noted, ArrivalPlace}
+use Rattle.hs_base.specs.declared.told.Fate.TheVariants as fates
+use Rattle.hs_pins.specs.Receiving.{received, goes_with}
+use Rattle.hs_pins.proofs.Receiving.{length-received}
+use Rattle.hs_agent.specs.Trying.{fates_noted}
+use Rattle.hs_agent.proofs.Emptying.{buffers_in, let_go_parts}
 use Rattle.hs_agent.proofs.holdings.Holdings.pin.Goals as goal
 
-pub invariant_of-self-in-Ok-None : goal.invariant_of-self-in-Ok-None
-invariant_of-self-in-Ok-None g c =
+pub receive-requires-clause-claimed : goal.receive-requires-clause-claimed
+receive-requires-clause-claimed g c = (c.requires.0, subst (λ (k : Kept g.row.L.Denot). Remembers k.pins c.requires.0) (sym c.self.view_is) c.requires.1, c.requires.2.0)
+
+pub receive-requires-clause-few : goal.receive-requires-clause-few
+receive-requires-clause-few g c =
+    let pinned = c.requires.2.1 in
+    let fits = c.in-Some.ensures.fits in
+    let here = ap (λ (k : Kept g.row.L.Denot). length k.standings) c.self.view_is in
+    (c.requires.0, subst (λ (k : Kept g.row.L.Denot). Remembers k.pins c.requires.0) (sym c.self.view_is) c.requires.1, omega (arith, pinned, fits, here))
+
+pub drop_into-requires : goal.drop_into-requires
+drop_into-requires g c =
     let memory = c.requires.0 in
-    let remembers : Remembers c.self.inside.pins memory = subst (λ p. Remembers p memory) (sym (ap (λ (k : Kept g.row.L.Denot). k.pins) c.self.view_is)) c.requires.1 in
-    let more = length-arrived memory (buffer_of c.args.held) in
+    let remembers : Remembers c.self.inside.pins memory = subst (λ (k : Kept g.row.L.Denot). Remembers k.pins memory) (sym c.self.view_is) c.requires.1 in
+    let few = c.in-Ok-receive.ensures.few memory remembers in
     let chunks = c.chunks.ensures memory remembers in
     let room = c.saturating_add-room.ensures in
-    let reserved = c.in_ok-reserve.ensures.ok in
-    let few = c.requires.2.1 in
-    record { sent = (arrived memory (buffer_of c.args.held), c.in-Ok-None.ensures.after memory remembers, omega (arith, more, chunks, room, reserved, few)); hand = c.self.invariant.hand }
+    let reserved = c.in-Some.ensures.going in
+    let pinned = c.requires.2.1 in
+    let fits = c.in-Some.ensures.fits in
+    let here = ap (λ (k : Kept g.row.L.Denot). length k.standings) c.self.view_is in
+    omega (arith, few, chunks, room, reserved, pinned, fits, here)
 
-pub invariant_of-self-in-Ok-Some : goal.invariant_of-self-in-Ok-Some
-invariant_of-self-in-Ok-Some g c =
+pub invariant_of-self-in-Ok-receive : goal.invariant_of-self-in-Ok-receive
+invariant_of-self-in-Ok-receive g c =
     let memory = c.requires.0 in
-    let remembers : Remembers c.self.inside.pins memory = subst (λ p. Remembers p memory) (sym (ap (λ (k : Kept g.row.L.Denot). k.pins) c.self.view_is)) c.requires.1 in
-    let more = length-arrived memory (buffer_of c.args.held) in
+    let remembers : Remembers c.self.inside.pins memory = subst (λ (k : Kept g.row.L.Denot). Remembers k.pins memory) (sym c.self.view_is) c.requires.1 in
+    let buffer = buffer_of {L = g.row.L.Denot} {g = g.L.Token} c.args.held in
+    let more = length-received memory (placed_at c.in-Some.place.0 buffer) in
+    let few = c.in-Ok-receive.ensures.few memory remembers in
     let chunks = c.chunks.ensures memory remembers in
     let room = c.saturating_add-room.ensures in
-    let reserved = c.in_ok-reserve.ensures.ok in
-    let few = c.requires.2.1 in
-    record { sent = (arrived memory (buffer_of c.args.held), c.in-Ok-Some.ensures.after memory remembers, omega (arith, more, chunks, room, reserved, few)); hand = c.self.invariant.hand }
-
-pub returns-in-Ok-None : goal.returns-in-Ok-None
-returns-in-Ok-None g c = λ memory known.
-    let chunk = buffer_of c.args.held in
-    let remembers : Remembers c.self.inside.pins memory = subst (λ p. Remembers p memory) (sym (ap (λ (k : Kept g.row.L.Denot). k.pins) c.self.view_is)) known in
-    let now = c.in-Ok-None.ensures.after memory remembers in
-    let no = none-back memory chunk (sym (ap (option_map buffer_of) c.in-Ok-None.field-0-is) ∙ c.in-Ok-None.ensures.back memory remembers) in
-    on_ok_both c.abandon.result (c.abandon.ensures.pins (arrived memory chunk) now) (c.abandon.ensures.gone (arrived memory chunk) now)
-    (λ pins gone. record {
-      between = c.arrive.new.self;
-      arrives = now;
-      remembers = subst (Remembers c.abandon.new.self.pins) (sym (ap (λ b. cond b memory (relieved (arrived memory chunk))) no)) pins;
-      gone =
-          gone
-          ∙ ap (λ (k : Kept g.row.L.Denot). let_go_all (record k { pins = c.abandon.new.self.pins }) (map abandoned_going (drops (arrived memory chunk))))
-          ((λ i. record (kept_in {L = g.row.L.Denot} {g = g.L.Token} c.self.inside) { sent = map pin_of (c.reserve.ensures.items i) }) ∙ c.self.view_is)
-          ∙ sym (ap (λ b. let_go_all (record c.args.self.now { pins = c.abandon.new.self.pins }) (cond b (record { buffer = chunk; fate = abandoned_fate c.args.group } ∷ []) (map abandoned_going (drops (arrived memory chunk))))) no);
-    })
-
-pub returns-in-Ok-Some : goal.returns-in-Ok-Some
-returns-in-Ok-Some g c = λ memory known.
-    let chunk = buffer_of c.args.held in
-    let remembers : Remembers c.self.inside.pins memory = subst (λ p. Remembers p memory) (sym (ap (λ (k : Kept g.row.L.Denot). k.pins) c.self.view_is)) known in
-    let now = c.in-Ok-Some.ensures.after memory remembers in
-    let yes = some-back memory chunk (buffer_of c.in-Ok-Some.held) (sym (ap (option_map buffer_of) c.in-Ok-Some.field-0-is) ∙ c.in-Ok-Some.ensures.back memory remembers) in
-    on_ok_weaker c.let_go.result
-    (λ gone.
-    let pins : c.let_go.new.self.pins ≡ c.arrive.new.self = ap (λ (k : Kept g.row.L.Denot). k.pins) gone in
+    let pinned = c.requires.2.1 in
+    let fits = c.in-Some.ensures.fits in
+    let here = ap (λ (k : Kept g.row.L.Denot). length k.standings) c.self.view_is in
+    let sent = c.in-Ok.ensures.ok in
+    let reserved = c.in-Some.ensures.going in
+    let len = c.drop_into.ensures.len in
+    let capacity = c.drop_into.ensures.capacity in
     record {
-      between = c.arrive.new.self;
-      arrives = now;
-      remembers =
-          subst (Remembers c.let_go.new.self.pins) (sym (ap (λ b. cond b memory (relieved (arrived memory chunk))) yes.0))
-          (subst (λ p. Remembers p memory) (sym pins) (subst (Remembers c.arrive.new.self) (arrived-back memory chunk yes.0) now));
+      sent = (received memory (placed_at c.in-Some.place.0 buffer), c.in-Ok-receive.ensures.after memory remembers, omega (arith, more, chunks, room, sent, pinned, fits, here));
+      hand = λ out. omega (arith, few, chunks, room, reserved, len, capacity, pinned, fits, here);
+    }
+
+pub returns-in-Ok-receive-clause-ok : goal.returns-in-Ok-receive-clause-ok
+returns-in-Ok-receive-clause-ok g c = λ memory known.
+    let kept = kept_in {L = g.row.L.Denot} {g = g.L.Token} c.self.inside in
+    let remembers : Remembers c.self.inside.pins memory = subst (λ (k : Kept g.row.L.Denot). Remembers k.pins memory) (sym c.self.view_is) known in
+    let buffer = buffer_of {L = g.row.L.Denot} {g = g.L.Token} c.args.held in
+    let at : c.in-Some.place.0 ≡ length kept.standings = c.in-Some.ensures.place in
+    let here : length kept.standings ≡ length c.args.self.now.standings = ap (λ (k : Kept g.row.L.Denot). length k.standings) c.self.view_is in
+    let placed : placed_at c.in-Some.place.0 buffer ≡ placed_at (length kept.standings) buffer = ap (λ n. placed_at n buffer) at in
+    let now : placed_at c.in-Some.place.0 buffer ≡ placed_at (length c.args.self.now.standings) buffer = placed ∙ ap (λ n. placed_at n buffer) here in
+    let goes : List Going = map abandoned_going (goes_with memory (placed_at (length kept.standings) buffer)) in
+    let goings : map abandoned_going (map pin_of c.in-Ok-receive.gone.items) ≡ goes =
+    ap (map abandoned_going) (c.in-Ok-receive.ensures.gone memory remembers ∙ ap (goes_with memory) placed) in
+    let new : Standing = record { client = c.args.header.client; page = c.args.header.page; fate = fates.Live } in
+    let standings : c.drop_into.new.standings.items ≡ fates_noted (kept.standings ++ new ∷ []) goes =
+    c.drop_into.ensures.fates ∙ (λ i. fates_noted ((c.push.ensures.items ∙ ap (λ (l : List Standing). l ++ new ∷ []) c.next_place.ensures.standings) i) (goings i)) in
+    let hand : map (buffer_of {L = ArrivalPlace}) c.drop_into.new.hand.items ≡ kept.hand ++ buffers_in goes =
+    c.drop_into.ensures.hand ∙ (λ i. map (buffer_of {L = ArrivalPlace}) (c.next_place.ensures.hand i) ++ buffers_in (goings i)) in
+    let leases : pledges_in {L = g.row.L.Denot} {g = g.L.Token} c.push-in-Ok-receive.new.self.items ≡ kept.leases ++ Some (record { lease = buffer.lease; number = buffer.chunk.number }) ∷ [] =
+    ap (pledges_in {L = g.row.L.Denot} {g = g.L.Token}) c.push-in-Ok-receive.ensures.items
+    ∙ map-append (option_map (pledged_of {L = g.row.L.Denot} {g = g.L.Token})) c.next_place.new.leases.items _
+    ∙ (λ i. pledges_in {L = g.row.L.Denot} {g = g.L.Token} (c.next_place.ensures.leases i) ++ Some (record { lease = buffer.lease; number = c.number-number.ensures i }) ∷ []) in
+    let between = c.in-Ok-receive.ensures.between memory remembers in
+    record {
+      between = between.0;
+      arrives = subst (λ (p : Placed). Remembers between.0 (arrived memory p)) now between.1;
+      remembers = subst (λ (p : Placed). Remembers c.receive.new.self (received memory p)) now (c.in-Ok-receive.ensures.after memory remembers);
       gone =
-          gone
-          ∙ (λ i. let_go (record (kept_in {L = g.row.L.Denot} {g = g.L.Token} c.self.inside) { pins = sym pins i; sent = map pin_of (c.reserve.ensures.items i) }) (record { buffer = yes.1 i; fate = c.abandoned.ensures i }))
-          ∙ ap (λ (k : Kept g.row.L.Denot). let_go (record k { pins = c.let_go.new.self.pins }) (record { buffer = chunk; fate = abandoned_fate c.args.group })) c.self.view_is
-          ∙ sym (ap (λ b. let_go_all (record c.args.self.now { pins = c.let_go.new.self.pins }) (cond b (record { buffer = chunk; fate = abandoned_fate c.args.group } ∷ []) (map abandoned_going (drops (arrived memory chunk))))) yes.0);
-    })
-    c.let_go.ensures
+          (λ i. record kept { pins = c.receive.new.self; sent = map pin_of (c.reserve.ensures.items i); standings = standings i; leases = leases i; hand = hand i })
+          ∙ sym (let_go_parts (record (noted c.args.header buffer kept) { pins = c.receive.new.self }) goes)
+          ∙ ap (λ (k : Kept g.row.L.Denot). let_go_all (record (noted c.args.header buffer k) { pins = c.receive.new.self }) (map abandoned_going (goes_with memory (placed_at (length k.standings) buffer)))) c.self.view_is;
+    }

@@ -1,9 +1,10 @@
-use Rattle.std.proofs.Common.{◌≡◌, true, false, cond, Some, None, Option, map, refl, sym, ap, subst, ◌∙◌}
-use Rattle.hs_agent.proofs.Prelude.{option_map, is_some, Told, Claim, Remembered, claim_of, crumbed, Remembers, leaving_of, settled, going, evict, late_of, with_touched, Kept, Point, Holds, with_state, plain_claim, kept_in, let_go_all, evicted_going, crumb_taken}
+use Rattle.std.proofs.Common.{◌≡◌, true, false, cond, Some, None, Option, map, ◌++◌, refl, sym, ap, subst, ◌∙◌}
+use Rattle.hs_agent.proofs.Prelude.{option_map, is_some, buffer_of, ArrivalPlace, Told, Claim, Remembered, claim_of, crumbed, Remembers, leaving_of, settled, going, evict, late_of, with_touched, Kept, Point, Holds, with_state, plain_claim, kept_in, let_go_all, evicted_going, crumb_taken}
 use Rattle.hs_base.specs.declared.told.Why.TheVariants.{Late}
 use Rattle.hs_pins.specs.Remembered.{has_crumb}
 use Rattle.hs_agent.proofs.Outcomes.{none_mapped, some_mapped, not_false, not_true}
 use Rattle.hs_agent.proofs.Crumbed.{left_touched, holds-touched, takes-touched, tells-nothing, holds-late, tells-late, with_one, claim-crumbed}
+use Rattle.hs_agent.proofs.Emptying.{buffers_in, let_go_from}
 use Rattle.hs_agent.proofs.Settling.{holds-settled}
 use Rattle.hs_agent.proofs.holdings.Holdings.take_crumb.Goals as goal
 
@@ -21,7 +22,8 @@ returns-in_default-clause-after g c = λ point known.
     let free = none_mapped (λ (claim : Claim). claim.group) (claim_of h.memory.claims c.args.crumb.trace) c.owner.result (c.owner.ensures h.memory h.remembers) (ap is_some c.in_default.is) in
     let touched = with_state (with_touched c.args.crumb point.state) point in
     subst (λ k. Holds k (crumb_taken c.args.crumb point))
-    (sym (c.in_ok-evict.ensures
+    (sym (let_go_from kept c.crumb.new.self (map evicted_going (map leaving_of c.in_ok-gone.gone.items)) c.evict_into.new.standings.items (map (buffer_of {L = ArrivalPlace}) c.evict_into.new.hand.items) c.evict_into.ensures.fates
+    (c.evict_into.ensures.hand ∙ (λ i. map (buffer_of {L = ArrivalPlace}) (c.reserve.ensures.items i) ++ buffers_in (map evicted_going (map leaving_of c.in_ok-gone.gone.items))))
     ∙ (λ i. let_go_all (record kept { index = c.in_ok-gone.ensures.after i }) (map evicted_going (c.in_ok-gone.ensures.gone i)))))
     (subst (Holds (let_go_all (record kept { index = settled (left_touched kept point h c.args.crumb free).index }) (map evicted_going (going (left_touched kept point h c.args.crumb free).index))))
     (sym (takes-touched kept point h c.args.crumb free))

@@ -1,0 +1,195 @@
+//! Chunks that come to an agent, where all memory is asked for first.
+
+ghost use Rattle.std.specs.Prelude.{◌≡◌, ◌+◌, ◌<◌, ◌≤◌, ◌^◌, ◌++◌, length, map, OnOk, OnErr, OnSome, IfErr, IfSome, IsSome};
+ghost use Rattle.std.specs.VecDeque.{deque_len, deque_capacity};
+ghost use Rattle.hs_words.specs.Buffers.{buffer_of};
+ghost use Rattle.hs_index.specs.Index.{leaving_of};
+ghost use Rattle.hs_pins.specs.Remembered.{Remembered, claim_for, pin_of};
+ghost use Rattle.hs_pins.specs.PinsLayout.{Remembers, KnowsThat};
+ghost use Rattle.hs_agent.specs.declared.placed.ArrivalPlace.{ArrivalPlace};
+ghost use Rattle.hs_agent.specs.Placing.{placed_at};
+ghost use Rattle.hs_agent.specs.Keeping.{Point, Holds, HoldsThat};
+ghost use Rattle.hs_agent.specs.LettingGo.{Going, evicted_going, abandoned_going};
+ghost use Rattle.hs_agent.specs.Arriving.{noted, indexed};
+ghost use Rattle.hs_agent.specs.Trying.{fates_noted, ComesToPins};
+ghost use Rattle.hs_agent.specs.Points.{chunk_taken};
+
+use super::{Holdings, abandoned, note_fate};
+use crate::placed::{ArrivalPlace, Pledge};
+use hs_base::{Fate, List};
+use hs_index::Gone;
+use hs_pins::Dropped;
+use hs_records::Standing;
+use hs_words::{Header, Held, Token};
+use std::collections::VecDeque;
+
+impl<L: Token> Holdings<L> {
+    /// Takes a chunk whose page was started. For want of memory it comes back, and nothing changes.
+    pub fn try_chunk(&mut self, held: Held<L>) -> Result<(), Held<L>>
+        requires started { IsSome held.chunk.page }
+        requires known { HoldsThat self.old (λ point. Unit {0}) }
+        ensures ok { (point : Point L) → Holds self.old point → held.chunk.size ≡ point.settings.size → OnOk result (Holds self.new (chunk_taken (buffer_of held) point)) }
+        ensures same { OnErr result (self.new ≡ self.old) }
+        ensures back { IfErr result (λ back. buffer_of back ≡ buffer_of held) }
+    {
+        let Some(header) = held.chunk.header() else {
+            unreachable!()
+        };
+        let _used = held.chunk.used();
+        match self.pins.owner(header.trace) {
+            Some(_) => self.pin(header, held),
+            None => self.index_chunk(header, held),
+        }
+    }
+
+    /// Indexes a chunk of a trace that nobody claimed, whose page has this header, and lets go what is too much then. For
+    /// want of memory it comes back, and nothing changes. There are 2^32 - 1 chunks at most.
+    fn index_chunk(&mut self, header: Header, held: Held<L>) -> Result<(), Held<L>>
+        requires { IsSome held.chunk.page }
+        ensures ok { OnOk result (self.new ≡ indexed (placed_at (length self.old.standings) (buffer_of held)) (noted header (buffer_of held) self.old)) }
+        ensures fits { OnOk result (length self.old.standings + 1 < 2 ^ 32) }
+        ensures same { OnErr result (self.new ≡ self.old) }
+        ensures back { IfErr result (λ back. buffer_of back ≡ buffer_of held) }
+    {
+        let room = (self.index.chunks() as usize).saturating_add(2);
+        let Some(place) = next_place(&mut self.standings, &mut self.leases, &mut self.hand, room)
+        else {
+            return Err(held);
+        };
+        let Held { chunk, lease } = held;
+        let number = chunk.number();
+        match self.index.arrive(Held {
+            chunk,
+            lease: place,
+        }) {
+            Err(back) => {
+                let Held { chunk, lease: _ } = back;
+                Err(Held { chunk, lease })
+            }
+            Ok(gone) => {
+                self.standings.push(Standing {
+                    client: header.client,
+                    page: header.page,
+                    fate: Fate::Live,
+                });
+                self.leases.push(Some(Pledge { lease, number }));
+                evict_into(&mut self.standings, &mut self.hand, gone);
+                Ok(())
+            }
+        }
+    }
+
+    /// Pins a chunk of a claimed trace, whose page has this header, and lets go what has to go then: this chunk, where the
+    /// claiming group was abandoned, or those of the groups that give way. For want of memory it comes back, and nothing
+    /// changes. There are 2^32 - 1 chunks at most.
+    fn pin(&mut self, header: Header, held: Held<L>) -> Result<(), Held<L>>
+        requires { KnowsThat self.old.pins (λ memory. (IsSome (claim_for memory.claims (buffer_of held))) × (length memory.pinned ≤ length self.old.standings)) }
+        ensures ok { (memory : Remembered ArrivalPlace) → Remembers self.old.pins memory
+            → OnOk result (ComesToPins memory (placed_at (length self.old.standings) (buffer_of held)) (noted header (buffer_of held) self.old) self.new) }
+        ensures fits { OnOk result (length self.old.standings + 1 < 2 ^ 32) }
+        ensures same { OnErr result (self.new ≡ self.old) }
+        ensures back { IfErr result (λ back. buffer_of back ≡ buffer_of held) }
+    {
+        let room = (self.pins.chunks() as usize).saturating_add(2);
+        let Ok(()) = self.sent.reserve(room) else {
+            return Err(held);
+        };
+        let Some(place) = next_place(&mut self.standings, &mut self.leases, &mut self.hand, room)
+        else {
+            return Err(held);
+        };
+        let Held { chunk, lease } = held;
+        let number = chunk.number();
+        match self.pins.receive(Held {
+            chunk,
+            lease: place,
+        }) {
+            Err(back) => {
+                let Held { chunk, lease: _ } = back;
+                Err(Held { chunk, lease })
+            }
+            Ok(gone) => {
+                self.standings.push(Standing {
+                    client: header.client,
+                    page: header.page,
+                    fate: Fate::Live,
+                });
+                self.leases.push(Some(Pledge { lease, number }));
+                drop_into(&mut self.standings, &mut self.hand, gone);
+                Ok(())
+            }
+        }
+    }
+}
+
+/// Notes the fates of what the index evicted, and puts it last into the hand, which has room for it.
+pub(super) fn evict_into(
+    standings: &mut List<Standing>,
+    hand: &mut VecDeque<Held<ArrivalPlace>>,
+    gone: List<Gone<ArrivalPlace>>,
+)
+    requires { deque_len hand.old + length gone.items ≤ deque_capacity hand.old }
+    ensures fates { standings.new.items ≡ fates_noted standings.old.items (map evicted_going (map leaving_of gone.items)) }
+    ensures hand { map buffer_of hand.new.items ≡ map buffer_of hand.old.items ++ map (λ (going : Going). going.buffer) (map evicted_going (map leaving_of gone.items)) }
+    ensures len { deque_len hand.new ≡ deque_len hand.old + length gone.items }
+    ensures capacity { deque_capacity hand.new ≡ deque_capacity hand.old }
+{
+    for leaving in gone.into_vec() {
+        let Gone {
+            held,
+            chunks,
+            traces,
+        } = leaving;
+        note_fate(standings, held.lease, Fate::Evicted { chunks, traces });
+        hand.push_back_reserved(held);
+    }
+}
+
+/// Notes the fates of chunks whose groups are abandoned, and puts them last into the hand, which has room for them.
+fn drop_into(
+    standings: &mut List<Standing>,
+    hand: &mut VecDeque<Held<ArrivalPlace>>,
+    gone: List<Dropped<ArrivalPlace>>,
+)
+    requires { deque_len hand.old + length gone.items ≤ deque_capacity hand.old }
+    ensures fates { standings.new.items ≡ fates_noted standings.old.items (map abandoned_going (map pin_of gone.items)) }
+    ensures hand { map buffer_of hand.new.items ≡ map buffer_of hand.old.items ++ map (λ (going : Going). going.buffer) (map abandoned_going (map pin_of gone.items)) }
+    ensures len { deque_len hand.new ≡ deque_len hand.old + length gone.items }
+    ensures capacity { deque_capacity hand.new ≡ deque_capacity hand.old }
+{
+    for dropped in gone.into_vec() {
+        let Dropped { held, group } = dropped;
+        note_fate(standings, held.lease, abandoned(group));
+        hand.push_back_reserved(held);
+    }
+}
+
+/// The place of the next chunk, with room to note the chunk, and in the hand for so many to go. `None` where memory is
+/// wanting, or there are no places any more.
+fn next_place<L: Token>(
+    standings: &mut List<Standing>,
+    leases: &mut List<Option<Pledge<L>>>,
+    hand: &mut VecDeque<Held<ArrivalPlace>>,
+    going: usize,
+) -> Option<ArrivalPlace>
+    ensures standings { standings.new.items ≡ standings.old.items }
+    ensures leases { leases.new.items ≡ leases.old.items }
+    ensures hand { hand.new.items ≡ hand.old.items }
+    ensures len { deque_len hand.new ≡ deque_len hand.old }
+    ensures kept { deque_capacity hand.old ≤ deque_capacity hand.new }
+    ensures place { IfSome result (λ place. place.0 ≡ length standings.old.items) }
+    ensures fits { OnSome result (length standings.old.items + 1 < 2 ^ 32) }
+    ensures going { OnSome result (deque_len hand.new + going ≤ deque_capacity hand.new) }
+    ensures standing { OnSome result (length standings.new.items < standings.new.room) }
+    ensures lease { OnSome result (length leases.new.items < leases.new.room) }
+{
+    let count = standings.len();
+    if count >= u32::MAX as usize
+        || standings.reserve(1).is_err()
+        || leases.reserve(1).is_err()
+        || hand.reserve(going).is_err()
+    {
+        return None;
+    }
+    Some(ArrivalPlace(count as u32))
+}
