@@ -20,11 +20,11 @@ sorted_nil : IsStrictlySortedBy priority_cmp []
 unfolding IsStrictlySortedBy
 sorted_nil = tt
 
-less_all : (p q : Priority) (ps : List Priority) → priority_cmp p q ≡ Less → AllByRecursion (λ r. priority_cmp q r ≡ Less) ps → AllByRecursion (λ r. priority_cmp p r ≡ Less) ps
+pub less_all : (p q : Priority) (ps : List Priority) → priority_cmp p q ≡ Less → AllByRecursion (λ r. priority_cmp q r ≡ Less) ps → AllByRecursion (λ r. priority_cmp p r ≡ Less) ps
 less_all p q [] e all = tt
 less_all p q (r ∷ ps) e all = (priority_total.trans p q r e all.0, less_all p q ps e all.1)
 
-one_test : (p x y : Priority) → same_priority p x ≡ true → same_priority p y ≡ same_priority x y
+pub one_test : (p x y : Priority) → same_priority p x ≡ true → same_priority p y ≡ same_priority x y
 one_test p x y e = priority_laws.congr p x y e
 
 same_either : {X : Type 0} (b : Bool) (x : X) → x ≡ cond b x x
@@ -45,7 +45,7 @@ module _ {L : Type 0} where
       at Equal rest = all
       at Greater rest = (all.0, rest)
 
-  sorted_insert : (p : Priority) (w : List (Buffer L)) (es : Groups L) → IsStrictlySortedBy priority_cmp (keys_of es) → IsStrictlySortedBy priority_cmp (keys_of (insert_entry priority_cmp es p w))
+  pub sorted_insert : (p : Priority) (w : List (Buffer L)) (es : Groups L) → IsStrictlySortedBy priority_cmp (keys_of es) → IsStrictlySortedBy priority_cmp (keys_of (insert_entry priority_cmp es p w))
   sorted_insert p w [] sorted = sorted_cons p [] tt sorted_nil
   sorted_insert p w (x ∷ es) sorted = at (priority_cmp p x.0) refl (sorted_insert p w es (sorted_tail priority_cmp x.0 (keys_of es) sorted))
     where
@@ -58,7 +58,7 @@ module _ {L : Type 0} where
       at Equal e rest = sorted
       at Greater e rest = sorted_cons x.0 _ (less_insert x.0 p w es (priority_total.antisymm x.0 p ∙ ap ordering_reverse e) above) rest
 
-  sorted_set : (test : Priority → Bool) (w : List (Buffer L)) (es : Groups L) → IsStrictlySortedBy priority_cmp (keys_of es) → IsStrictlySortedBy priority_cmp (keys_of (set_value test es w))
+  pub sorted_set : (test : Priority → Bool) (w : List (Buffer L)) (es : Groups L) → IsStrictlySortedBy priority_cmp (keys_of es) → IsStrictlySortedBy priority_cmp (keys_of (set_value test es w))
   sorted_set test w es sorted = subst (IsStrictlySortedBy priority_cmp) (sym (keys-set_value test es w)) sorted
 
   less_remove : (k : Priority) (test : Priority → Bool) (es : Groups L) → AllByRecursion (λ q. priority_cmp k q ≡ Less) (keys_of es) → AllByRecursion (λ q. priority_cmp k q ≡ Less) (keys_of (remove_entry test es))
@@ -69,7 +69,7 @@ module _ {L : Type 0} where
       at true rest = all.1
       at false rest = (all.0, rest)
 
-  sorted_remove : (test : Priority → Bool) (es : Groups L) → IsStrictlySortedBy priority_cmp (keys_of es) → IsStrictlySortedBy priority_cmp (keys_of (remove_entry test es))
+  pub sorted_remove : (test : Priority → Bool) (es : Groups L) → IsStrictlySortedBy priority_cmp (keys_of es) → IsStrictlySortedBy priority_cmp (keys_of (remove_entry test es))
   sorted_remove test [] sorted = sorted
   sorted_remove test (x ∷ es) sorted = at (test x.0) (sorted_remove test es (sorted_tail priority_cmp x.0 (keys_of es) sorted))
     where
@@ -85,7 +85,7 @@ module _ {L : Type 0} where
       at true = sorted_set (same_priority p) (chunks_of es p ++ b ∷ bs) es sorted
       at false = sorted_insert p (chunks_of es p ++ b ∷ bs) es sorted
 
-  sorted_without : (p : Priority) (es : Groups L) (rest : List (Buffer L)) → IsStrictlySortedBy priority_cmp (keys_of es) → IsStrictlySortedBy priority_cmp (keys_of (without_chunk es p rest))
+  pub sorted_without : (p : Priority) (es : Groups L) (rest : List (Buffer L)) → IsStrictlySortedBy priority_cmp (keys_of es) → IsStrictlySortedBy priority_cmp (keys_of (without_chunk es p rest))
   sorted_without p es [] sorted = sorted_remove (same_priority p) es sorted
   sorted_without p es (b ∷ bs) sorted = sorted_set (same_priority p) (b ∷ bs) es sorted
 
@@ -129,7 +129,7 @@ module _ {L : Type 0} where
       ap (λ o. unwrap_or o []) (lookup-remove_entry priority_laws (same_priority p) (one_test p) q es (IsDistinct-from_sorted priority_cmp (keys_of es) sorted))
       ∙ found_cond (same_priority p q) (lookup (same_priority q) es) None
 
-  lookup-insert_entry : (p q : Priority) (w : List (Buffer L)) (es : Groups L) → lookup (same_priority p) es ≡ None
+  pub lookup-insert_entry : (p q : Priority) (w : List (Buffer L)) (es : Groups L) → lookup (same_priority p) es ≡ None
       → lookup (same_priority q) (insert_entry priority_cmp es p w) ≡ cond (same_priority q p) (Some w) (lookup (same_priority q) es)
   lookup-insert_entry p q w [] none = refl
   lookup-insert_entry p q w (x ∷ es) none = at (priority_cmp p x.0) refl none (lookup-insert_entry p q w es)

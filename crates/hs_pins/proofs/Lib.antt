@@ -16,3 +16,5 @@ pub mod Remembering
 pub mod LookBack
 pub mod Forgetting
 pub mod Receiving
+pub mod Opened
+pub mod PutBack

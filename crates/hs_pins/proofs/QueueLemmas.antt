@@ -1,7 +1,7 @@
 -- The queues of a node with the groups of one trigger id changed: how many chunks there are.
 use Rattle.std.proofs.Common.{◌≡◌, ℕ, ◌+◌, ◌≤◌, Bool, true, false, cond, [], ◌∷◌, Option, Some, None, unwrap_or, refl, sym, ap, ◌∙◌, arith}
 use Rattle.hs_pins.proofs.Prelude.{OnOk, IfSome, IfNone, Result, Ok, Err, lookup, set_value, remove_entry, sum_by-set_value, sum_by-remove_entry, option_map, set_value_same, TriggerId, Groups, count_of, Queues, total_of}
-use Rattle.std.specs.Prelude.{OnSome}
+use Rattle.std.specs.Prelude.{OnSome, IfOk}
 
 module _ {L : Type 0} where
   pub total-set : (test : TriggerId → Bool) (es : Queues L) (old w : Groups L) → lookup test es ≡ Some old
@@ -53,3 +53,13 @@ module _ {L : Type 0} where
       let w = ap total_of e in
       let c : count_of new + size a ≡ count_of old = counted in omega arith
   total-least None size test es written old new found e counted = tt
+
+  -- the groups of an id were taken out
+  pub total-opened : {A B : Type 0} (r : Result A B) (groups : A → Groups L) (test : TriggerId → Bool) (es written : Queues L) (old new : Groups L) → lookup test es ≡ Some old
+      → written ≡ set_value test es new → OnOk r (new ≡ []) → IfOk r (λ a. groups a ≡ old) → IfOk r (λ a. total_of written + count_of (groups a) ≡ total_of es)
+  total-opened (Ok a) groups test es written old new found e none same =
+      let t = total-set test es old new found in
+      let w = ap total_of e in
+      let n : count_of new ≡ 0 = ap (λ (gs : Groups L). count_of gs) none in
+      let s = ap (λ (gs : Groups L). count_of gs) same in omega arith
+  total-opened (Err b) groups test es written old new found e none same = tt

@@ -1,7 +1,7 @@
 -- What goes where a chunk of a claimed trace comes, and what is remembered then.
 use Rattle.std.proofs.Common.{◌≡◌, ◌+◌, ◌<◌, ◌≤◌, ◌^◌, Bool, true, false, cond, List, [], ◌∷◌, length, Option, Some, None, refl, sym, ap, subst, ◌∙◌, arith}
 use Rattle.std.proofs.lemmas.List.{length-append}
-use Rattle.hs_pins.proofs.Prelude.{option_map, option_map_or, list_any, Group, Buffer, Priority, priority_of, Mark, mark_of, same_mark, Queues, total_of, pinned_in, Claim, Pin, Remembered, claim_for, comes_back, is_abandoned, arrived, pin_for, pins_for, with_pin, without_group, leaving, staying, going, relieved, Remembers, HasPinned}
+use Rattle.hs_pins.proofs.Prelude.{option_map, option_map_or, list_any, Group, Buffer, Priority, priority_of, Mark, mark_of, same_mark, Queues, total_of, pinned_in, Claim, Pin, Remembered, claim_for, comes_back, is_abandoned, arrived, pin_for, pins_for, with_pin, without_group, leaving, going, relieved, Remembers, HasPinned}
 use Rattle.hs_pins.specs.Abandoning.{drops}
 use Rattle.hs_pins.specs.Receiving.{received, goes_with}
 use Rattle.hs_pins.specs.PinsLayout.{Pinning}
@@ -33,7 +33,7 @@ module _ {L : Type 0} (memory : Remembered L) (chunk : Buffer L) where
 -- ---- how many there are
 
 module _ {L : Type 0} where
-  going_few : (groups : List Group) (pins : List (Pin L)) → length (going groups pins) ≤ length pins
+  pub going_few : (groups : List Group) (pins : List (Pin L)) → length (going groups pins) ≤ length pins
   going_few [] pins = omega arith
   going_few (g ∷ groups) pins =
       let rest = going_few groups (without_group g pins) in

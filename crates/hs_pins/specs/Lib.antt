@@ -15,3 +15,7 @@ pub mod Calls
 pub mod PinningExamples
 pub mod PinsExamples
 pub mod Receiving
+pub mod Opening
+pub mod OpeningLayout
+pub mod Opens
+pub mod OpensLayout

@@ -52,6 +52,18 @@ impl Bucket {
         }
     }
 
+    /// A bucket as this one.
+    pub(crate) fn copied(&self) -> Bucket
+        ensures { result ≡ self.now }
+    {
+        Bucket {
+            burst: self.burst,
+            rate: self.rate,
+            level: self.level,
+            moment: self.moment,
+        }
+    }
+
     /// Takes an attempt at a moment in microseconds, and answers whether it is admitted.
     pub fn attempt(&mut self, moment: u64) -> Attempt
         ensures answer { (earlier : List ℕ) → HasAttempted self.old earlier

@@ -1,6 +1,6 @@
 //! The claims of a node.
 
-ghost use Rattle.std.specs.Prelude.{◌≡◌, ◌<◌, ◌≤◌, ℕ, [], ◌∷◌, ◌++◌, length, slice_get, not, filter, IsSome, Some, None, OnOk, option_map};
+ghost use Rattle.std.specs.Prelude.{◌≡◌, ◌<◌, ◌≤◌, ℕ, [], ◌∷◌, ◌++◌, ◌+◌, length, slice_get, not, filter, IsSome, Some, None, OnOk, option_map};
 ghost use Rattle.std.specs.Bool.{OnTrue};
 ghost use Rattle.hs_pins.specs.Priorities.{same_group};
 ghost use Rattle.hs_pins.specs.Remembered.{claim_of, has_crumb, with_crumb, is_of_group};
@@ -91,20 +91,21 @@ impl Claims {
         }
     }
 
-    /// Makes room for one claim more.
-    pub fn reserve(&mut self) -> Result<(), Memory>
-        ensures ok { OnOk result (1 ≤ self.new.room) }
+    /// Makes room for so many claims more.
+    pub fn reserve(&mut self, more: usize) -> Result<(), Memory>
+        ensures ok { OnOk result (more ≤ self.new.room) }
         ensures claims { self.new.claims ≡ self.old.claims }
     {
-        self.notes.reserve(1)?;
-        self.parties.reserve(1)
+        self.notes.reserve(more)?;
+        self.parties.reserve(more)
     }
 
     /// Adds the claim of a trace that is not claimed. There is room.
     pub fn add(&mut self, trace: TraceId, party: Party, crumbs: NodeSet)
         requires unclaimed { claim_of self.old.claims trace ≡ None }
         requires room { 1 ≤ self.old.room }
-        ensures { self.new.claims ≡ self.old.claims ++ claim_by party trace crumbs ∷ [] }
+        ensures claims { self.new.claims ≡ self.old.claims ++ claim_by party trace crumbs ∷ [] }
+        ensures room { self.old.room ≤ self.new.room + 1 }
     {
         let party = place_of(&mut self.parties, party);
         match self.notes.insert(trace, ClaimNote { party, crumbs }) {
@@ -162,6 +163,8 @@ fn place_of(parties: &mut List<Party>, party: Party) -> usize
     ensures kept { (k : ℕ) → k < length parties.old.items
         → party_at parties.new.items k ≡ party_at parties.old.items k }
     ensures longer { length parties.old.items ≤ length parties.new.items }
+    ensures one { length parties.new.items ≤ length parties.old.items + 1 }
+    ensures room { parties.old.room ≤ parties.new.room }
 {
     let count = parties.len();
     if count > 0 {

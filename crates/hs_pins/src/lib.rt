@@ -16,5 +16,5 @@ mod queues;
 pub use bucket::{Attempt, Bucket};
 pub use claim::{Admitted, Dropped, Taken2};
 pub use laws::{any_calls_look_back, claims_stay};
-pub use pins::Pins;
+pub use pins::{Claiming, Pins};
 pub use priority::is_group;

@@ -1,13 +1,16 @@
 //! The pinned chunks of one group.
 
-ghost use Rattle.std.specs.Prelude.{◌≡◌, ◌+◌, [], ◌∷◌, ◌++◌, length, map, drop, slice_get, OnOk, OnErr, IfErr, option_map, nat_eq};
+ghost use Rattle.std.specs.Prelude.{◌≡◌, ◌+◌, ◌≤◌, [], ◌∷◌, ◌++◌, length, map, drop, slice_get, OnOk, OnErr, IfOk, IfErr, option_map, nat_eq};
+ghost use Rattle.std.specs.VecDeque.{deque_len, deque_capacity};
 ghost use Rattle.hs_words.specs.Buffers.{buffer_of};
 ghost use Rattle.hs_pins.specs.Waiting.{used_bytes};
 
-use hs_base::List;
+use hs_base::{List, Memory};
 use hs_words::{Held, Token};
+use std::alloc::Global;
 use std::collections::VecDeque;
 use std::marker::Model;
+use std::mem::replace;
 
 /// The pinned chunks of one group, first to last as they were pinned.
 #[derive(Drop)]
@@ -32,6 +35,24 @@ impl<L: Token> Pile<L> {
         Pile {
             chunks: VecDeque::from_vec(chunks.into_vec()),
         }
+    }
+
+    /// A pile of these chunks, first to last. It takes no memory.
+    pub fn from_deque(chunks: VecDeque<Held<L>>) -> Pile<L>
+        ensures { result ≡ map buffer_of chunks.items }
+    {
+        Pile { chunks }
+    }
+
+    /// Takes all chunks out, with room for so many more. For want of memory nothing changes.
+    pub fn take_all(&mut self, alloc: Global, room: usize) -> Result<VecDeque<Held<L>>, Memory>
+        ensures chunks { IfOk result (λ chunks. map buffer_of chunks.items ≡ self.old) }
+        ensures room { IfOk result (λ chunks. deque_len chunks + room ≤ deque_capacity chunks) }
+        ensures none { OnOk result (self.new ≡ []) }
+        ensures err { OnErr result (self.new ≡ self.old) }
+    {
+        self.chunks.reserve(room)?;
+        Ok(replace(&mut self.chunks, VecDeque::new(alloc)))
     }
 
     /// The chunks of a pile. It takes no memory.

@@ -12,10 +12,13 @@ ghost use Rattle.hs_pins.specs.Remembered.{pin_for};
 ghost use Rattle.hs_pins.specs.Groups.{count_of, chunks_of, pinned, greatest_of, next_of, without_first, without_next};
 ghost use Rattle.hs_pins.specs.Counting.{HaveChunks};
 
+mod opened;
+
 use crate::pile::Pile;
 use crate::priority::Priority;
 use hs_base::List;
 use hs_words::{Held, Token};
+pub use opened::Opened;
 use std::alloc::Global;
 use std::collections::BTreeMap;
 use std::marker::Model;

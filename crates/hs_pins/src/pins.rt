@@ -6,8 +6,9 @@ ghost use Rattle.hs_words.specs.Buffers.{buffer_of};
 ghost use Rattle.hs_pins.specs.Remembered.{Remembered, fresh, claim_of, claim_for, has_crumb, answered, tried_at, claimed, comes_back, handed_back, arrived, crumbed, pin_of, is_settled, forgot};
 ghost use Rattle.hs_pins.specs.Abandoning.{drops, relieved};
 ghost use Rattle.hs_pins.specs.Waiting.{used_bytes, taken};
-ghost use Rattle.hs_pins.specs.PinsLayout.{Remembers, KnowsThat, waiting, bucket_in, fresh_buckets_of, Attempts};
+ghost use Rattle.hs_pins.specs.PinsLayout.{Remembers, KnowsThat, waiting, Buckets, bucket_in, fresh_buckets_of, Attempts};
 
+mod claiming;
 mod receive;
 
 use crate::abandon::abandon_over;
@@ -16,6 +17,7 @@ use crate::claim::{Admitted, Dropped, Taken2};
 use crate::claims::{Claims, Party};
 use crate::priority::{Mark, Priority};
 use crate::queues::TriggerQueues;
+pub use claiming::Claiming;
 use hs_base::limits::MOST_NODES;
 use hs_base::{
     Crumb, Group, Laterals, List, Memory, NodeId, NodeSet, Settings, TraceId, TriggerId,
@@ -100,6 +102,20 @@ impl<L: Token> Pins<L> {
         }
     }
 
+    /// What `admit` would answer. Nothing changes.
+    pub fn would_admit(&self, trigger: TriggerId, moment: u64) -> Admitted
+        requires { KnowsThat self.now (λ memory. is_declared memory.rules trigger ≡ true) }
+        ensures { (memory : Remembered L) → Remembers self.now memory
+            → answered memory trigger moment ≡ Some result }
+    {
+        match would_attempt(&self.buckets, trigger, moment) {
+            Attempt::Admitted => Admitted::Admitted {
+                number: self.admitted,
+            },
+            Attempt::Limited { level } => Admitted::Limited { level },
+        }
+    }
+
     /// The group that claimed a trace, or `None` where the trace is not claimed here.
     pub fn owner(&self, trace: TraceId) -> Option<Group>
         ensures { (memory : Remembered L) → Remembers self.now memory
@@ -131,7 +147,7 @@ impl<L: Token> Pins<L> {
         ensures crumbs { IfErr result (λ back. back.crumbs ≡ taken.crumbs) }
     {
         let Taken2 { held, crumbs } = taken;
-        if self.claims.reserve().is_err() {
+        if self.claims.reserve(1).is_err() {
             return Err(Taken2 { held, crumbs });
         }
         let priority = Priority::of(&group);
@@ -306,6 +322,17 @@ fn attempt(buckets: &mut BTreeMap<TriggerId, Bucket>, trigger: TriggerId, moment
         unreachable!()
     };
     bucket.attempt(moment)
+}
+
+/// What an attempt at the bucket of a trigger id would be answered. Nothing changes.
+fn would_attempt(buckets: &BTreeMap<TriggerId, Bucket>, trigger: TriggerId, moment: u64) -> Attempt
+    requires { IsSome (bucket_in buckets.now.entries trigger) }
+    ensures { (after : Buckets) × Attempts buckets.now.entries after trigger moment result }
+{
+    let Some(bucket) = buckets.get(&trigger) else {
+        unreachable!()
+    };
+    bucket.copied().attempt(moment)
 }
 
 /// The group that claimed a chunk's trace.

@@ -1,6 +1,6 @@
 //! The pinned chunks of a node.
 
-ghost use Rattle.std.specs.Prelude.{◌≡◌, ◌+◌, ◌<◌, ◌^◌, [], ◌∷◌, length, map, drop, slice_get, OnOk, OnErr, IfOk, IfErr, IfSome, OnSome, IfNone, IsSome, is_some, option_map};
+ghost use Rattle.std.specs.Prelude.{◌≡◌, ◌+◌, ◌<◌, ◌≤◌, ◌^◌, [], ◌∷◌, length, map, drop, slice_get, OnOk, OnErr, IfOk, IfErr, IfSome, OnSome, IfNone, IsSome, is_some, option_map};
 ghost use Rattle.hs_words.specs.Buffers.{buffer_of};
 ghost use Rattle.hs_pins.specs.Waiting.{used_bytes};
 ghost use Rattle.hs_pins.specs.PinsLayout.{in_order};
@@ -11,13 +11,14 @@ ghost use Rattle.hs_pins.specs.Groups.{count_of, greatest_of, next_of, without_n
 ghost use Rattle.hs_pins.specs.Queues.{has_queue, groups_of, total_of, with_groups, pinned_in, fresh_queues, IsFullest};
 ghost use Rattle.hs_base.specs.Rules.{AreRules};
 
-use crate::pinned::Pinned;
+use crate::pinned::{Opened, Pinned};
 use crate::priority::Priority;
 use hs_base::{List, Memory, TriggerId, TriggerRule};
 use hs_words::{Held, Token};
 use std::alloc::Global;
 use std::collections::BTreeMap;
 use std::marker::Model;
+use std::mem::replace;
 
 /// The pinned chunks of each declared trigger id. Contracts see the groups of each id, in rising
 /// order of id.
@@ -150,6 +151,40 @@ impl<L: Token> TriggerQueues<L> {
         Some((priority, chunks))
     }
 
+    /// Takes the groups of a declared trigger id out, with the one of this priority open and room for so many of its
+    /// chunks. For want of memory nothing changes.
+    pub fn open(
+        &mut self,
+        alloc: Global,
+        trigger: TriggerId,
+        priority: Priority,
+        room: usize,
+    ) -> Result<Opened<L>, Memory>
+        requires { has_queue self.old trigger }
+        ensures back { IfOk result (λ opened. with_groups self.new trigger opened.groups ≡ self.old) }
+        ensures declared { OnOk result (has_queue self.new trigger) }
+        ensures priority { IfOk result (λ opened. opened.priority ≡ priority) }
+        ensures room { IfOk result (λ opened. room ≤ opened.room) }
+        ensures few { IfOk result (λ opened. count_of opened.groups ≤ total_of self.old) }
+        ensures err { OnErr result (self.new ≡ self.old) }
+    {
+        let opened = open_queue(alloc, &mut self.queues, trigger, priority, room)?;
+        self.chunks -= opened.chunks();
+        Ok(opened)
+    }
+
+    /// Puts the groups of a declared trigger id back, in place of those that it has. It takes no memory.
+    pub fn close(&mut self, trigger: TriggerId, opened: Opened<L>)
+        requires declared { has_queue self.old trigger }
+        requires few { total_of (with_groups self.old trigger opened.groups) < 2 ^ 32 }
+        ensures { self.new ≡ with_groups self.old trigger opened.groups }
+    {
+        let count = opened.chunks();
+        let before = close_queue(&mut self.queues, trigger, opened);
+        self.chunks -= before;
+        self.chunks += count;
+    }
+
     /// The trigger id for which most chunks are pinned, and of equal ones the smallest. `None` where
     /// nothing is pinned.
     pub fn fullest(&self) -> Option<TriggerId>
@@ -167,6 +202,45 @@ impl<L: Token> TriggerQueues<L> {
         }
         fullest
     }
+}
+
+fn open_queue<L: Token>(
+    alloc: Global,
+    queues: &mut BTreeMap<TriggerId, Pinned<L>>,
+    trigger: TriggerId,
+    priority: Priority,
+    room: usize,
+) -> Result<Opened<L>, Memory>
+    requires { has_queue queues.old.entries trigger }
+    ensures back { IfOk result (λ opened. with_groups queues.new.entries trigger opened.groups ≡ queues.old.entries) }
+    ensures declared { OnOk result (has_queue queues.new.entries trigger) }
+    ensures priority { IfOk result (λ opened. opened.priority ≡ priority) }
+    ensures room { IfOk result (λ opened. room ≤ opened.room) }
+    ensures count { IfOk result (λ opened. total_of queues.new.entries + count_of opened.groups ≡ total_of queues.old.entries) }
+    ensures err { OnErr result (queues.new.entries ≡ queues.old.entries) }
+{
+    let Some(pinned) = queues.get_mut(&trigger) else {
+        unreachable!()
+    };
+    pinned.open(alloc, priority, room)
+}
+
+/// Puts the groups of a declared trigger id back, and answers how many chunks were pinned for those that it had.
+fn close_queue<L: Token>(
+    queues: &mut BTreeMap<TriggerId, Pinned<L>>,
+    trigger: TriggerId,
+    opened: Opened<L>,
+) -> u32
+    requires { has_queue queues.old.entries trigger }
+    ensures groups { queues.new.entries ≡ with_groups queues.old.entries trigger opened.groups }
+    ensures count { total_of queues.new.entries + result ≡ total_of queues.old.entries + count_of opened.groups }
+    ensures few { result ≤ total_of queues.old.entries }
+{
+    let Some(pinned) = queues.get_mut(&trigger) else {
+        unreachable!()
+    };
+    let before = replace(pinned, opened.close());
+    before.chunks()
 }
 
 fn take_least_from<L: Token>(

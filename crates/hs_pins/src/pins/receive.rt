@@ -40,8 +40,8 @@ impl<L: Token> Pins<L> {
             return dropped_alone(self.alloc, held, group);
         }
         let pinned = self.queues.chunks();
-        let Ok(mut dropped) = room_to_drop(self.alloc, &mut self.abandoned, pinned, self.most)
-        else {
+        let all = pinned as usize + 1;
+        let Ok(mut dropped) = room_to_drop(self.alloc, &mut self.abandoned, all, self.most) else {
             return Err(held);
         };
         let priority = Priority::of(&group);
@@ -64,23 +64,24 @@ impl<L: Token> Pins<L> {
     }
 }
 
-/// Room for what is dropped, and for the marks of its groups, where one chunk more is pinned than these.
-fn room_to_drop<L: Token>(
+/// Room for what is dropped where so many chunks are pinned, and for the marks of its groups.
+pub(super) fn room_to_drop<L: Token>(
     alloc: Global,
     marks: &mut IndexSet<Mark>,
-    pinned: u32,
+    pinned: usize,
     most: u32,
 ) -> Result<List<Dropped<L>>, Memory>
     ensures keys { marks.new.keys ≡ marks.old.keys }
     ensures empty { IfOk result (λ dropped. dropped.items ≡ []) }
-    ensures chunks { IfOk result (λ dropped. most ≤ pinned → pinned + 1 ≤ dropped.room) }
-    ensures groups { OnOk result (pinned + 1 ≤ spare marks.new + most) }
+    ensures chunks { IfOk result (λ dropped. most < pinned → pinned ≤ dropped.room) }
+    ensures groups { OnOk result (pinned ≤ spare marks.new + most) }
 {
-    if pinned < most {
+    let most = most as usize;
+    if pinned <= most {
         return Ok(List::new(alloc));
     }
-    let dropped = List::with_room(alloc, pinned as usize + 1)?;
-    marks.reserve((pinned - most) as usize + 1)?;
+    let dropped = List::with_room(alloc, pinned)?;
+    marks.reserve(pinned - most)?;
     Ok(dropped)
 }
 

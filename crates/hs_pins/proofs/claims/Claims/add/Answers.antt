@@ -14,8 +14,8 @@ invariant_of-self c =
     (are_noted-more c.self.inside.parties.items c.place_of-party.new.parties.items c.self.inside.notes.entries (c.args.trace, note) c.self.invariant c.place_of-party.ensures.longer
     (place_within c.place_of-party.new.parties.items c.place_of-party.result c.args.party c.place_of-party.ensures.place))
 
-pub returns : goal.returns
-returns c =
+pub returns-clause-claims : goal.returns-clause-claims
+returns-clause-claims c =
     let same = ap (λ (l : ClaimList). l.claims) c.self.view_is in
     let note : ClaimNote = record { party = c.place_of-party.result; crumbs = c.args.crumbs } in
     let none = unclaimed_note c.self.inside.parties.items c.self.inside.notes.entries c.args.self.now.claims c.args.trace same c.requires.unclaimed in

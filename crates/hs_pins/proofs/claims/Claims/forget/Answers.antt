@@ -1,4 +1,4 @@
-use Rattle.std.proofs.Common.{rules, ◌≡◌, Bool, not, List, map, filter, refl, sym, ap, subst, ◌∙◌}
+use Rattle.std.proofs.Common.{rules, ◌≡◌, not, List, map, filter, sym, ap, subst, ◌∙◌}
 use Rattle.hs_pins.proofs.Prelude.{TraceId, ClaimNote, Claim, ClaimList, party_at, claim_from, AreNoted, same_group}
 use Rattle.hs_lists.proofs.Alls.{all_filter}
 use Rattle.hs_lists.proofs.Filters.{filter_mapped}

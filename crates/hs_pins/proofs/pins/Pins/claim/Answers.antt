@@ -21,5 +21,5 @@ returns-clause-after g c = λ memory h.
     (ap (λ cs. claim_of cs c.args.trace) (sym h.claims ∙ c.requires.unclaimed.1.claims) ∙ c.requires.unclaimed.2)
     (sym (h.pinned.chunks.declared c.args.group.trigger) ∙ c.requires.declared.1.pinned.chunks.declared c.args.group.trigger ∙ c.requires.declared.2)
     (let a = h.pinned.chunks.total in let b = c.requires.few.1.pinned.chunks.total in let few = c.requires.few.2 in let n = length-map c.args.taken.held.items (buffer_of {L = g.row.L.Denot} {g = g.L.Token}) in omega (arith, a, b, few, n))
-    (c.add.ensures ∙ ap (λ cs. cs ++ record { trace = c.args.trace; group = c.args.group; laterals = c.args.laterals; crumbs = c.args.taken.crumbs } ∷ []) c.reserve.ensures.claims)
+    (c.add.ensures.claims ∙ ap (λ cs. cs ++ record { trace = c.args.trace; group = c.args.group; laterals = c.args.laterals; crumbs = c.args.taken.crumbs } ∷ []) c.reserve.ensures.claims)
     c.of-priority.ensures c.in_default.ensures.ok

@@ -1,4 +1,4 @@
-use Rattle.std.proofs.Common.{◌≡◌, false, cond, not, refl, sym, ap, subst, ◌∙◌}
+use Rattle.std.proofs.Common.{false, cond, not, refl, sym, ap, subst, ◌∙◌}
 use Rattle.hs_pins.proofs.Prelude.{is_some, list_any, lookup, Group, Priority, Mark, mark_of, same_mark, same_priority, groups_of, Remembers}
 use Rattle.hs_pins.specs.PinsLayout.{Pinning}
 use Rattle.hs_pins.proofs.Order.{same_mark-group}
