@@ -1,5 +1,5 @@
 -- The bucket of a trigger's id admits what the model admits, and the trigger is noted.
-use Rattle.std.proofs.Common.{◌≡◌, ℕ, ◌+◌, Bool, true, false, cond, ◌∷◌, Option, Some, None, nat_le, refl, sym, ap, subst, ◌∙◌, true≢false}
+use Rattle.std.proofs.Common.{◌≡◌, ℕ, ◌+◌, Bool, true, false, cond, ◌∷◌, Option, Some, None, nat_le, refl, sym, ap, ◌∙◌, true≢false}
 use Rattle.hs_agent.proofs.Prelude.{option_map, option_map_or, Trigger, PlainSettings, Remembered, Pinning, Remembers, AgentState, admits, note_trigger, count_admitted, ArrivalPlace, Kept, Holds, Point, RemembersAs, with_state}
 use Rattle.hs_base.specs.declared.limits.TheConstants.{TOKEN}
 use Rattle.hs_base.specs.declared.settings.TriggerRule.{TriggerRule}
@@ -9,7 +9,6 @@ use Rattle.hs_pins.specs.declared.bucket.Attempt.TheVariants as attempts
 use Rattle.hs_pins.specs.Buckets.{level_found, attempted}
 use Rattle.hs_pins.specs.Remembered.{admission, answered, tried_at, admitted_after}
 use Rattle.hs_pins.specs.Remembered as pins
-use Rattle.hs_law_agent.specs.Stepping.{rule_of}
 
 -- whether the bucket admitted
 abbrev pub is_admitted : Admitted → Bool

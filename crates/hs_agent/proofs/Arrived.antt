@@ -1,12 +1,11 @@
 -- What is kept after a chunk came is what the model says then, before anything has to give way.
-use Rattle.std.proofs.Common.{◌≡◌, ℕ, ◌+◌, ◌≤◌, ◌<◌, ◌^◌, Bool, true, false, List, [], ◌∷◌, ◌++◌, length, map, Option, Some, None, slice_get, refl, sym, ap, subst, ◌∙◌, arith}
-use Rattle.hs_agent.proofs.Prelude.{filter_map, AllByRecursion, option_map, option_map_or, option_and_then, option_to_list, append_assoc, map-append, length-map, length-append, all_weaker, all_append, all_front, all_back, TraceId, Group, Standing, Header, Sheet, used_of, header_of, Buffer, Claim, Pin, Remembered, claim_of, with_pin, pin_for, Pinning, Remembers, Index, Indexed, Noted, noted_of, others, touch, with_chunk, chunks_left, count_chunks, AgentState, Taken, ChunkStanding, is_indexed, Pinned, Abandoned, pinning_group, pinned_for, page_standing, bytes_at, with_indexed, with_pinned, with_abandoned, ArrivalPlace, Placed, Pledged, place_of, placed_at, Kept, Holds, HasPage, IsKept, IsIndexed, RemembersAs, Point, with_state, pinned_place, waiting_chunks, all_held, let_go, with_fate, abandoned_fate, noted}
+use Rattle.std.proofs.Common.{◌≡◌, ℕ, ◌+◌, ◌≤◌, ◌<◌, ◌^◌, false, List, [], ◌∷◌, ◌++◌, length, map, Some, None, slice_get, refl, sym, ap, subst, ◌∙◌, arith}
+use Rattle.hs_agent.proofs.Prelude.{filter_map, AllByRecursion, option_map, option_map_or, option_and_then, option_to_list, append_assoc, map-append, length-map, length-append, all_weaker, all_append, all_front, all_back, TraceId, Group, Header, Sheet, used_of, header_of, Buffer, Pin, claim_of, with_pin, pin_for, Pinning, Remembers, Indexed, Noted, noted_of, others, touch, with_chunk, chunks_left, AgentState, Taken, ChunkStanding, is_indexed, Pinned, Abandoned, pinning_group, pinned_for, page_standing, bytes_at, with_indexed, with_pinned, with_abandoned, ArrivalPlace, Placed, place_of, placed_at, Kept, Holds, HasPage, IsKept, IsIndexed, Point, pinned_place, waiting_chunks, let_go, with_fate, abandoned_fate, noted}
 use Rattle.hs_lists.proofs.Places.{get_last}
 use Rattle.hs_base.specs.declared.told.Fate.TheVariants as fates
 use Rattle.hs_index.specs.Index.{with_touched, trace_of}
 use Rattle.hs_index.specs.Index as index
 use Rattle.hs_law_agent.specs.Standings.{Indexed as IsIn}
-use Rattle.hs_law_agent.specs.Stepping.{with_taken}
 use Rattle.hs_agent.proofs.Claimed.{all-others, all-noted, all-pins}
 use Rattle.hs_agent.proofs.Growing.{is_kept-front, has_page-front, pages-front, pinned_for-front, with_fate-last}
 use Rattle.hs_agent.proofs.Indexing.{indexed-more, indexed-arrived, count-touched}

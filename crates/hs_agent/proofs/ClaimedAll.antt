@@ -1,6 +1,6 @@
 -- After a group has claimed, its lead and its laterals are claimed.
 use Rattle.std.proofs.Common.{◌≡◌, ◌≤◌, ℕ, suc, zero, length, take, slice_get, Bool, true, false, cond, ◌||◌, List, [], ◌∷◌, map, fold, Option, Some, None, IsSome, refl, sym, ap, subst, ◌∙◌}
-use Rattle.hs_agent.proofs.Prelude.{find, AllByRecursion, list_any, option_map_or, all_weaker, TraceId, Ask, same_trace, PlainSettings, Claim, Remembered, claim_of, Remembers, drops, relieved, ArrivalPlace, let_go_all, abandoned_going, claimed_for, AgentState, ClaimedTrace, is_claimed, claim_trace, claim_unclaimed, claim_each, traces_of, claim_for, same_trace-refl, Kept, Holds, Point, with_state, plain_claim}
+use Rattle.hs_agent.proofs.Prelude.{AllByRecursion, list_any, option_map_or, all_weaker, TraceId, Ask, same_trace, Claim, Remembered, claim_of, Remembers, drops, relieved, ArrivalPlace, let_go_all, abandoned_going, claimed_for, AgentState, ClaimedTrace, is_claimed, claim_trace, claim_unclaimed, claim_each, traces_of, claim_for, same_trace-refl, Kept, Holds, Point, with_state}
 use Rattle.std.proofs.lemmas.List.Folds.{list_any-append}
 use Rattle.hs_lists.proofs.Parts.{take_whole}
 use Rattle.hs_agent.proofs.Claimed.{claimed-plain}

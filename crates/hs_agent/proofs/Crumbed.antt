@@ -1,11 +1,9 @@
 -- What is kept after a crumb came is what the model says then, before anything has to give way.
-use Rattle.std.proofs.Common.{◌≡◌, ℕ, ◌+◌, ◌≤◌, ◌<◌, Bool, true, false, cond, not, ◌||◌, ◌&&◌, List, [], ◌∷◌, ◌++◌, length, map, Option, Some, None, nat_eq, refl, sym, ap, subst, ◌∙◌, arith}
-use Rattle.hs_agent.proofs.Prelude.{find, AllByRecursion, option_map, option_map_or, option_and_then, is_some, or-false, true≢false, by_answer, all_weaker, all_append, all_front, all_back, TraceId, NodeId, NodeSet, Crumb, Told, has_node, with_node, has-with_node, same_trace, Claim, Pin, Remembered, claim_of, is_claim_of, crumbed, Pinning, Remembers, Index, Indexed, Noted, noted_of, touch, chunks_left, AgentState, ClaimedTrace, indexed_places, indexed_count, has_crumb, same_crumb, with_crumb, late_of, with_touched, late_crumb, tell_late, take_crumb, evict, same_trace-true, same_trace-refl, ArrivalPlace, Placed, Kept, Holds, IsKept, HasPage, IsIndexed, Point, with_state, plain_claim, waiting_chunks, crumbs_known, crumb_taken}
+use Rattle.std.proofs.Common.{◌≡◌, Bool, true, false, cond, ◌||◌, ◌&&◌, List, [], ◌∷◌, ◌++◌, map, Some, None, nat_eq, refl, sym, ap, subst, ◌∙◌, arith}
+use Rattle.hs_agent.proofs.Prelude.{AllByRecursion, option_map, option_map_or, option_and_then, is_some, or-false, by_answer, all_weaker, all_append, all_front, all_back, TraceId, NodeId, Crumb, has_node, with_node, has-with_node, same_trace, Claim, Pin, claim_of, is_claim_of, crumbed, Pinning, Remembers, Indexed, noted_of, touch, chunks_left, AgentState, ClaimedTrace, indexed_places, indexed_count, has_crumb, with_crumb, late_of, with_touched, late_crumb, tell_late, evict, same_trace-true, same_trace-refl, ArrivalPlace, Placed, Kept, Holds, IsKept, HasPage, IsIndexed, Point, with_state, plain_claim, waiting_chunks, crumbs_known, crumb_taken}
 use Rattle.hs_pins.specs.Remembered as pins
 use Rattle.hs_index.specs.Index as index
 use Rattle.hs_law_agent.specs.State as model
-use Rattle.hs_law_agent.specs.Messages.{say}
-use Rattle.hs_law_agent.specs.Stepping.{remember}
 use Rattle.hs_agent.proofs.Arrived.{all-touched}
 use Rattle.hs_agent.proofs.Claimed.{all-noted}
 use Rattle.hs_agent.proofs.CrumbSets.{known-claimed}

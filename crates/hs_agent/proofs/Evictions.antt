@@ -1,6 +1,6 @@
 -- That what the index lets go, and what it keeps, is what the model does.
-use Rattle.std.proofs.Common.{◌≡◌, ℕ, ◌+◌, ◌≤◌, Bool, true, false, cond, ◌||◌, List, [], ◌∷◌, ◌++◌, length, map, fold, Option, Some, None, nat_lt, refl, sym, ap, subst, ◌∙◌, arith, append-nil}
-use Rattle.hs_agent.proofs.Prelude.{find, AllByRecursion, option_map_or, append_assoc, map-append, length-map, fold-append, sum_by-cons, map-map, all_append, all_front, all_back, TraceId, Group, Standing, PlainSettings, Indexed, Leaving, chunk_count, count_chunks, chunks_left, kept, evicted, is_of, nothing, Claim, moved, indexed_places, indexed_count, pinned_for, Evicted, AgentState, page_standing, fate_of, same_trace-refl, ArrivalPlace, Placed, place_of, IsIndexed, with_fate}
+use Rattle.std.proofs.Common.{◌≡◌, ℕ, ◌+◌, ◌≤◌, Bool, true, false, cond, ◌||◌, List, [], ◌∷◌, ◌++◌, length, map, fold, Some, nat_lt, refl, sym, ap, subst, ◌∙◌, arith, append-nil}
+use Rattle.hs_agent.proofs.Prelude.{find, AllByRecursion, option_map_or, append_assoc, map-append, length-map, fold-append, sum_by-cons, map-map, all_append, all_front, all_back, TraceId, Group, Standing, PlainSettings, Indexed, Leaving, chunk_count, count_chunks, chunks_left, kept, evicted, is_of, nothing, Claim, indexed_places, indexed_count, pinned_for, Evicted, AgentState, page_standing, fate_of, same_trace-refl, ArrivalPlace, Placed, place_of, IsIndexed, with_fate}
 use Rattle.hs_base.specs.declared.told.Fate.TheVariants as fates
 use Rattle.hs_index.specs.Index.{leaving, is_over}
 use Rattle.hs_law_agent.specs.Evicting as model

@@ -1,5 +1,5 @@
 -- An event admits one trigger at most.
-use Rattle.std.proofs.Common.{◌≡◌, ℕ, ◌+◌, ◌≤◌, suc, Bool, true, false, cond, List, [], ◌∷◌, ◌++◌, length, Option, Some, None, refl, sym, ap, ◌∙◌, arith}
+use Rattle.std.proofs.Common.{◌≡◌, ℕ, ◌+◌, ◌≤◌, Bool, true, false, cond, List, [], ◌∷◌, length, Option, Some, None, refl, ◌∙◌, arith}
 use Rattle.hs_agent.proofs.Prelude.{option_map_or, Ask, Crumb, Group, Trigger, PlainSettings, Sheet, AgentState, ClaimedTrace, is_abandoned, evict, claim_each, traces_of, abandon, has_crumb, Chunk, Crumbed, Triggered, Asked, Turn, Answered, Given, Missed, Unread, AgentEvent, Took, Gave, take_input, take_answer, give_back, take_chunk, take_crumb, take_trigger, pin_chunk, late_crumb, tell_late, claim_for, admits, admit, note_trigger, count_admitted, group_of, with_indexed, with_touched, with_pinned, with_abandoned, after, after_from, after_event}
 use Rattle.hs_law_agent.specs.State.{claim_of}
 use Rattle.hs_law_agent.specs.Stepping.{Input}

@@ -1,6 +1,6 @@
 -- That the groups which give way are the model's.
 use Rattle.std.proofs.Common.{◌≡◌, ℕ, Bool, true, false, cond, not, List, [], ◌∷◌, ◌++◌, length, map, filter, Option, Some, None, slice_get, refl, sym, ap, ◌∙◌, true≢false, ◌||◌, fold, ◌+◌, suc, zero, nat_eq, subst, nat_lt, append-nil, arith}
-use Rattle.hs_agent.proofs.Prelude.{filter_map, AllByRecursion, cons_option, list_any, option_and_then, option_map_or, Group, Pin, pins_for, without_group, is_for, same_group-true, eqb-true, append_assoc, map-append, length-map, PlainSettings, AgentState, moved_from, moved, is_among, Taken, ChunkStanding, Pinned, Reported, Evicted, Abandoned, pinning_group, pinned_for, indexed_places, indexed_count, is_indexed, stands, page_standing, fate_of, Standing, TraceId, fold-append, with_fate, abandoned_fate}
+use Rattle.hs_agent.proofs.Prelude.{filter_map, AllByRecursion, cons_option, option_and_then, option_map_or, Group, Pin, pins_for, without_group, is_for, same_group-true, eqb-true, append_assoc, map-append, length-map, PlainSettings, AgentState, moved_from, moved, is_among, Taken, ChunkStanding, Pinned, Reported, Evicted, Abandoned, pinning_group, pinned_for, indexed_places, indexed_count, is_indexed, page_standing, fate_of, Standing, TraceId, fold-append, with_fate, abandoned_fate}
 use Rattle.hs_pins.specs.Abandoning.{groups_of}
 use Rattle.hs_pins.specs.Abandoning as pins
 use Rattle.hs_law_agent.specs.Standings.{Indexed, is_pinned_for, is_pinned_to, same_group}

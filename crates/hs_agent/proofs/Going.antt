@@ -1,6 +1,6 @@
 -- One chunk more is let go; and what that leaves as it is.
-use Rattle.std.proofs.Common.{◌≡◌, ℕ, List, [], ◌∷◌, ◌++◌, map, fold, refl, sym, ap, ◌∙◌}
-use Rattle.hs_agent.proofs.Prelude.{append_assoc, map-append, fold-append, Pin, Pinning, ArrivalPlace, Kept, Going, let_go, let_go_all, page_in, reported, reported_going}
+use Rattle.std.proofs.Common.{◌≡◌, List, [], ◌∷◌, ◌++◌, map, refl, sym, ap, ◌∙◌}
+use Rattle.hs_agent.proofs.Prelude.{append_assoc, map-append, fold-append, Pin, ArrivalPlace, Kept, Going, let_go, let_go_all, page_in, reported, reported_going}
 
 module _ {L : Type 0} where
   pub let_go_more : (kept now next : Kept L) (goings : List Going) (going : Going) → now ≡ let_go_all kept goings → next ≡ let_go now going → next ≡ let_go_all kept (goings ++ going ∷ [])

@@ -1,6 +1,6 @@
 -- What stays where a chunk more was taken.
-use Rattle.std.proofs.Common.{◌≡◌, ℕ, ◌<◌, ◌≤◌, List, [], ◌∷◌, ◌++◌, length, map, Option, Some, None, slice_get, slice_set, refl, sym, ap, ◌∙◌}
-use Rattle.hs_agent.proofs.Prelude.{filter_map, AllByRecursion, cons_option, option_map, option_and_then, option_map_or, Fate, Group, Standing, PlainSettings, page_bytes, Buffer, Taken, pinning_group, pinned_for, bytes_at, Placed, Pledged, place_of, IsKept, HasPage, with_fate}
+use Rattle.std.proofs.Common.{◌≡◌, ℕ, ◌<◌, List, [], ◌∷◌, ◌++◌, length, Option, Some, None, slice_get, refl, ap, ◌∙◌}
+use Rattle.hs_agent.proofs.Prelude.{filter_map, AllByRecursion, cons_option, option_map, option_and_then, Fate, Group, Standing, PlainSettings, page_bytes, Buffer, Taken, pinning_group, pinned_for, bytes_at, Placed, Pledged, place_of, IsKept, HasPage, with_fate}
 use Rattle.hs_lists.proofs.Places.{get_front, get_front_same}
 use Rattle.hs_agent.proofs.NotedFates.{with_fate-later}
 

@@ -1,7 +1,6 @@
 -- What the index keeps is what the model has indexed: where a trace is touched, where it leaves, and where it is claimed.
-use Rattle.std.proofs.Common.{◌≡◌, ℕ, ◌+◌, ◌<◌, ◌≤◌, zero, suc, Bool, true, false, cond, not, ◌||◌, ◌&&◌, List, [], ◌∷◌, ◌++◌, length, map, filter, Some, None, nat_eq, eq-eqb, refl, sym, ap, subst, ◌∙◌, arith, append-nil}
-use Rattle.hs_agent.proofs.Prelude.{find, AllByRecursion, list_any, option_map_or, or-true, eqb-true, true≢false, map-append, length-map, length-append, sum_by-cons, ne_eqb, by_answer, all_weaker, all_append, TraceId, NodeId, NodeSet, Ask, Crumb, Group, has_node, no_nodes, with_node, has-no_nodes, has-with_node, same_trace, Buffer, Sheet, Noted, Indexed, is_of, nothing, noted_of, others, touch, with_chunk, chunk_count, count_chunks, Claim, claim_of, is_claim_of, moved, places_from, indexed_places, indexed_count, is_indexed, is_indexed_of, trace_of, Taken, ChunkStanding, Pinned, Reported, Evicted, Abandoned, PlainSettings, AgentState, start, evict_trace, claim_trace, has_crumb, same_crumb, with_crumb, with_indexed, with_touched, same_trace-true, same_trace-refl, ArrivalPlace, Placed, place_of, AreApart, IsIndexed, crumbs_known}
-use Rattle.std.specs.Prelude.{sum_by}
+use Rattle.std.proofs.Common.{◌≡◌, ℕ, ◌+◌, suc, Bool, true, false, cond, not, ◌||◌, ◌&&◌, List, [], ◌∷◌, ◌++◌, length, map, filter, Some, None, nat_eq, eq-eqb, refl, sym, ap, ◌∙◌, arith, append-nil}
+use Rattle.hs_agent.proofs.Prelude.{find, AllByRecursion, list_any, option_map_or, or-true, eqb-true, true≢false, map-append, length-map, length-append, sum_by-cons, ne_eqb, by_answer, all_weaker, all_append, TraceId, NodeSet, Ask, Crumb, has_node, has-no_nodes, has-with_node, same_trace, Sheet, Noted, Indexed, is_of, nothing, noted_of, others, touch, with_chunk, chunk_count, count_chunks, Claim, claim_of, is_claim_of, moved, places_from, indexed_places, indexed_count, is_indexed, is_indexed_of, trace_of, Taken, ChunkStanding, Pinned, Evicted, PlainSettings, AgentState, start, evict_trace, claim_trace, has_crumb, same_crumb, with_crumb, with_indexed, with_touched, same_trace-true, same_trace-refl, ArrivalPlace, Placed, place_of, AreApart, IsIndexed, crumbs_known}
 use Rattle.std.specs.Option.{option_or}
 use Rattle.std.proofs.lemmas.Bool.{not-true}
 use Rattle.std.proofs.lemmas.List.Elements.{filter-append}
@@ -10,11 +9,9 @@ use Rattle.std.proofs.lemmas.List.Sums.{sum_by_push}
 use Rattle.hs_lists.proofs.Options.{option_or_none}
 use Rattle.hs_index.specs.Index.{is_other}
 use Rattle.hs_index.specs.Index as index
-use Rattle.hs_pins.specs.Remembered as pins
 use Rattle.hs_law_agent.specs.Standings.{Indexed as IsIn}
 use Rattle.hs_law_agent.specs.State.{without_trace, without_crumbs}
 use Rattle.hs_law_agent.specs.Evicting as model
-use Rattle.hs_law_agent.specs.Stepping.{next_place}
 use Rattle.hs_agent.proofs.Alls.{all-passing, all-filter}
 use Rattle.hs_agent.proofs.Moving.{places-other, places-gone, count-left}
 

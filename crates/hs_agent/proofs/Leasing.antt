@@ -1,6 +1,6 @@
 -- Chunks that are handed out one after another, each with the lease that is kept for it.
-use Rattle.std.proofs.Common.{◌≡◌, ◌≢◌, ℕ, List, [], ◌∷◌, ◌++◌, map, Option, Some, None, option_map, slice_get, refl, sym, ap, subst, ◌∙◌}
-use Rattle.hs_agent.proofs.Prelude.{filter_map, AllByRecursion, cons_option, option_and_then, all_weaker, all_and, Buffer, Placed, Pledged, place_of, leased, lent, HandsOut, HaveOwnPlaces, IsPledged}
+use Rattle.std.proofs.Common.{◌≡◌, ◌≢◌, List, [], ◌∷◌, Option, None, option_map, slice_get, refl, sym, ap, ◌∙◌}
+use Rattle.hs_agent.proofs.Prelude.{filter_map, AllByRecursion, cons_option, option_and_then, all_weaker, all_and, Buffer, Placed, Pledged, place_of, leased, lent, HandsOut, IsPledged}
 use Rattle.hs_agent.proofs.Offered.{get-other}
 
 module _ {L : Type 0} (old new : List (Option (Pledged L))) (first : Placed) (rest : List Placed) (buffer : Buffer L) (out : HandsOut old first buffer new) (apart : AllByRecursion (λ (other : Placed). place_of first ≢ place_of other) rest) where

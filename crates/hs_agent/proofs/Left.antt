@@ -1,7 +1,7 @@
 -- What is left at the end, with the leases that are kept, is what the model has left, each chunk as it came last.
-use Rattle.std.proofs.Common.{◌≡◌, ℕ, List, [], ◌∷◌, ◌++◌, map, Option, Some, None, option_map, slice_get, refl, sym, ap, subst, ◌∙◌}
-use Rattle.hs_agent.proofs.Prelude.{Result, Ok, Err, IfOk, filter_map, flat_map, AllByRecursion, cons_option, option_and_then, option_to_list, append_assoc, map-append, all_weaker, all_append, all_front, all_back, chunks_left, Buffer, PlainAgentBook, Step, book_of, Taken, indexed_places, AgentState, Placed, Pledged, place_of, leased, lent, IsPledged, Kept, Holds, Point, IsKept, waiting_chunks}
-use Rattle.hs_agent.specs.Points.{places_left, buffers_left}
+use Rattle.std.proofs.Common.{◌≡◌, List, [], ◌∷◌, ◌++◌, map, Option, None, option_map, slice_get, refl, sym, ap, ◌∙◌}
+use Rattle.hs_agent.proofs.Prelude.{Result, Ok, Err, IfOk, filter_map, flat_map, AllByRecursion, cons_option, option_and_then, option_to_list, map-append, all_weaker, all_append, all_front, all_back, chunks_left, Buffer, PlainAgentBook, Step, book_of, Taken, indexed_places, Placed, Pledged, place_of, leased, lent, IsPledged, Kept, Holds, Point, IsKept, waiting_chunks}
+use Rattle.hs_agent.specs.Points.{buffers_left}
 use Rattle.hs_agent.proofs.OwnPlaces.{Traced, HasPlaces, have_places}
 
 module _ {L : Type 0} (leases : List (Option (Pledged L))) (buffers : List (Buffer L)) where

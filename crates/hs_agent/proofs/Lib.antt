@@ -37,3 +37,5 @@ pub mod Few
 pub mod Brought
 pub mod Forgetting
 pub mod Emptying
+pub mod Asking
+pub mod Later

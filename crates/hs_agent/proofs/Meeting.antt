@@ -1,8 +1,7 @@
 -- Over any calls the run of an agent is the model's.
-use Rattle.std.proofs.Common.{◌≡◌, ℕ, List, [], ◌∷◌, ◌++◌, map, fold, None, refl, sym, ap, ◌∙◌, append-nil}
-use Rattle.hs_agent.proofs.Prelude.{option_to_list, append_assoc, Step, PlainSettings, EventsLeadOn, AgentState, AgentEvent, Took, Gave, step_of, step_of_answer, after, after_from, after_event, take_input, take_answer, Run, state_of}
+use Rattle.std.proofs.Common.{◌≡◌, ℕ, List, [], ◌∷◌, ◌++◌, map, fold, refl, sym, ap, ◌∙◌, append-nil}
+use Rattle.hs_agent.proofs.Prelude.{append_assoc, PlainSettings, EventsLeadOn, AgentState, AgentEvent, Took, Gave, step_of, step_of_answer, after, after_from, after_event, take_input, take_answer, Run, state_of}
 use Rattle.hs_law_agent.specs.Laws.{StepsSayWhatTheyTell, noted_as}
-use Rattle.hs_law_agent.specs.Stepping.{told_by}
 use Rattle.hs_agent.specs.Runs.{new_run}
 use Rattle.hs_agent.specs.Calls.{Call, Takes, Offers, Answers, after_call, run_after, events_in, events_of, told_at, told_from, MeetsModel}
 use Rattle.hs_agent.proofs.Following.{answer-log}

@@ -1,5 +1,5 @@
 -- What stays of chunks of which some stand anew: their pages, and where they do not care how these stand, what passes a test.
-use Rattle.std.proofs.Common.{◌≡◌, ℕ, ◌+◌, ◌≤◌, suc, zero, Bool, true, false, cond, ◌&&◌, List, [], ◌∷◌, length, map, filter, Option, Some, None, slice_get, refl, sym, ap, subst, ◌∙◌, arith}
+use Rattle.std.proofs.Common.{◌≡◌, ℕ, ◌+◌, ◌≤◌, suc, Bool, true, false, cond, ◌&&◌, List, [], ◌∷◌, length, map, filter, Option, Some, None, slice_get, refl, sym, ap, subst, ◌∙◌, arith}
 use Rattle.hs_agent.proofs.Prelude.{filter_map, cons_option, option_map, length-map, slice_get-map, TraceId, same_trace, PlainSettings, Sheet, page_bytes, used_of, moved_from, moved, is_among, places_from, indexed_places, indexed_count, is_indexed, is_indexed_of, trace_of, Taken, ChunkStanding, bytes_at, HasPage, Placed, place_of}
 
 abbrev pub sheets : List Taken → List Sheet

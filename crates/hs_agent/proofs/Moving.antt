@@ -1,5 +1,5 @@
 -- Which chunks stand anew where those at some places do, and what is indexed and pinned then.
-use Rattle.std.proofs.Common.{◌≡◌, ℕ, ◌+◌, ◌<◌, ◌≤◌, zero, suc, Bool, true, false, cond, ◌||◌, ◌&&◌, List, [], ◌∷◌, ◌++◌, length, map, filter, Option, Some, None, slice_get, nat_eq, eq-eqb, refl, sym, ap, subst, ◌∙◌, arith}
+use Rattle.std.proofs.Common.{◌≡◌, ℕ, ◌+◌, ◌<◌, zero, suc, Bool, true, false, cond, ◌||◌, ◌&&◌, List, [], ◌∷◌, length, map, filter, Option, Some, None, slice_get, nat_eq, eq-eqb, refl, sym, ap, ◌∙◌, arith}
 use Rattle.hs_agent.proofs.Prelude.{AllByRecursion, option_map, option_map_or, option_and_then, eqb-true, true≢false, ne_eqb, by_answer, all_weaker, TraceId, moved_from, moved, is_among, places_from, indexed_places, indexed_count, is_indexed, is_indexed_of, trace_of, pinned_for, pinning_group, Taken, ChunkStanding, Pinned, Reported, Evicted, Abandoned, Group, same_trace, page_standing, fate_of}
 use Rattle.hs_law_agent.specs.Standings.{Indexed}
 use Rattle.hs_base.specs.declared.told.Fate.TheVariants as fates

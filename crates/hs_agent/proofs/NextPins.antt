@@ -1,12 +1,12 @@
 -- Which chunk is the next one to be reported of a trigger id: the first that is pinned for its group.
-use Rattle.std.proofs.Common.{◌≡◌, ℕ, Bool, true, false, cond, not, ◌||◌, List, [], ◌∷◌, ◌++◌, map, filter, Option, Some, None, slice_get, nat_eq, ◌+◌, ◌≤◌, eq-eqb, refl, sym, ap, subst, ◌∙◌, arith}
-use Rattle.hs_agent.proofs.Prelude.{AllByRecursion, list_any, option_map_or, true≢false, eqb-true, by_answer, TriggerId, Group, put_by, ordered_by, is_no_greater, Pin, Remembered, is_for, is_under, pins_under, goes_behind, same_group-true, is_among, count_of}
+use Rattle.std.proofs.Common.{◌≡◌, ℕ, Bool, true, false, cond, not, ◌||◌, List, [], ◌∷◌, ◌++◌, filter, slice_get, nat_eq, ◌+◌, ◌≤◌, eq-eqb, refl, sym, ap, ◌∙◌, arith}
+use Rattle.hs_agent.proofs.Prelude.{AllByRecursion, option_map_or, true≢false, eqb-true, by_answer, TriggerId, Group, put_by, ordered_by, is_no_greater, Pin, is_for, is_under, pins_under, goes_behind, same_group-true, is_among, count_of}
 use Rattle.std.specs.Ordering.{nat_cmp, ordering_then, is_le}
 use Rattle.std.specs.declared.cmp.Ordering.TheVariants.{Equal, Less, Greater}
 use Rattle.std.proofs.lemmas.Bool.{le-ltb, or_parts}
 use Rattle.hs_base.specs.Ranks.{trace_rank}
 use Rattle.hs_pins.specs.Remembered.{without_first}
-use Rattle.hs_pins.specs.Waiting.{order_of, next_of, without_next}
+use Rattle.hs_pins.specs.Waiting.{order_of, without_next}
 use Rattle.hs_pins.proofs.Order.{same_group-refl}
 
 -- ---- one group

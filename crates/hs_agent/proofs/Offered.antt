@@ -1,6 +1,6 @@
 -- What is kept when the first of the hand was offered, and when the pool answered, is what the model says then.
-use Rattle.std.proofs.Common.{◌≡◌, ◌≢◌, ℕ, ◌+◌, ◌<◌, suc, zero, eq-eqb, Bool, true, false, List, [], ◌∷◌, ◌++◌, length, map, set, Option, Some, None, slice_get, slice_set, refl, sym, ap, subst, ◌∙◌, arith}
-use Rattle.hs_agent.proofs.Prelude.{AllByRecursion, option_map_or, option_and_then, option_to_list, length-map, slice_get_within, Told, Step, Result, Ok, Err, IfOk, OnOk, IfSome, all_weaker, all_append, all_front, all_back, all_and, one_if, Buffer, buffer_of, buffer_in, Share, Pin, AgentState, Taken, count_of, IsInOnePlace, Given, note, step_of_answer, give_back, after_gave, ArrivalPlace, Placed, Pledged, place_of, placed_at, leased, HandsOut, Kept, Holds, Point, IsKept, with_state, waiting_chunks, all_held, back_at, answered}
+use Rattle.std.proofs.Common.{◌≡◌, ◌≢◌, ℕ, ◌+◌, ◌<◌, suc, zero, eq-eqb, true, false, List, [], ◌∷◌, ◌++◌, length, map, Option, Some, None, slice_get, slice_set, refl, sym, ap, subst, ◌∙◌, arith}
+use Rattle.hs_agent.proofs.Prelude.{AllByRecursion, option_map_or, option_and_then, option_to_list, length-map, slice_get_within, Told, Step, Result, Ok, Err, IfOk, OnOk, IfSome, all_weaker, all_append, all_front, all_back, all_and, one_if, Buffer, buffer_of, buffer_in, Share, AgentState, Taken, count_of, IsInOnePlace, Given, note, step_of_answer, give_back, after_gave, Placed, Pledged, place_of, placed_at, leased, Kept, Holds, Point, IsKept, with_state, waiting_chunks, back_at, answered}
 use Rattle.std.proofs.lemmas.List.{length-set}
 use Rattle.std.specs.Prelude.{IfNone}
 use Rattle.hs_words.specs.declared.token.Held.{Held}

@@ -1,6 +1,6 @@
 -- That what waits for a trigger id stands in the order of the model.
-use Rattle.std.proofs.Common.{◌≡◌, ℕ, Bool, true, false, cond, List, [], ◌∷◌, map, filter, Option, Some, None, slice_get, nat_eq, refl, sym, ap, ◌∙◌}
-use Rattle.hs_agent.proofs.Prelude.{AllByRecursion, option_and_then, option_map_or, Group, TriggerId, ordered_by, put_by, Pin, pins_under, is_under, goes_behind, is_no_greater, Taken, ChunkStanding, Pinned, Reported, Evicted, Abandoned, pinning_group, pinned_for, stands, AgentState}
+use Rattle.std.proofs.Common.{◌≡◌, ℕ, Bool, true, false, cond, List, [], ◌∷◌, map, filter, Option, Some, None, slice_get, nat_eq, refl, ap, ◌∙◌}
+use Rattle.hs_agent.proofs.Prelude.{option_and_then, option_map_or, Group, TriggerId, ordered_by, put_by, Pin, pins_under, is_under, goes_behind, is_no_greater, Taken, ChunkStanding, Pinned, Reported, Evicted, Abandoned, pinning_group, pinned_for, stands, AgentState}
 use Rattle.hs_pins.specs.Waiting as pins
 use Rattle.hs_law_agent.specs.Standings.{Indexed}
 use Rattle.hs_law_agent.specs.Abandoning as model_order

@@ -1,8 +1,7 @@
 -- No two chunks that are kept have one place, and none has the place of the chunk that was offered.
-use Rattle.std.proofs.Common.{◌≡◌, ◌≢◌, ℕ, ◌+◌, ◌≤◌, ◌<◌, suc, zero, Bool, true, false, cond, ◌&&◌, List, [], ◌∷◌, ◌++◌, map, Option, Some, None, slice_get, find, nat_eq, eq-eqb, refl, sym, ap, subst, ◌∙◌, arith, true≢false}
-use Rattle.hs_agent.proofs.Prelude.{AllByRecursion, option_map_or, option_to_list, ne_eqb, map-append, map-map, by_answer, all_weaker, one_if, TraceId, same_trace, Indexed, Noted, noted_of, is_of, nothing, chunks_left, Pin, Taken, trace_of, is_indexed, is_indexed_of, indexed_places, places_from, stands, AgentState, count_of, IsInOnePlace, same_trace-true, same_trace-refl, ArrivalPlace, Placed, place_of, HaveOwnPlaces, Kept, Holds, Point, AreApart, IsIndexed, pinned_place, waiting_chunks, all_held}
-use Rattle.hs_law_agent.specs.Standings.{is_pinned, passes}
-use Rattle.hs_law_agent.specs.Laws.{given_places}
+use Rattle.std.proofs.Common.{◌≡◌, ◌≢◌, ℕ, ◌+◌, ◌≤◌, ◌<◌, suc, zero, Bool, true, false, cond, ◌&&◌, List, [], ◌∷◌, ◌++◌, map, Option, Some, None, slice_get, find, nat_eq, eq-eqb, refl, sym, ap, ◌∙◌, arith, true≢false}
+use Rattle.hs_agent.proofs.Prelude.{AllByRecursion, option_map_or, option_to_list, ne_eqb, map-append, map-map, by_answer, all_weaker, one_if, TraceId, same_trace, Indexed, Noted, noted_of, is_of, nothing, chunks_left, Pin, Taken, trace_of, is_indexed, is_indexed_of, indexed_places, places_from, stands, count_of, IsInOnePlace, same_trace-true, same_trace-refl, ArrivalPlace, Placed, place_of, HaveOwnPlaces, Kept, Holds, Point, AreApart, waiting_chunks, all_held}
+use Rattle.hs_law_agent.specs.Standings.{passes}
 use Rattle.hs_law_agent.proofs.Counts.{count-append}
 use Rattle.hs_agent.proofs.Indexing.{same_swap}
 

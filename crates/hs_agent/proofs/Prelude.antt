@@ -1,5 +1,5 @@
 -- What several proofs of this crate take from other crates and from its own specs: each imports it from here.
-pub use Rattle.hs_agent.specs.Arriving.{ArrivesAtPins, indexed, noted}
+pub use Rattle.hs_agent.specs.Arriving.{indexed, noted}
 pub use Rattle.hs_agent.specs.Keeping.{all_held, AreApart, crumbs_known, HasPage, Holds, IsIndexed, IsKept, Kept, pinned_place, plain_claim, PlainAgent, Point, RemembersAs, waiting_chunks, with_state}
 pub use Rattle.hs_agent.specs.KeptLayout.{kept_in}
 pub use Rattle.hs_agent.specs.LettingGo.{abandoned_fate, abandoned_going, evicted_going, Going, let_go, let_go_all, page_in, reported, reported_going, with_fate}

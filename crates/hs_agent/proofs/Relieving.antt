@@ -1,9 +1,8 @@
 -- What is kept after an abandonment is what the model says then.
-use Rattle.std.proofs.Common.{◌≡◌, ℕ, ◌+◌, ◌≤◌, ◌<◌, ◌^◌, Bool, true, false, cond, not, List, [], ◌∷◌, ◌++◌, length, map, filter, fold, refl, sym, ap, subst, ◌∙◌, arith, append-nil}
-use Rattle.hs_agent.proofs.Prelude.{filter_map, AllByRecursion, option_to_list, append_assoc, map-append, map-map, all_weaker, all_append, all_front, all_back, Group, Standing, Pin, Remembered, pins_for, without_group, is_for, leaving, drops, relieved, Pinning, Remembers, staying_few, Indexed, chunks_left, count_chunks, AgentState, Taken, page_standing, claim_note, bytes_at, has_crumb, ArrivalPlace, Placed, Pledged, place_of, Kept, Holds, HasPage, IsKept, IsIndexed, RemembersAs, Point, with_state, pinned_place, waiting_chunks, all_held, Going, with_fate, let_go, let_go_all, abandoned_going}
+use Rattle.std.proofs.Common.{◌≡◌, ℕ, ◌<◌, Bool, true, false, cond, not, List, [], ◌∷◌, ◌++◌, length, map, fold, refl, sym, ap, subst, ◌∙◌, arith, append-nil}
+use Rattle.hs_agent.proofs.Prelude.{filter_map, AllByRecursion, option_to_list, append_assoc, map-append, map-map, all_weaker, all_append, all_front, all_back, Group, Standing, Pin, pins_for, without_group, is_for, leaving, drops, relieved, Pinning, Remembers, staying_few, chunks_left, AgentState, page_standing, claim_note, bytes_at, has_crumb, ArrivalPlace, Placed, place_of, Kept, Holds, HasPage, IsKept, IsIndexed, RemembersAs, Point, with_state, pinned_place, waiting_chunks, all_held, Going, with_fate, let_go, let_go_all, abandoned_going}
 use Rattle.hs_pins.specs.Abandoning.{staying, going}
 use Rattle.hs_law_agent.specs.Abandoning as model
-use Rattle.hs_agent.specs.Keeping.{IsIndexOf}
 use Rattle.hs_agent.proofs.GivingWay.{HasAbandoned, same_go, note_abandoned}
 use Rattle.hs_agent.proofs.Moved.{length-same, pages-same, has_page-same}
 

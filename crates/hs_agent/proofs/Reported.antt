@@ -1,6 +1,6 @@
 -- What the model reports at once, it reports one by one.
-use Rattle.std.proofs.Common.{◌≡◌, ℕ, ◌+◌, ◌<◌, zero, suc, Bool, true, false, cond, not, ◌||◌, ◌&&◌, List, [], ◌∷◌, ◌++◌, map, filter, fold, Option, Some, None, slice_get, nat_eq, eq-eqb, refl, sym, ap, ◌∙◌, arith, append-nil}
-use Rattle.hs_agent.proofs.Prelude.{list_any, append_assoc, ne_eqb, Taken, ChunkStanding, Pinned, Reported, Evicted, Abandoned, is_among, is_indexed, moved_from, moved, AgentState, report, reported_standing}
+use Rattle.std.proofs.Common.{◌≡◌, ℕ, ◌+◌, ◌<◌, zero, suc, Bool, true, false, cond, not, ◌||◌, List, [], ◌∷◌, filter, fold, Some, slice_get, nat_eq, refl, sym, ap, ◌∙◌, arith, append-nil}
+use Rattle.hs_agent.proofs.Prelude.{append_assoc, ne_eqb, Taken, ChunkStanding, Pinned, Reported, Evicted, Abandoned, is_among, is_indexed, moved_from, moved, AgentState, report, reported_standing}
 use Rattle.hs_law_agent.specs.Standings.{Indexed}
 use Rattle.hs_agent.proofs.Moved.{MovesUnindexed}
 

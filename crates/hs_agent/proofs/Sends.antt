@@ -1,6 +1,6 @@
 -- What is kept while a turn sends: the model has reported what was sent so far.
-use Rattle.std.proofs.Common.{◌≡◌, ℕ, ◌+◌, ◌<◌, ◌≤◌, zero, suc, Bool, true, false, cond, not, List, [], ◌∷◌, ◌++◌, length, map, filter, fold, take, Option, Some, None, slice_get, refl, sym, ap, subst, ◌∙◌, arith, append-nil}
-use Rattle.hs_agent.proofs.Prelude.{filter_map, flat_map, ◌≢◌, AllByRecursion, option_map, option_map_or, option_and_then, append_assoc, map-append, length-append, fold-append, all_weaker, all_append, all_front, all_back, all_map, all_unmap, all_and, TraceId, TriggerId, Group, Standing, PlainSettings, used_in, used_of, chunks_left, Pin, Remembered, Remembers, waiting, used_bytes, Share, SendsEach, Taken, ChunkStanding, Pinned, Reported, Evicted, Abandoned, indexed_places, indexed_count, pinned_for, pinning_group, is_among, moved, AgentState, page_standing, fate_of, reported_standing, visit, report, ArrivalPlace, Placed, place_of, Kept, Point, Holds, IsKept, HasPage, pinned_place, waiting_chunks, with_fate, SendsNext, costs_of, id_of}
+use Rattle.std.proofs.Common.{◌≡◌, ℕ, ◌≤◌, zero, suc, false, not, List, [], ◌∷◌, ◌++◌, length, map, filter, fold, take, Option, Some, None, slice_get, refl, sym, ap, subst, ◌∙◌, arith, append-nil}
+use Rattle.hs_agent.proofs.Prelude.{flat_map, ◌≢◌, AllByRecursion, option_map_or, option_and_then, append_assoc, map-append, length-append, fold-append, all_weaker, all_append, all_front, all_back, all_map, all_unmap, all_and, TraceId, Standing, used_in, used_of, chunks_left, Pin, Remembered, Remembers, waiting, used_bytes, Share, SendsEach, Taken, ChunkStanding, Pinned, Reported, Evicted, Abandoned, indexed_places, indexed_count, pinned_for, pinning_group, is_among, moved, AgentState, page_standing, reported_standing, visit, report, ArrivalPlace, Placed, place_of, Kept, Point, Holds, IsKept, HasPage, pinned_place, waiting_chunks, with_fate, SendsNext, costs_of, id_of}
 use Rattle.std.specs.Prelude.{replicate}
 use Rattle.hs_pins.specs.Waiting.{taken}
 use Rattle.hs_pins.specs.Waiting as pins

@@ -1,6 +1,6 @@
 -- What is kept after an eviction is what the model says then.
-use Rattle.std.proofs.Common.{◌≡◌, ℕ, ◌+◌, ◌≤◌, ◌<◌, List, [], ◌∷◌, ◌++◌, length, map, fold, refl, sym, ap, subst, ◌∙◌, arith}
-use Rattle.hs_agent.proofs.Prelude.{filter_map, AllByRecursion, option_to_list, append_assoc, map-append, map-map, all_weaker, all_append, all_front, all_back, Standing, Pin, Index, Indexed, Leaving, chunks_left, kept, evicted, settled, going, AgentState, page_standing, claim_note, bytes_at, evict, ArrivalPlace, Placed, place_of, Kept, Holds, HasPage, IsKept, RemembersAs, Point, with_state, pinned_place, waiting_chunks, all_held, Going, let_go_all, evicted_going}
+use Rattle.std.proofs.Common.{◌≡◌, ℕ, ◌<◌, List, ◌++◌, length, map, fold, sym, ap, subst, ◌∙◌, arith}
+use Rattle.hs_agent.proofs.Prelude.{filter_map, AllByRecursion, option_to_list, append_assoc, map-append, map-map, all_weaker, all_append, all_front, all_back, Pin, Indexed, Leaving, chunks_left, kept, evicted, settled, going, AgentState, claim_note, bytes_at, evict, ArrivalPlace, Placed, place_of, Kept, Holds, HasPage, IsKept, RemembersAs, Point, with_state, pinned_place, waiting_chunks, all_held, let_go_all, evicted_going}
 use Rattle.hs_index.specs.Index.{with_touched}
 use Rattle.hs_agent.proofs.Evictions.{HasEvicted, same_evicted, note_leaving, all-kept, all-evicted, count-kept}
 use Rattle.hs_agent.proofs.Moved.{length-same, pages-same, has_page-same}

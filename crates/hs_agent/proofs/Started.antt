@@ -1,5 +1,5 @@
 -- What is kept at the beginning.
-use Rattle.std.proofs.Common.{◌≡◌, ℕ, [], None, refl, arith}
+use Rattle.std.proofs.Common.{ℕ, [], None, refl, arith}
 use Rattle.hs_agent.proofs.Prelude.{PlainSettings, Pinning, Remembers, start, ArrivalPlace, Kept, Point, Holds}
 use Rattle.hs_pins.specs.Remembered.{fresh}
 use Rattle.hs_index.specs.Index.{new_index}

@@ -1,10 +1,8 @@
 -- A chunk that was taken: what is kept then is what the model says.
-use Rattle.std.proofs.Common.{◌≡◌, ℕ, ◌+◌, ◌≤◌, ◌<◌, ◌^◌, Bool, true, false, cond, [], ◌∷◌, ◌++◌, length, map, Option, Some, None, sym, ap, subst, ◌∙◌}
-use Rattle.hs_agent.proofs.Prelude.{option_map, option_map_or, option_and_then, by_answer, TraceId, Header, Sheet, used_of, header_of, Buffer, Claim, Remembered, claim_of, pin_for, arrived, with_pin, Pinning, Remembers, drops, relieved, AgentState, ClaimedTrace, is_abandoned, abandon, evict, with_indexed, with_pinned, with_abandoned, pin_chunk, take_chunk, ArrivalPlace, Placed, placed_at, Kept, Holds, Point, with_state, plain_claim, Going, let_go_all, abandoned_going, abandoned_fate, noted, indexed, sheet_in, chunk_taken}
-use Rattle.hs_words.specs.Chunks.{header_in}
+use Rattle.std.proofs.Common.{◌≡◌, ◌+◌, ◌≤◌, ◌<◌, ◌^◌, Bool, cond, [], ◌∷◌, ◌++◌, length, map, Some, None, sym, ap, subst, ◌∙◌}
+use Rattle.hs_agent.proofs.Prelude.{option_map, option_map_or, option_and_then, by_answer, TraceId, Header, Sheet, used_of, header_of, Buffer, Claim, claim_of, pin_for, arrived, with_pin, Remembers, drops, relieved, AgentState, ClaimedTrace, is_abandoned, abandon, evict, with_indexed, with_pinned, with_abandoned, pin_chunk, take_chunk, Placed, placed_at, Kept, Holds, Point, plain_claim, let_go_all, abandoned_going, abandoned_fate, noted, indexed, chunk_taken}
 use Rattle.hs_index.specs.Index as index
 use Rattle.hs_pins.specs.Remembered.{claim_for}
-use Rattle.hs_pins.specs.Remembered as pins
 use Rattle.hs_agent.specs.Trying.{ComesToPins}
 use Rattle.hs_agent.proofs.Arrived.{holds-arrived, holds-pinned, holds-dropped}
 use Rattle.hs_agent.proofs.Crumbed.{claim_known}

@@ -1,6 +1,6 @@
 -- What the steps of the model leave as it was: only the note of a step changes the log, and claims change no crumbs.
-use Rattle.std.proofs.Common.{◌≡◌, ℕ, Bool, true, false, cond, List, [], ◌∷◌, ◌++◌, length, fold, nat_lt, Option, Some, None, refl, sym, ap, ◌∙◌}
-use Rattle.hs_agent.proofs.Prelude.{option_map_or, TraceId, Ask, Crumb, Group, Trigger, Step, PlainSettings, Share, Sheet, AgentState, ClaimedTrace, is_claimed, is_abandoned, evict_trace, evict, claim_trace, claim_unclaimed, claim_each, traces_of, abandon, report, visit, turn, has_crumb, Chunk, Crumbed, Triggered, Asked, Turn, take_input, take_chunk, take_crumb, take_trigger, take_ask, pin_chunk, late_crumb, tell_late, claim_for, admits, admit, note_trigger, count_admitted, group_of, with_indexed, with_touched, with_pinned, with_abandoned}
+use Rattle.std.proofs.Common.{◌≡◌, ℕ, Bool, true, false, cond, List, [], ◌∷◌, length, fold, nat_lt, Option, Some, None, refl, ap, ◌∙◌}
+use Rattle.hs_agent.proofs.Prelude.{option_map_or, TraceId, Ask, Crumb, Group, Trigger, Step, PlainSettings, Share, Sheet, AgentState, ClaimedTrace, is_claimed, is_abandoned, evict_trace, evict, claim_trace, claim_unclaimed, claim_each, traces_of, abandon, report, visit, has_crumb, Chunk, Crumbed, Triggered, Asked, Turn, take_input, take_chunk, take_crumb, take_trigger, pin_chunk, late_crumb, tell_late, claim_for, admits, admit, note_trigger, count_admitted, group_of, with_indexed, with_touched, with_pinned, with_abandoned}
 use Rattle.hs_law_agent.specs.State.{claim_of}
 use Rattle.hs_law_agent.specs.Evicting.{is_over, evict_from}
 use Rattle.hs_law_agent.specs.Abandoning.{abandon_group, abandon_within, next_to_go, pinned_groups}

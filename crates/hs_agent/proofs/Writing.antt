@@ -1,6 +1,6 @@
 -- What a list is after one of its items was written in place, and what is kept at a place.
-use Rattle.std.proofs.Common.{◌≡◌, ℕ, ◌<◌, List, [], ◌∷◌, ◌++◌, length, take, drop, set, get_or, map, Option, Some, None, slice_get, option_map, refl, sym, ap, ◌∙◌, subst, arith}
-use Rattle.hs_agent.proofs.Prelude.{length-map, slice_get-map, slice_get-get_or, slice_get_within, written_back, Pledged, pledged_of, pledges_in}
+use Rattle.std.proofs.Common.{◌≡◌, ℕ, ◌<◌, List, [], ◌∷◌, ◌++◌, length, take, drop, set, get_or, Option, Some, slice_get, option_map, sym, ap, ◌∙◌}
+use Rattle.hs_agent.proofs.Prelude.{slice_get-map, slice_get-get_or, written_back, Pledged, pledged_of, pledges_in}
 use Rattle.std.proofs.lemmas.List.{map-set}
 use Rattle.hs_agent.specs.declared.placed.Pledge.{Pledge}
 

@@ -1,5 +1,5 @@
 -- Calls of an agent, with leases that are numbers: what it offers, and what came back.
-use Rattle.std.specs.Prelude.{◌≡◌, ℕ, List, [], ◌∷◌, map, Option, Some, None, refl}
+use Rattle.std.specs.Prelude.{◌≡◌, ℕ, List, [], ◌∷◌, Some, None, refl}
 use Rattle.hs_base.specs.declared.told.Why.TheVariants.{Fired}
 use Rattle.hs_base.specs.Samples.{one_rule, t}
 use Rattle.hs_words.specs.Buffers.{Buffer}

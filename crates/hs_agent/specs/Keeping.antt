@@ -1,7 +1,7 @@
 -- What an agent keeps, and which run of the model that is. A chunk is where the model says: in the index under its trace,
 -- among the pinned, or in the hand; and what is noted of it is its standing there. Of a run contracts say the settings, the
 -- node, the events, and with which lease each chunk came last.
-use Rattle.std.specs.Prelude.{◌≡◌, ℕ, ◌+◌, ◌<◌, ◌≤◌, ◌^◌, Bool, true, false, List, [], ◌∷◌, ◌++◌, length, map, filter_map, flat_map, Option, Some, None, slice_get}
+use Rattle.std.specs.Prelude.{◌≡◌, ℕ, ◌+◌, ◌<◌, ◌≤◌, ◌^◌, Bool, false, List, [], ◌∷◌, ◌++◌, length, map, filter_map, Option, Some, None, slice_get}
 use Rattle.std.specs.List.{AllByRecursion}
 use Rattle.std.specs.Option.{option_map_or, option_to_list}
 use Rattle.hs_base.specs.declared.ids.TraceId.{TraceId}

@@ -1,5 +1,5 @@
 -- How an agent's chunks lie in its fields. There is always room to send all that is pinned, so that a turn takes no memory.
-use Rattle.std.specs.Prelude.{ℕ, ◌+◌, ◌<◌, ◌≤◌, length, map, IsSome}
+use Rattle.std.specs.Prelude.{◌+◌, ◌<◌, ◌≤◌, length, map, IsSome}
 use Rattle.std.specs.VecDeque.{deque_len, deque_capacity}
 use Rattle.std.specs.Option.{option_map}
 use Rattle.hs_words.specs.Buffers.{buffer_of}

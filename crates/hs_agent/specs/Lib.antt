@@ -12,3 +12,4 @@ pub mod Calls
 pub mod CallExamples
 pub mod Trying
 pub mod Tries
+pub mod Asking

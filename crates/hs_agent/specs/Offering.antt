@@ -1,6 +1,6 @@
 -- What becomes of what is kept when the first of the hand is offered, and when the pool answered. The offered chunk is out
 -- of the agent's hands, with its lease; where it comes back it is the first of the hand again, with the lease that it has then.
-use Rattle.std.specs.Prelude.{◌≡◌, ℕ, List, [], ◌∷◌, Option, Some, None, slice_set}
+use Rattle.std.specs.Prelude.{◌≡◌, ℕ, ◌∷◌, Option, Some, None, slice_set}
 use Rattle.std.specs.Option.{option_map_or}
 use Rattle.hs_words.specs.Buffers.{Buffer}
 use Rattle.hs_agent.specs.Placing.{Placed, HandsOut, placed_at, place_of}

@@ -24,6 +24,11 @@ crumb_taken crumb point = with_state (take_crumb point.settings crumb point.stat
 abbrev pub trigger_taken : {L : Type 0} → Trigger → Point L → Point L
 trigger_taken trigger point = with_state (take_trigger point.settings point.node trigger point.state) point
 
+-- what the group of an admitted trigger asks for
+abbrev pub ask_by : ℕ → Trigger → ℕ → Ask
+ask_by node trigger number =
+    record { group = record { id = record { node = node; number = number }; trigger = trigger.trigger; lead = trigger.lead }; laterals = trigger.laterals }
+
 -- what the group names is claimed
 abbrev pub claimed_for : {L : Type 0} → Ask → Point L → Point L
 claimed_for ask point = with_state (claim_for point.settings ask point.state) point

@@ -204,18 +204,19 @@ impl<L: Token> Agent<L> {
     }
 
     /// Forgets a group for which nothing is pinned: its claims, their crumbs, and that it was abandoned. Answers whether it
-    /// did. The run begins anew there. It takes no memory.
+    /// did; a spent agent forgets none. The run begins anew there. It takes no memory.
     pub fn forget(&mut self, group: Group) -> bool
         ensures settled { (run : Run L) → Follows self.old run → result ≡ is_settled group (state_of run) }
         ensures after { (run : Run L) → Follows self.old run → result ≡ true → Follows self.new (forgetting group run) }
         ensures same { result ≡ false → self.new ≡ self.old }
         ensures spent { self.new.spent ≡ self.old.spent }
         ensures idle { IsSpent self.old → self.new ≡ self.old }
+        ensures stays { IsSpent self.old → result ≡ false }
     {
-        lists_go_on();
         if self.spent {
             return false;
         }
+        lists_go_on();
         self.holdings.forget(group)
     }
 

@@ -26,10 +26,11 @@ ghost use Rattle.hs_law_agent.specs.Laws.{IsInOnePlace};
 ghost use Rattle.hs_agent.specs.Placing.{place_of, placed_at, pledges_in, IsPledged, HandsOut, HaveOwnPlaces, lent};
 ghost use Rattle.hs_agent.specs.Keeping.{Point, Holds, HoldsThat, with_state};
 ghost use Rattle.hs_agent.specs.LettingGo.{let_go, let_go_all, with_fate, reported, abandoned_fate, evicted_going, abandoned_going, reported_going};
-ghost use Rattle.hs_agent.specs.Arriving.{noted, indexed, ArrivesAtPins};
+ghost use Rattle.hs_agent.specs.Arriving.{noted, indexed};
 ghost use Rattle.hs_agent.specs.Offering.{Offers, answered};
-ghost use Rattle.hs_agent.specs.Points.{chunk_taken, crumb_taken, trigger_taken, claimed_for, buffers_left};
+ghost use Rattle.hs_agent.specs.Points.{chunk_taken, crumb_taken, trigger_taken, claimed_for, ask_by, buffers_left};
 
+mod claiming;
 mod trying;
 
 use crate::holdings::trying::evict_into;
@@ -41,7 +42,7 @@ use hs_base::{
     TraceId, Trigger, TriggerId, Why, rank_of,
 };
 use hs_index::TraceIndex;
-use hs_pins::{Admitted, Dropped, Pins, Taken2, is_group};
+use hs_pins::{Admitted, Dropped, Pins, is_group};
 use hs_records::{AgentBook, Claim, Standing, Step};
 use hs_sched::Queues;
 use hs_words::{Chunk, Held, Token};
@@ -160,16 +161,29 @@ impl<L: Token> Holdings<L> {
         true
     }
 
-    /// Takes a trigger. Answers what is to be told, if it is admitted.
+    /// Takes a trigger. Answers what is to be told, if it is admitted. For want of memory nothing changes.
     pub fn take_trigger(&mut self, trigger: &Trigger) -> Result<Option<Told>, Memory>
         requires { HoldsThat self.old (λ point. (is_declared point.settings.triggers trigger.now.trigger ≡ true) × (point.state.admitted + 1 < 2 ^ 32)) }
         ensures told { (point : Point L) → Holds self.old point → IfOk result (λ told. told ≡ model.told_by point.settings point.node point.state (model.Triggered 0 trigger.now)) }
         ensures after { (point : Point L) → Holds self.old point → OnOk result (Holds self.new (trigger_taken trigger.now point)) }
+        ensures same { OnErr result (self.new ≡ self.old) }
     {
-        let Admitted::Admitted { number } = self.pins.admit(trigger.trigger, trigger.moment) else {
+        let answer = self.pins.would_admit(trigger.trigger, trigger.moment);
+        let Admitted::Admitted { number } = answer else {
+            let _ = self.pins.admit(trigger.trigger, trigger.moment);
             return Ok(None);
         };
-        let ask = Ask {
+        let ask = self.ask_of(trigger, number);
+        let told = self.take_ask(&ask, Why::Fired)?;
+        let _ = self.pins.admit(trigger.trigger, trigger.moment);
+        Ok(Some(told))
+    }
+
+    /// What the group of an admitted trigger of this number asks for.
+    fn ask_of(&self, trigger: &Trigger, number: u32) -> Ask
+        ensures { result ≡ ask_by self.now.node trigger.now number }
+    {
+        Ask {
             group: Group {
                 id: GroupId {
                     node: self.node.0,
@@ -179,55 +193,23 @@ impl<L: Token> Holdings<L> {
                 lead: trigger.lead,
             },
             laterals: trigger.laterals,
-        };
-        Ok(Some(self.take_ask(&ask, Why::Fired)?))
+        }
     }
 
-    /// Claims what the group names and nobody claimed, and answers what is to be told.
+    /// Claims what the group names and nobody claimed, and answers what is to be told. For want of memory nothing changes.
     pub fn take_ask(&mut self, ask: &Ask, why: Why) -> Result<Told, Memory>
         requires { HoldsThat self.old (λ point. is_declared point.settings.triggers ask.now.group.trigger ≡ true) }
         ensures told { (point : Point L) → Holds self.old point → IfOk result (λ told. told ≡ told_of point.state.crumbs ask.now why) }
         ensures after { (point : Point L) → Holds self.old point → OnOk result (Holds self.new (claimed_for ask.now point)) }
+        ensures same { OnErr result (self.new ≡ self.old) }
     {
-        self.claim(ask, ask.group.lead)?;
-        for place in 0..ask.laterals.len() {
-            let Some(trace) = ask.laterals.get(place) else {
-                unreachable!()
-            };
-            self.claim(ask, trace)?;
-        }
-        self.abandon()?;
+        self.claim(ask)?;
         Ok(Told {
             group: ask.group,
             laterals: ask.laterals,
             crumbs: self.crumbs(ask),
             why,
         })
-    }
-
-    /// Claims a trace for a group, unless it is claimed already.
-    fn claim(&mut self, ask: &Ask, trace: TraceId) -> Result<(), Memory>
-        requires { HoldsThat self.old (λ point. is_declared point.settings.triggers ask.now.group.trigger ≡ true) }
-        ensures after { (point : Point L) → Holds self.old point → OnOk result (Holds self.new (with_state (claim_unclaimed ask.now point.state trace) point)) }
-    {
-        if self.pins.owner(trace).is_some() {
-            return Ok(());
-        }
-        let taken = self.index.claim(trace)?;
-        let room = (self.pins.chunks() as usize).saturating_add(taken.held.len());
-        self.sent.reserve(room)?;
-        self.claims.append(Claim {
-            trace,
-            group: ask.group,
-        })?;
-        let taken = Taken2 {
-            held: taken.held,
-            crumbs: taken.crumbs,
-        };
-        match self.pins.claim(ask.group, ask.laterals, trace, taken) {
-            Ok(()) => Ok(()),
-            Err(_) => Err(Memory),
-        }
     }
 
     /// The nodes to which the crumbs of a group's traces lead, each of which is claimed.
@@ -243,18 +225,6 @@ impl<L: Token> Holdings<L> {
             crumbs = crumbs.union(self.pins.crumbs(trace));
         }
         crumbs
-    }
-
-    /// Abandons groups while too much is pinned.
-    fn abandon(&mut self) -> Result<(), Memory>
-        ensures pins { (memory : Remembered ArrivalPlace) → Remembers self.old.pins memory → OnOk result (Remembers self.new.pins (relieved memory)) }
-        ensures gone { (memory : Remembered ArrivalPlace) → Remembers self.old.pins memory → OnOk result (self.new ≡ let_go_all (record self.old { pins = self.new.pins }) (map abandoned_going (drops memory))) }
-    {
-        for dropped in self.pins.abandon()?.into_vec() {
-            let Dropped { held, group } = dropped;
-            self.let_go(held, abandoned(group))?;
-        }
-        Ok(())
     }
 
     /// Notes a chunk's fate, and puts it last into the hand, where a place stays free for a chunk that comes back.

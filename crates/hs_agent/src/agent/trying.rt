@@ -1,13 +1,14 @@
 //! Inputs that an agent takes whole, or hands back.
 
-ghost use Rattle.std.specs.Prelude.{◌≡◌, ◌<◌, IfOk, IfErr, IsErr, OnOk, OnErr};
+ghost use Rattle.std.specs.Prelude.{◌≡◌, ◌+◌, ◌<◌, ◌^◌, true, Some, IfOk, IfErr, IsErr, OnOk, OnErr};
+ghost use Rattle.hs_base.specs.Rules.{is_declared};
 ghost use Rattle.hs_words.specs.Buffers.{buffer_of};
-ghost use Rattle.hs_law_agent.specs.Stepping.{Crumbed, told_by};
+ghost use Rattle.hs_law_agent.specs.Stepping.{Crumbed, Triggered, Asked, told_by};
 ghost use Rattle.hs_agent.specs.Runs.{Run, state_of, Follows, Knows, IsSpent, IsChunkFor, after_chunk};
-ghost use Rattle.hs_agent.specs.Tries.{after_crumb};
+ghost use Rattle.hs_agent.specs.Tries.{after_crumb, after_trigger, after_ask};
 
 use super::Agent;
-use hs_base::{Crumb, Memory, Told};
+use hs_base::{Ask, Crumb, Memory, Told, Trigger, Why};
 use hs_law_agent::laws::events_lead_on;
 use hs_records::Step;
 use hs_words::{Held, Token};
@@ -70,6 +71,64 @@ impl<L: Token> Agent<L> {
         self.log.reserve(2)?;
         let told = self.holdings.take_crumb(crumb)?;
         self.log.push(Step::Crumb { client });
+        Ok(told)
+    }
+
+    /// Takes a trigger of a client, as `step` does of this input. Answers what is to be told, if it is admitted. All memory
+    /// is asked for first: where it is wanting nothing changes, so that the trigger may come again.
+    pub fn try_trigger(&mut self, client: u16, trigger: &Trigger) -> Result<Option<Told>, Memory>
+        requires { Knows self.old (λ run. (is_declared run.settings.triggers trigger.now.trigger ≡ true) × ((state_of run).admitted + 1 < 2 ^ 32)) }
+        ensures told { (run : Run L) → Follows self.old run → IfOk result (λ told. told ≡ told_by run.settings run.node (state_of run) (Triggered client trigger.now)) }
+        ensures after { (run : Run L) → Follows self.old run → OnOk result (Follows self.new (after_trigger run client trigger.now)) }
+        ensures same { OnErr result (self.new ≡ self.old) }
+        ensures stays { IsSpent self.old → IsErr result }
+    {
+        if self.spent {
+            return Err(Memory);
+        }
+        self.note_trigger(client, trigger)
+    }
+
+    /// Takes a trigger where memory was never wanting.
+    fn note_trigger(&mut self, client: u16, trigger: &Trigger) -> Result<Option<Told>, Memory>
+        requires { (run : Run L) × Follows self.old run × ((is_declared run.settings.triggers trigger.now.trigger ≡ true) × ((state_of run).admitted + 1 < 2 ^ 32)) }
+        ensures told { (run : Run L) → Follows self.old run → IfOk result (λ told. told ≡ told_by run.settings run.node (state_of run) (Triggered client trigger.now)) }
+        ensures after { (run : Run L) → Follows self.old run → OnOk result (Follows self.new (after_trigger run client trigger.now)) }
+        ensures same { OnErr result (self.new ≡ self.old) }
+    {
+        events_lead_on();
+        self.log.reserve(2)?;
+        let told = self.holdings.take_trigger(trigger)?;
+        self.log.push(Step::Trigger { client });
+        Ok(told)
+    }
+
+    /// Takes an ask of the coordinator, as `step` does of this input. Answers what is to be told. All memory is asked for
+    /// first: where it is wanting nothing changes, so that the ask may come again.
+    pub fn try_ask(&mut self, ask: &Ask) -> Result<Told, Memory>
+        requires { Knows self.old (λ run. is_declared run.settings.triggers ask.now.group.trigger ≡ true) }
+        ensures told { (run : Run L) → Follows self.old run → IfOk result (λ told. Some told ≡ told_by run.settings run.node (state_of run) (Asked ask.now)) }
+        ensures after { (run : Run L) → Follows self.old run → OnOk result (Follows self.new (after_ask run ask.now)) }
+        ensures same { OnErr result (self.new ≡ self.old) }
+        ensures stays { IsSpent self.old → IsErr result }
+    {
+        if self.spent {
+            return Err(Memory);
+        }
+        self.note_ask(ask)
+    }
+
+    /// Takes an ask where memory was never wanting.
+    fn note_ask(&mut self, ask: &Ask) -> Result<Told, Memory>
+        requires { (run : Run L) × Follows self.old run × (is_declared run.settings.triggers ask.now.group.trigger ≡ true) }
+        ensures told { (run : Run L) → Follows self.old run → IfOk result (λ told. Some told ≡ told_by run.settings run.node (state_of run) (Asked ask.now)) }
+        ensures after { (run : Run L) → Follows self.old run → OnOk result (Follows self.new (after_ask run ask.now)) }
+        ensures same { OnErr result (self.new ≡ self.old) }
+    {
+        events_lead_on();
+        self.log.reserve(2)?;
+        let told = self.holdings.take_ask(ask, Why::Answer)?;
+        self.log.push(Step::Ask);
         Ok(told)
     }
 }

@@ -146,7 +146,7 @@ pub(super) fn evict_into(
 }
 
 /// Notes the fates of chunks whose groups are abandoned, and puts them last into the hand, which has room for them.
-fn drop_into(
+pub(super) fn drop_into(
     standings: &mut List<Standing>,
     hand: &mut VecDeque<Held<ArrivalPlace>>,
     gone: List<Dropped<ArrivalPlace>>,

@@ -1,5 +1,5 @@
-use Rattle.std.proofs.Common.{◌≡◌, List, [], ◌∷◌, ◌++◌, refl, sym, ap, subst, ◌∙◌}
-use Rattle.hs_agent.proofs.Prelude.{OnOk, on_ok_weaker, buffer_of, Schedule, told_of, take_ask, Kept, Holds, Point, with_state, StandsAt, IsTakable, taken_in, sheet_in, chunk_taken, crumb_taken, claimed_for}
+use Rattle.std.proofs.Common.{◌≡◌, [], ◌∷◌, ◌++◌, refl, sym, ap, subst, ◌∙◌}
+use Rattle.hs_agent.proofs.Prelude.{OnOk, on_ok_weaker, buffer_of, Schedule, told_of, take_ask, Holds, Point, with_state, StandsAt, IsTakable, taken_in, sheet_in, chunk_taken, crumb_taken, claimed_for}
 use Rattle.hs_base.specs.declared.told.Why.TheVariants.{Answer}
 use Rattle.hs_agent.specs.declared.input.Input.TheVariants as inputs
 use Rattle.hs_agent.specs.Points.{trigger_taken}

@@ -1,8 +1,7 @@
-use Rattle.std.proofs.Common.{◌≡◌, ℕ, ◌<◌, ◌≤◌, All, List, map, refl, sym, ap, subst, ◌∙◌}
-use Rattle.hs_agent.proofs.Prelude.{on_ok_weaker, Share, SendsEach, Schedule, IsSchedule, after_turn, visited, Kept, Point, Holds, with_state, SendsNext, costs_of, StandsAt}
+use Rattle.std.proofs.Common.{◌≡◌, ◌≤◌, All, List, sym, ap, subst, ◌∙◌}
+use Rattle.hs_agent.proofs.Prelude.{on_ok_weaker, Share, SendsEach, Schedule, IsSchedule, after_turn, Kept, Holds, with_state, SendsNext, costs_of}
 use Rattle.hs_sched.specs.Turns.{sent_ids}
 use Rattle.hs_law_agent.specs.Turning as model
-use Rattle.hs_agent.specs.Runs.{schedule_of}
 use Rattle.hs_agent.proofs.Turned.{visited-once, costs-within, pins-distinct, shares-turned, sent-paged, holds-turned}
 use Rattle.hs_agent.proofs.agent.turn.Goals as goal
 

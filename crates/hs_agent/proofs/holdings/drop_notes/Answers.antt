@@ -1,4 +1,4 @@
-use Rattle.std.proofs.Common.{rules, ◌≡◌, not, filter, List, sym, ap, ◌∙◌}
+use Rattle.std.proofs.Common.{rules, not, filter, ap, ◌∙◌}
 use Rattle.std.proofs.lemmas.Fn.{filter_same}
 use Rattle.hs_base.specs.Listing.{Listing}
 use Rattle.hs_records.specs.declared.books.Claim.{Claim}

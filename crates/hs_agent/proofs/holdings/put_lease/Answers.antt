@@ -1,5 +1,4 @@
 use Rattle.std.proofs.Common.{Some, ap}
-use Rattle.hs_agent.proofs.Prelude.{Pledged}
 use Rattle.hs_agent.proofs.Writing.{written_pledge}
 use Rattle.hs_agent.proofs.holdings.put_lease.Goals as goal
 

@@ -1,4 +1,4 @@
-use Rattle.std.proofs.Common.{◌≡◌, ℕ, Option, None, Some, get_or, set, length, refl, ap, sym, ◌∙◌, subst, option_map}
+use Rattle.std.proofs.Common.{◌≡◌, ℕ, Option, None, Some, get_or, set, refl, ap, sym, ◌∙◌, subst, option_map}
 use Rattle.hs_agent.proofs.Prelude.{option_map_or, written_back, Pledged, pledged_of, pledges_in}
 use Rattle.std.specs.Bool.{IsTrue}
 use Rattle.hs_agent.proofs.Writing.{kept_at, pledges-set}

@@ -1,5 +1,5 @@
 use Rattle.std.proofs.Common.{◌≡◌, ◌++◌, length, map}
-use Rattle.hs_agent.proofs.Prelude.{filter_map, AllByRecursion, buffer_of, ArrivalPlace, pledges_in, IsPledged, HaveOwnPlaces, lent}
+use Rattle.hs_agent.proofs.Prelude.{filter_map, AllByRecursion, buffer_of, pledges_in, IsPledged, HaveOwnPlaces, lent}
 use Rattle.hs_agent.proofs.holdings.with_leases.Given as goal
 
 -- what was handed out, and what will be, are all of them

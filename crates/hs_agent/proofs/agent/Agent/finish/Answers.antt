@@ -1,6 +1,5 @@
-use Rattle.std.proofs.Common.{◌≡◌, ℕ, List, None, map, sym, ap, subst, ◌∙◌}
-use Rattle.hs_agent.proofs.Prelude.{IfOk, PlainAgentBook, agent_book_of, Step, book_of, Kept, PlainAgent, Holds, Point, Run, Follows, point_of, state_of}
-use Rattle.hs_agent.specs.declared.input.Finished.{Finished}
+use Rattle.std.proofs.Common.{◌≡◌, List, None, sym, ap, subst, ◌∙◌}
+use Rattle.hs_agent.proofs.Prelude.{IfOk, agent_book_of, Step, book_of, PlainAgent, Holds, point_of, state_of}
 use Rattle.hs_agent.proofs.Following.{one_place}
 use Rattle.hs_agent.proofs.agent.Agent.finish.Goals as goal
 

@@ -1,5 +1,5 @@
-use Rattle.std.proofs.Common.{◌≡◌, ℕ, [], ◌∷◌, List, Option, Some, None, refl, sym, ap, subst, ◌∙◌}
-use Rattle.hs_agent.proofs.Prelude.{AllByRecursion, on_ok_weaker, all_weaker, all_back, Placed, IsPledged, Kept, PlainAgent, Holds, Point, IsKept, waiting_chunks, Run, Follows, point_of, state_of, after_offer}
+use Rattle.std.proofs.Common.{◌≡◌, None, sym, ap, subst, ◌∙◌}
+use Rattle.hs_agent.proofs.Prelude.{AllByRecursion, on_ok_weaker, all_weaker, all_back, Placed, IsPledged, PlainAgent, Holds, IsKept, waiting_chunks, point_of}
 use Rattle.hs_agent.proofs.Offered.{offers-first, offers-empty, offers-holds}
 use Rattle.hs_agent.proofs.Following.{follows-offered, one_place}
 use Rattle.hs_agent.proofs.agent.Agent.first.Goals as goal

@@ -1,5 +1,5 @@
-use Rattle.std.proofs.Common.{◌≡◌, ◌<◌, length, IsSome, refl, sym, ap, subst, ◌∙◌}
-use Rattle.hs_agent.proofs.Prelude.{PlainAgent, Holds, Point, Run, Follows, StandsAt, point_of, state_of}
+use Rattle.std.proofs.Common.{IsSome, sym, ap, subst, ◌∙◌}
+use Rattle.hs_agent.proofs.Prelude.{PlainAgent, Holds, StandsAt, point_of}
 use Rattle.hs_agent.proofs.Following.{places_now}
 use Rattle.hs_agent.proofs.agent.Agent.forget.Goals as goal
 

@@ -1,5 +1,5 @@
-use Rattle.std.proofs.Common.{◌≡◌, ◌<◌, [], ◌∷◌, ◌++◌, List, length, Option, IsSome, refl, sym, ap, subst, ◌∙◌}
-use Rattle.hs_agent.proofs.Prelude.{IfSome, Kept, PlainAgent, Holds, answered, Run, Follows, point_of, state_of}
+use Rattle.std.proofs.Common.{◌<◌, [], ◌∷◌, ◌++◌, length, IsSome, sym, ap, subst, ◌∙◌}
+use Rattle.hs_agent.proofs.Prelude.{IfSome, PlainAgent, answered, point_of}
 use Rattle.hs_agent.proofs.Following.{offered-within, follows-answered, one_place}
 use Rattle.hs_agent.proofs.agent.Agent.gave.Goals as goal
 

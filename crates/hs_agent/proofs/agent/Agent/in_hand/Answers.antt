@@ -1,4 +1,4 @@
-use Rattle.std.proofs.Common.{◌≡◌, length, ap, sym, ◌∙◌}
+use Rattle.std.proofs.Common.{length, ap, ◌∙◌}
 use Rattle.hs_agent.proofs.Prelude.{PlainAgent, point_of}
 use Rattle.hs_agent.proofs.Offered.{hand_counts}
 use Rattle.hs_agent.proofs.agent.Agent.in_hand.Goals as goal

@@ -1,7 +1,7 @@
-use Rattle.std.proofs.Common.{◌≡◌, [], ◌∷◌, ◌++◌, List, sym, ap, subst, ◌∙◌, append-nil}
+use Rattle.std.proofs.Common.{[], ◌∷◌, ◌++◌, sym, ap, subst, ◌∙◌, append-nil}
 use Rattle.hs_records.specs.declared.journal.Step.TheVariants as steps
 use Rattle.hs_law_agent.specs.Turning as model
-use Rattle.hs_agent.proofs.Prelude.{Input, PlainAgent, with_state, Run, Follows, StandsAt, point_of, state_of}
+use Rattle.hs_agent.proofs.Prelude.{Input, PlainAgent, with_state, Follows, StandsAt, point_of, state_of}
 use Rattle.hs_agent.specs.declared.input.Input.TheVariants as inputs
 use Rattle.hs_agent.specs.Runs.{after_turn}
 use Rattle.hs_agent.proofs.Following.{follows-taken, nothing-came, places_now}

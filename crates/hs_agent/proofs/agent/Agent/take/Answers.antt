@@ -1,5 +1,5 @@
-use Rattle.std.proofs.Common.{◌≡◌, [], ◌∷◌, ◌++◌, List, sym, ap, subst, ◌∙◌}
-use Rattle.hs_agent.proofs.Prelude.{PlacesMatch, Kept, PlainAgent, Holds, Point, Run, Follows, StandsAt, IsTakable, point_of, state_of, taken_in}
+use Rattle.std.proofs.Common.{[], ◌∷◌, ◌++◌, sym, ap, subst, ◌∙◌}
+use Rattle.hs_agent.proofs.Prelude.{PlainAgent, Holds, StandsAt, point_of}
 use Rattle.hs_agent.proofs.Following.{follows-taken, places_now}
 use Rattle.hs_agent.proofs.agent.Agent.take.Goals as goal
 

@@ -1,5 +1,5 @@
-use Rattle.std.proofs.Common.{◌≡◌, ◌∷◌, Some, List, Option, ℕ, map, sym, ap, ◌∙◌}
-use Rattle.hs_agent.proofs.Prelude.{option_map, option_map_or, buffer_of, buffer_in, ArrivalPlace, Placed, Pledged, placed_at, Kept, kept_in, answered, back_at}
+use Rattle.std.proofs.Common.{◌≡◌, ◌∷◌, Some, map, sym, ap, ◌∙◌}
+use Rattle.hs_agent.proofs.Prelude.{option_map, option_map_or, buffer_of, buffer_in, ArrivalPlace, placed_at, Kept, kept_in, answered, back_at}
 use Rattle.hs_agent.proofs.holdings.Holdings.answer.Goals as goal
 
 pub returns : goal.returns

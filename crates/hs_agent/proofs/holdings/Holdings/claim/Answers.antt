@@ -1,68 +1,117 @@
-use Rattle.std.proofs.Common.{◌≡◌, ◌+◌, ◌<◌, ◌≤◌, ◌++◌, ◌∷◌, [], None, Some, length, map, refl, sym, ap, subst, ◌∙◌, arith}
-use Rattle.hs_agent.proofs.Prelude.{length-append, length-map, Group, Claim, Pin, Remembered, claim_of, claimed, pin_for, pin_of, Pinning, Remembers, Index, noted_of, buffer_of, claim_trace, claim_unclaimed, ArrivalPlace, Kept, Point, Holds, with_state, kept_in}
-use Rattle.hs_lists.proofs.Options.{on_ok_always}
-use Rattle.hs_agent.proofs.Outcomes.{none_mapped, some_mapped}
-use Rattle.hs_agent.proofs.Claimed.{left, holds-claimed, stays-claimed, is_unclaimed}
+use Rattle.std.proofs.Common.{◌≡◌, ◌≤◌, ◌++◌, true, length, map, sym, ap, subst, ◌∙◌, arith}
+use Rattle.hs_base.specs.Rules.{is_declared}
+use Rattle.hs_agent.proofs.Prelude.{buffer_of, pin_of, leaving, relieved, staying_few, drops, claim_each, ArrivalPlace, Kept, Holds, Point, with_state, kept_in, abandoned_going, claimed_for}
+use Rattle.hs_pins.specs.Opens.{restored}
+use Rattle.hs_agent.specs.Asking.{IsClaiming}
+use Rattle.hs_agent.specs.Trying.{fates_noted}
+use Rattle.hs_agent.proofs.Asking.{declared-too, asked-begun, asked-ends, pinned_few}
+use Rattle.hs_agent.proofs.Emptying.{buffers_in, let_go_parts}
+use Rattle.hs_agent.proofs.Relieving.{holds-abandoned}
 use Rattle.hs_agent.proofs.holdings.Holdings.claim.Goals as goal
-use Rattle.hs_agent.proofs.holdings.Holdings.claim.Goals.{in-Ok, in-Err}
 
-pub returns-then-is_some : goal.returns-then-is_some
-returns-then-is_some g c = record {
-  after = λ point h.
-      let pins = ap (λ (k : Kept g.row.L.Denot). k.pins) c.self.view_is in
-      let remembers : Remembers c.self.inside.pins h.memory = subst (λ p. Remembers p h.memory) (sym pins) h.remembers in
-      let found = some_mapped (λ (claim : Claim). claim.group) (claim_of h.memory.claims c.args.trace) c.owner.result (c.owner.ensures h.memory remembers) (sym c.is_some.ensures ∙ c.if-is_some.true) in
-      subst (λ s. Holds c.args.self.now (with_state s point)) (sym (stays-claimed c.args.self.now point h c.args.ask.now c.args.trace found.0 found.1)) h;
-}
+pub open-requires-clause-declared : goal.open-requires-clause-declared
+open-requires-clause-declared g c =
+    let h : Holds (kept_in {L = g.row.L.Denot} {g = g.L.Token} c.self.inside) c.requires.0 = subst (λ k. Holds k c.requires.0) (sym c.self.view_is) c.requires.1 in
+    (h.memory, h.remembers, (λ i. is_declared (h.pins.rules i) c.args.ask.now.group.trigger) ∙ c.requires.2)
+
+pub claim_all-requires-clause-known : goal.claim_all-requires-clause-known
+claim_all-requires-clause-known g c =
+    let ask = c.args.ask.now in
+    let kept : Kept g.row.L.Denot = kept_in {L = g.row.L.Denot} {g = g.L.Token} c.self.inside in
+    let h : Holds kept c.requires.0 = subst (λ k. Holds k c.requires.0) (sym c.self.view_is) c.requires.1 in
+    let declared = c.requires.2 in
+    let begun : IsClaiming ask kept c.open.new.self kept.index c.reserve.new.self.items c.in_ok-claiming.claiming c.requires.0 =
+    subst (λ notes. IsClaiming ask kept c.open.new.self kept.index notes c.in_ok-claiming.claiming c.requires.0) (sym c.reserve.ensures.items)
+    (asked-begun ask kept c.open.new.self c.in_ok-claiming.claiming c.requires.0 c.chunks-chunks.result h c.in_ok-claiming.ensures.back c.in_ok-claiming.ensures.group c.in_ok-claiming.ensures.laterals declared
+    c.in_ok-claiming.ensures.most (c.in_ok-claiming.ensures.ready h.memory h.remembers) c.in_ok-claiming.ensures.chunks c.chunks-chunks.ensures.value) in
+    (kept, c.open.new.self, c.requires.0, begun)
+
+pub close-gone-requires : goal.close-gone-requires
+close-gone-requires g c =
+    let point = c.requires.0 in
+    let ask = c.args.ask.now in
+    let kept : Kept g.row.L.Denot = kept_in {L = g.row.L.Denot} {g = g.L.Token} c.self.inside in
+    let h : Holds kept point = subst (λ k. Holds k point) (sym c.self.view_is) c.requires.1 in
+    let declared = c.requires.2 in
+    let begun : IsClaiming ask kept c.open.new.self kept.index c.reserve.new.self.items c.in_ok-claiming.claiming point =
+    subst (λ notes. IsClaiming ask kept c.open.new.self kept.index notes c.in_ok-claiming.claiming point) (sym c.reserve.ensures.items)
+    (asked-begun ask kept c.open.new.self c.in_ok-claiming.claiming point c.chunks-chunks.result h c.in_ok-claiming.ensures.back c.in_ok-claiming.ensures.group c.in_ok-claiming.ensures.laterals declared
+    c.in_ok-claiming.ensures.most (c.in_ok-claiming.ensures.ready h.memory h.remembers) c.in_ok-claiming.ensures.chunks c.chunks-chunks.ensures.value) in
+    let next : Point g.row.L.Denot = with_state (claim_each ask point.state) point in
+    let k : IsClaiming ask kept c.open.new.self c.claim_all.new.index c.claim_all.new.notes.items c.claim_all.new.claiming next = c.claim_all.ensures.after kept c.open.new.self point begun in
+    asked-ends ask kept c.open.new.self c.claim_all.new.index c.claim_all.new.notes.items c.claim_all.new.claiming next k
+
+pub drop_into-requires : goal.drop_into-requires
+drop_into-requires g c =
+    let point = c.requires.0 in
+    let ask = c.args.ask.now in
+    let kept : Kept g.row.L.Denot = kept_in {L = g.row.L.Denot} {g = g.L.Token} c.self.inside in
+    let h : Holds kept point = subst (λ k. Holds k point) (sym c.self.view_is) c.requires.1 in
+    let declared = c.requires.2 in
+    let begun : IsClaiming ask kept c.open.new.self kept.index c.reserve.new.self.items c.in_ok-claiming.claiming point =
+    subst (λ notes. IsClaiming ask kept c.open.new.self kept.index notes c.in_ok-claiming.claiming point) (sym c.reserve.ensures.items)
+    (asked-begun ask kept c.open.new.self c.in_ok-claiming.claiming point c.chunks-chunks.result h c.in_ok-claiming.ensures.back c.in_ok-claiming.ensures.group c.in_ok-claiming.ensures.laterals declared
+    c.in_ok-claiming.ensures.most (c.in_ok-claiming.ensures.ready h.memory h.remembers) c.in_ok-claiming.ensures.chunks c.chunks-chunks.ensures.value) in
+    let next : Point g.row.L.Denot = with_state (claim_each ask point.state) point in
+    let k : IsClaiming ask kept c.open.new.self c.claim_all.new.index c.claim_all.new.notes.items c.claim_all.new.claiming next = c.claim_all.ensures.after kept c.open.new.self point begun in
+    let few = c.close-gone.ensures.few k.holds.memory k.holds.remembers in
+    let pinned = pinned_few ask kept c.open.new.self c.claim_all.new.index c.claim_all.new.notes.items c.claim_all.new.claiming next k in
+    let same = c.claim_all.ensures.ready in
+    let ready = c.in_ok-claiming.ensures.ready h.memory h.remembers in
+    let chunks = c.chunks.ensures h.memory h.remembers in
+    let room = c.in_ok-reserve-3.ensures.ok in
+    omega (arith, few, pinned, same, ready, chunks, room)
 
 pub invariant_of-self-2 : goal.invariant_of-self-2
 invariant_of-self-2 g c =
     let point = c.requires.0 in
-    let h : Holds (kept_in {L = g.row.L.Denot} {g = g.L.Token} c.self.inside) point = subst (λ k. Holds k point) (sym c.self.view_is) c.requires.1 in
-    elim c.match-claim.branch [
-      | in-Ok w ↦
-          let more = length-append h.memory.pinned (map (pin_for c.args.ask.now.group) (map buffer_of c.in_ok-taken.taken.held.items)) in
-          let own = length-map (map buffer_of c.in_ok-taken.taken.held.items) (pin_for c.args.ask.now.group) in
-          let each = length-map c.in_ok-taken.taken.held.items buffer_of in
-          let chunks = c.chunks.ensures h.memory h.remembers in
-          let few = h.few in
-          let fits = h.fits in
-          let count = c.in_ok-taken.ensures.count in
-          let long = c.len.ensures in
-          let room = c.saturating_add-room.ensures in
-          let reserved = c.in_ok-reserve.ensures.ok in
-          record {
-            sent = (
-              claimed h.memory c.args.ask.now.group c.args.ask.now.laterals c.args.trace (map buffer_of c.in_ok-taken.taken.held.items) c.in_ok-taken.taken.crumbs,
-              w.in-Ok.ensures.after h.memory h.remembers,
-              omega (arith, more, own, each, chunks, few, fits, count, long, room, reserved),
-            );
-            hand = c.self.invariant.hand;
-          }
-      | in-Err w ↦
-          let room = c.self.invariant.sent in
-          let fits = room.2 in
-          record {
-            sent = (room.0, subst (λ p. Remembers p room.0) (sym w.in-Err.ensures.same) room.1, omega (arith, fits));
-            hand = c.self.invariant.hand;
-          }
-    ]
+    let ask = c.args.ask.now in
+    let kept : Kept g.row.L.Denot = kept_in {L = g.row.L.Denot} {g = g.L.Token} c.self.inside in
+    let h : Holds kept point = subst (λ k. Holds k point) (sym c.self.view_is) c.requires.1 in
+    let declared = c.requires.2 in
+    let begun : IsClaiming ask kept c.open.new.self kept.index c.reserve.new.self.items c.in_ok-claiming.claiming point =
+    subst (λ notes. IsClaiming ask kept c.open.new.self kept.index notes c.in_ok-claiming.claiming point) (sym c.reserve.ensures.items)
+    (asked-begun ask kept c.open.new.self c.in_ok-claiming.claiming point c.chunks-chunks.result h c.in_ok-claiming.ensures.back c.in_ok-claiming.ensures.group c.in_ok-claiming.ensures.laterals declared
+    c.in_ok-claiming.ensures.most (c.in_ok-claiming.ensures.ready h.memory h.remembers) c.in_ok-claiming.ensures.chunks c.chunks-chunks.ensures.value) in
+    let next : Point g.row.L.Denot = with_state (claim_each ask point.state) point in
+    let k : IsClaiming ask kept c.open.new.self c.claim_all.new.index c.claim_all.new.notes.items c.claim_all.new.claiming next = c.claim_all.ensures.after kept c.open.new.self point begun in
+    let few = c.close-gone.ensures.few k.holds.memory k.holds.remembers in
+    let pinned = pinned_few ask kept c.open.new.self c.claim_all.new.index c.claim_all.new.notes.items c.claim_all.new.claiming next k in
+    let same = c.claim_all.ensures.ready in
+    let ready = c.in_ok-claiming.ensures.ready h.memory h.remembers in
+    let chunks = c.chunks.ensures h.memory h.remembers in
+    let sent = c.in_ok-reserve-2.ensures.ok in
+    let room = c.in_ok-reserve-3.ensures.ok in
+    let len = c.drop_into.ensures.len in
+    let capacity = c.drop_into.ensures.capacity in
+    let memory = k.holds.memory in
+    let fewer : length (relieved memory).pinned ≤ length memory.pinned = staying_few (leaving memory.most memory.pinned) memory.pinned in
+    record {
+      sent = (relieved memory, c.close-gone.ensures.after memory k.holds.remembers, omega (arith, fewer, pinned, same, ready, chunks, sent));
+      hand = λ out. omega (arith, few, pinned, same, ready, chunks, room, len, capacity);
+    }
 
-pub returns : goal.returns
-returns g c = record {
-  after = λ point known.
-      let kept = kept_in {L = g.row.L.Denot} {g = g.L.Token} c.self.inside in
-      let h : Holds kept point = subst (λ k. Holds k point) (sym c.self.view_is) known in
-      let free = none_mapped (λ (claim : Claim). claim.group) (claim_of h.memory.claims c.args.trace) c.owner.result (c.owner.ensures h.memory h.remembers) (sym c.is_some.ensures ∙ c.if-is_some.false) in
-      let ask = c.args.ask.now in
-      elim c.match-claim.branch [
-        | in-Ok w ↦
-            let remembers : Remembers c.claim-2.new.self (claimed h.memory ask.group ask.laterals c.args.trace (noted_of c.args.trace c.self.inside.index.touched).chunks (noted_of c.args.trace c.self.inside.index.touched).crumbs) =
-            subst (Remembers c.claim-2.new.self) (λ i. claimed h.memory ask.group ask.laterals c.args.trace (c.in_ok-taken.ensures.held i) (c.in_ok-taken.ensures.crumbs i)) (w.in-Ok.ensures.after h.memory h.remembers) in
-            on_ok_always c.match-claim.result
-            (subst (λ k. Holds k (with_state (claim_unclaimed ask point.state c.args.trace) point))
-            (λ i. record kept { index = sym c.claim.ensures.after i; pins = c.claim-2.new.self; sent = map pin_of (sym c.reserve.ensures.items i); claims = sym c.in_ok-append.ensures.ok i })
-            (subst (λ s. Holds (left kept point h ask c.args.trace free c.claim-2.new.self) (with_state s point)) (sym (is_unclaimed kept point h ask c.args.trace free)) (holds-claimed kept point h ask c.args.trace free c.claim-2.new.self remembers)))
-        | in-Err w ↦ rw w.result-is tt
-      ];
-}
+pub returns-clause-after : goal.returns-clause-after
+returns-clause-after g c = λ point known.
+    let ask = c.args.ask.now in
+    let kept : Kept g.row.L.Denot = kept_in {L = g.row.L.Denot} {g = g.L.Token} c.self.inside in
+    let h : Holds kept point = subst (λ k. Holds k point) (sym c.self.view_is) known in
+    let h0 : Holds kept c.requires.0 = subst (λ k. Holds k c.requires.0) (sym c.self.view_is) c.requires.1 in
+    let declared : is_declared point.settings.triggers ask.group.trigger ≡ true =
+    (λ i. is_declared (sym h.pins.rules i) ask.group.trigger) ∙ declared-too kept.pins h0.memory h.memory h0.remembers h.remembers ask ((λ i. is_declared (h0.pins.rules i) ask.group.trigger) ∙ c.requires.2) in
+    let begun : IsClaiming ask kept c.open.new.self kept.index c.reserve.new.self.items c.in_ok-claiming.claiming point =
+    subst (λ notes. IsClaiming ask kept c.open.new.self kept.index notes c.in_ok-claiming.claiming point) (sym c.reserve.ensures.items)
+    (asked-begun ask kept c.open.new.self c.in_ok-claiming.claiming point c.chunks-chunks.result h c.in_ok-claiming.ensures.back c.in_ok-claiming.ensures.group c.in_ok-claiming.ensures.laterals declared
+    c.in_ok-claiming.ensures.most (c.in_ok-claiming.ensures.ready h.memory h.remembers) c.in_ok-claiming.ensures.chunks c.chunks-chunks.ensures.value) in
+    let next : Point g.row.L.Denot = with_state (claim_each ask point.state) point in
+    let k : IsClaiming ask kept c.open.new.self c.claim_all.new.index c.claim_all.new.notes.items c.claim_all.new.claiming next = c.claim_all.ensures.after kept c.open.new.self point begun in
+    let memory = k.holds.memory in
+    let opened : Kept g.row.L.Denot = record kept { index = c.claim_all.new.index; claims = c.claim_all.new.notes.items; pins = restored c.open.new.self c.claim_all.new.claiming } in
+    let goings : map abandoned_going (map pin_of c.close-gone.result.items) ≡ map abandoned_going (drops memory) = ap (map abandoned_going) (c.close-gone.ensures.gone memory k.holds.remembers) in
+    let standings : c.drop_into.new.standings.items ≡ fates_noted kept.standings (map abandoned_going (drops memory)) = c.drop_into.ensures.fates ∙ ap (fates_noted kept.standings) goings in
+    let hand : map (buffer_of {L = ArrivalPlace}) c.drop_into.new.hand.items ≡ kept.hand ++ buffers_in (map abandoned_going (drops memory)) =
+    c.drop_into.ensures.hand ∙ (λ i. map (buffer_of {L = ArrivalPlace}) (c.reserve-3.ensures.items i) ++ buffers_in (goings i)) in
+    subst (λ (kk : Kept g.row.L.Denot). Holds kk (claimed_for ask point))
+    (let_go_parts (record opened { pins = c.close-gone.new.self }) (map abandoned_going (drops memory))
+    ∙ (λ i. record opened { pins = c.close-gone.new.self; sent = map pin_of (sym c.reserve-2.ensures.items i); standings = sym standings i; hand = sym hand i }))
+    (holds-abandoned opened c.close-gone.new.self next k.holds (c.close-gone.ensures.after memory k.holds.remembers))

@@ -1,5 +1,5 @@
-use Rattle.std.proofs.Common.{◌≡◌, ◌+◌, ◌||◌, ◌∷◌, ◌++◌, [], ℕ, List, length, take, refl, sym, ap, subst, ◌∙◌, arith, All}
-use Rattle.hs_agent.proofs.Prelude.{list_any, IsSome, All-tail, recursion_from_All, slice_get_within, TraceId, has_node, Claim, Remembered, claim_of, Remembers, traces_of, crumb_nodes, Kept}
+use Rattle.std.proofs.Common.{◌≡◌, ◌+◌, ◌||◌, ◌∷◌, ◌++◌, [], ℕ, List, take, sym, ap, subst, ◌∙◌, arith, All}
+use Rattle.hs_agent.proofs.Prelude.{list_any, IsSome, All-tail, recursion_from_All, slice_get_within, TraceId, has_node, Claim, claim_of, Remembers, traces_of, crumb_nodes, Kept}
 use Rattle.std.proofs.lemmas.List.{take_more, take_all}
 use Rattle.std.proofs.lemmas.Option.{get_or_from_slice_get}
 use Rattle.hs_base.specs.NodeSetLaws.{same_nodes}

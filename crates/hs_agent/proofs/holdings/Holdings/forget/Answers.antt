@@ -1,8 +1,6 @@
-use Rattle.std.proofs.Common.{◌≡◌, not, filter, refl, sym, ap, subst, ◌∙◌}
-use Rattle.hs_agent.proofs.Prelude.{Holds, Kept, Point, kept_in}
+use Rattle.std.proofs.Common.{refl, sym, subst, ◌∙◌}
+use Rattle.hs_agent.proofs.Prelude.{Holds, kept_in}
 use Rattle.hs_agent.proofs.Forgetting.{settled_too, holds_forgot}
-use Rattle.hs_records.specs.declared.books.Claim as noted
-use Rattle.hs_pins.specs.Priorities.{same_group}
 use Rattle.hs_agent.proofs.holdings.Holdings.forget.Goals as goal
 
 pub returns-clause-settled : goal.returns-clause-settled

@@ -1,4 +1,4 @@
-use Rattle.std.proofs.Common.{◌≡◌, [], None, map, sym, ap, subst}
+use Rattle.std.proofs.Common.{None, map, sym, subst}
 use Rattle.hs_agent.proofs.Prelude.{pin_of, buffer_of, Kept, Holds, pledges_in}
 use Rattle.hs_records.specs.Plain.{settings_of}
 use Rattle.hs_agent.proofs.Started.{holds-start, first_point}

@@ -1,4 +1,4 @@
-use Rattle.std.proofs.Common.{◌≡◌, ◌∷◌, List, length, map, sym, ap, subst, ◌∙◌, arith}
+use Rattle.std.proofs.Common.{◌≡◌, ◌∷◌, map, sym, ap, subst, ◌∙◌, arith}
 use Rattle.hs_agent.proofs.Prelude.{option_map, length-map, AllByRecursion, slice_get_within, buffer_of, IsPledged, pledged_of, pledges_in, Kept}
 use Rattle.hs_agent.proofs.holdings.Holdings.offer.Goals as goal
 

@@ -1,5 +1,5 @@
 use Rattle.std.proofs.Common.{◌≡◌, List, [], ◌∷◌, ◌++◌, length, map, Some, option_map, sym, ap, subst, ◌∙◌, arith}
-use Rattle.hs_agent.proofs.Prelude.{map-append, buffer_of, Standing, pin_of, Remembered, arrived, Remembers, Kept, kept_in, Placed, placed_at, pledged_of, pledges_in, Going, abandoned_going, let_go_all, noted, ArrivalPlace}
+use Rattle.hs_agent.proofs.Prelude.{map-append, buffer_of, Standing, pin_of, arrived, Remembers, Kept, kept_in, Placed, placed_at, pledged_of, pledges_in, Going, abandoned_going, let_go_all, noted, ArrivalPlace}
 use Rattle.hs_base.specs.declared.told.Fate.TheVariants as fates
 use Rattle.hs_pins.specs.Receiving.{received, goes_with}
 use Rattle.hs_pins.proofs.Receiving.{length-received}

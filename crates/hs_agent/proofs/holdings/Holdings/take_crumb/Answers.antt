@@ -1,5 +1,5 @@
-use Rattle.std.proofs.Common.{◌≡◌, true, false, cond, Some, None, Option, map, ◌++◌, refl, sym, ap, subst, ◌∙◌}
-use Rattle.hs_agent.proofs.Prelude.{option_map, is_some, buffer_of, ArrivalPlace, Told, Claim, Remembered, claim_of, crumbed, Remembers, leaving_of, settled, going, evict, late_of, with_touched, Kept, Point, Holds, with_state, plain_claim, kept_in, let_go_all, evicted_going, crumb_taken}
+use Rattle.std.proofs.Common.{◌≡◌, cond, Some, None, map, ◌++◌, sym, ap, subst, ◌∙◌}
+use Rattle.hs_agent.proofs.Prelude.{option_map, is_some, buffer_of, ArrivalPlace, Claim, claim_of, crumbed, leaving_of, settled, going, late_of, with_touched, Holds, with_state, plain_claim, kept_in, let_go_all, evicted_going, crumb_taken}
 use Rattle.hs_base.specs.declared.told.Why.TheVariants.{Late}
 use Rattle.hs_pins.specs.Remembered.{has_crumb}
 use Rattle.hs_agent.proofs.Outcomes.{none_mapped, some_mapped, not_false, not_true}

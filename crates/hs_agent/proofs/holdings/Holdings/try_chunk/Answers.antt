@@ -1,5 +1,5 @@
 use Rattle.std.proofs.Common.{◌≡◌, ◌+◌, ◌<◌, ◌≤◌, ◌^◌, Some, None, length, sym, ap, subst, ◌∙◌, arith}
-use Rattle.hs_agent.proofs.Prelude.{option_map, option_map_or, option_and_then, is_some, length-map, on_ok_weaker, Header, Sheet, used_of, header_of, buffer_of, Claim, claim_of, Remembers, page_standing, placed_at, Kept, Point, Holds, noted, indexed, chunk_taken}
+use Rattle.hs_agent.proofs.Prelude.{option_map, option_map_or, option_and_then, is_some, length-map, Header, Sheet, used_of, header_of, buffer_of, Claim, claim_of, Remembers, page_standing, placed_at, Kept, Holds, noted, indexed, chunk_taken}
 use Rattle.hs_agent.specs.Trying.{ComesToPins}
 use Rattle.hs_agent.proofs.Outcomes.{none_mapped, some_mapped, of_some, on_ok_both}
 use Rattle.hs_agent.proofs.TakingChunks.{holds-taken_free, holds-taken_claimed}

@@ -1,4 +1,4 @@
-use Rattle.std.proofs.Common.{◌≡◌, ◌∷◌, ◌++◌, [], map, refl, sym, ap, subst, ◌∙◌}
+use Rattle.std.proofs.Common.{◌≡◌, ◌∷◌, ◌++◌, [], map, sym, ap, subst, ◌∙◌}
 use Rattle.hs_agent.proofs.Prelude.{map-append, pin_of, waiting, Remembers, Kept, id_of}
 use Rattle.hs_agent.proofs.Writing.{first-rest}
 use Rattle.hs_agent.proofs.holdings.HoldingsQueues.send_next.Goals as goal
