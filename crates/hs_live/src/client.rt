@@ -1,12 +1,12 @@
 //! The client.
 
-ghost use Rattle.std.specs.Prelude.{◌≡◌, ◌+◌, ◌<◌, ◌≤◌, ◌^◌, true, false, [], ◌∷◌, length, map, count_by, IsSome, IsNone};
+ghost use Rattle.std.specs.Prelude.{◌≡◌, ℕ, ◌+◌, ◌<◌, ◌≤◌, ◌^◌, true, false, [], ◌∷◌, length, map, count_by, IsSome, IsNone};
 ghost use Rattle.hs_auto.specs.Watching.{Watch};
 ghost use Rattle.hs_records.specs.Plain.{Begin, Point, Crumb as LeaveCrumb, End, Fire, Sample};
 ghost use Rattle.hs_records.specs.Records.{piece_count};
-ghost use Rattle.hs_client.specs.Core.{is_null, Fits, Wrote};
+ghost use Rattle.hs_client.specs.Core.{is_null, after_step, Fits, NeedsPage, Wrote};
 ghost use Rattle.hs_client.specs.Calls.{May};
-ghost use Rattle.hs_base.specs.declared.limits.TheConstants.{FRAME_COST};
+ghost use Rattle.hs_base.specs.declared.limits.TheConstants.{FRAME_COST, MIN_SIZE, MAX_SIZE};
 ghost use Rattle.hs_link.specs.Contents.{sent, HasPlaces, TakesPlaces};
 ghost use Rattle.hs_live.specs.declared.called.Called.TheVariants.{Done};
 ghost use Rattle.hs_live.specs.Keys.{IsTriggerOf};
@@ -104,9 +104,10 @@ impl Client {
     }
 
     /// Whether a page is open that has room for a payload with so many bytes.
-    fn has_room(&self, len: usize) -> bool
+    pub fn has_room(&self, len: usize) -> bool
         requires { len < 2 ^ 63 }
         ensures room { result ≡ true → Fits self.now.core len }
+        ensures needs { result ≡ false → NeedsPage self.now.core len }
         ensures open { result ≡ true → IsSome self.now.core.trace }
         ensures narrow { result ≡ true → FRAME_COST + len ≤ self.now.core.size }
         ensures most { result ≡ true → len ≤ MAX_PAYLOAD }
@@ -114,11 +115,13 @@ impl Client {
         self.writer.core.has_room(len)
     }
 
-    /// Records a payload that the open page has room for.
-    fn point_here(&mut self, moment: u64, payload: &[u8]) -> Called
+    /// Records a payload that the open page has room for, as `point` does. It writes the payload as one piece, and counts it once.
+    pub fn point_here(&mut self, moment: u64, payload: &[u8]) -> Called
         requires may { May self.old.core (Wrote moment payload.now false) }
         requires most { length payload.now ≤ MAX_PAYLOAD }
         ensures answer { PointsBy self.old.core (length payload.now) result }
+        ensures done { result ≡ Done }
+        ensures core { self.new.core ≡ after_step self.old.core (Wrote moment payload.now false) }
         ensures does { Does (Point moment payload.now) result self.old self.new }
         ensures trace { self.new.core.trace ≡ self.old.core.trace }
         ensures spends { Spends (counts (piece_count self.old.core.size (length payload.now)) result) (writing_of self.old) (writing_of self.new) }
@@ -281,6 +284,60 @@ impl Client {
             crumbs,
             triggers,
         }
+    }
+
+    /// The open trace, or `None` where none is open.
+    pub fn trace(&self) -> Option<TraceId>
+        ensures { result ≡ self.now.core.trace }
+    {
+        self.writer.core.trace()
+    }
+
+    /// The size of its pages, in bytes.
+    pub fn size(&self) -> u32
+        ensures value { result ≡ self.now.core.size }
+        ensures least { MIN_SIZE ≤ self.now.core.size }
+        ensures most { self.now.core.size ≤ MAX_SIZE }
+    {
+        self.writer.core.size()
+    }
+
+    /// The calls that its core may still count.
+    pub fn calls_left(&self) -> u32
+        ensures { self.now.core.counted + result ≡ self.now.core.calls }
+    {
+        self.writer.core.left()
+    }
+
+    /// The draws that it may still make.
+    pub fn draws_left(&self) -> u32
+        ensures { result ≡ self.now.drawer.left }
+    {
+        self.writer.drawer.left()
+    }
+
+    /// How many chunks more may be sent, whatever the agent does.
+    pub fn chunk_places(&self) -> u32
+        ensures enough { HasPlaces result self.now.chunks }
+        ensures most { (more : ℕ) → HasPlaces more self.now.chunks → more ≤ result }
+    {
+        self.writer.chunks.places()
+    }
+
+    /// How many crumbs more may be sent, whatever the agent does.
+    pub fn crumb_places(&self) -> u32
+        ensures enough { HasPlaces result self.now.crumbs }
+        ensures most { (more : ℕ) → HasPlaces more self.now.crumbs → more ≤ result }
+    {
+        self.crumbs.places()
+    }
+
+    /// How many triggers more may be sent, whatever the agent does.
+    pub fn trigger_places(&self) -> u32
+        ensures enough { HasPlaces result self.now.triggers }
+        ensures most { (more : ℕ) → HasPlaces more self.now.triggers → more ≤ result }
+    {
+        self.triggers.places()
     }
 
     /// The number of draws so far that found the pool empty.

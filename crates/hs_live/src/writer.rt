@@ -5,7 +5,7 @@ ghost use Rattle.std.specs.Option.{option_to_list};
 ghost use Rattle.hs_base.specs.declared.limits.TheConstants.{FRAME_COST, MIN_SIZE};
 ghost use Rattle.hs_records.specs.Records.{piece_count, record_pieces};
 ghost use Rattle.hs_words.specs.Buffers.{buffer_in};
-ghost use Rattle.hs_client.specs.Core.{number_after, NeedsPage, Wrote};
+ghost use Rattle.hs_client.specs.Core.{number_after, after_step, NeedsPage, Wrote};
 ghost use Rattle.hs_client.specs.Calls.{May};
 ghost use Rattle.hs_link.specs.Contents.{sent, HasPlaces};
 ghost use Rattle.hs_live.specs.declared.called.Called.TheVariants.{Done};
@@ -67,6 +67,7 @@ impl Writer {
         requires sound { IsSoundIn self.old }
         requires may { May self.old.core (Wrote moment payload.now false) }
         ensures sound { IsSoundIn self.new }
+        ensures core { self.new.core ≡ after_step self.old.core (Wrote moment payload.now false) }
         ensures trace { self.new.core.trace ≡ self.old.core.trace }
         ensures number { self.new.core.number ≡ self.old.core.number + 1 }
         ensures page { IsSome self.new.core.current }
@@ -83,6 +84,7 @@ impl Writer {
         requires sound { IsSoundIn self.old }
         requires may { May self.old.core (Wrote moment payload.now false) }
         ensures sound { IsSoundIn self.new }
+        ensures core { self.new.core ≡ after_step self.old.core (Wrote moment payload.now false) }
         ensures trace { self.new.core.trace ≡ self.old.core.trace }
         ensures number { self.new.core.number ≡ self.old.core.number + 1 }
         ensures page { IsSome self.new.core.current }
