@@ -1,0 +1,5 @@
+pub mod Ids
+pub mod Values
+pub mod Exact
+pub mod Keeps
+pub mod Reading
