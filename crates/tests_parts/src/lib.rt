@@ -1,5 +1,5 @@
-//! Tables over the parts of the program: the ground and the formats, what runs in a service, its messages, the collector, the agent's
-//! parts, the coordinator, a node's agent and the other samplers. Each call is made near its greatest size, with nothing at all, or with
+//! Tables over the parts of the program: the ground and the formats, what runs in a service, the collector, the agent's parts, the
+//! coordinator, a node's agent and the other samplers. Each call is made near its greatest size, with nothing at all, or with
 //! values from outside that no file of `examples/` or `cases/` has.
 #![tactic(auto)]
 
@@ -35,8 +35,6 @@ mod rows;
 mod sched;
 #[cfg(test)]
 mod text;
-#[cfg(test)]
-mod wire;
 #[cfg(test)]
 mod words;
 #[cfg(test)]

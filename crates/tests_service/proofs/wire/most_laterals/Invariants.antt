@@ -1,5 +1,5 @@
 use Rattle.std.proofs.Common.{◌≡◌, length}
-use Rattle.tests_parts.proofs.wire.most_laterals.Given as goal
+use Rattle.tests_service.proofs.wire.most_laterals.Given as goal
 
 abbrev pub invariant-loop-number : goal.invariant-loop-number
 invariant-loop-number l = length l.laterals ≡ l.number
