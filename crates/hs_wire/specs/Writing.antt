@@ -19,6 +19,10 @@ IsWithin (SaysAsk a) = a.group.id.node < MOST_NODES
 IsWithin (SaysReported r) = (r.group.id.node < MOST_NODES) × (length r.page ≤ MOST_PAGE)
 IsWithin (SaysStanding s) = s.group.node < MOST_NODES
 
+-- A message of which this holds, and the node of its head is below 128, has a spelling.
+abbrev pub HasSpelling : PlainMessage → Type 0
+HasSpelling m = (m.head.node.0 < MOST_NODES) × IsWithin m.said
+
 -- how many bytes it takes
 abbrev pub said_len : Said → ℕ
 said_len (SaysHello h) = 33 + length h.name

@@ -1,9 +1,9 @@
 //! Messages, written as bytes.
 
-ghost use Rattle.std.specs.Prelude.{◌≡◌, ◌+◌, ◌*◌, ◌<◌, ◌≤◌, ◌^◌, ◌↔◌, List, ℕ, [], ◌∷◌, ◌++◌, length, drop, IsTrue, IfOk, OnErr, Err};
+ghost use Rattle.std.specs.Prelude.{◌≡◌, ◌≢◌, ◌+◌, ◌*◌, ◌<◌, ◌≤◌, ◌^◌, ◌↔◌, List, ℕ, [], ◌∷◌, ◌++◌, length, drop, IsTrue, IfOk, OnErr, Err};
 ghost use Rattle.std.specs.Int.{w16, w32, w64, w128, to_be_bytes};
 ghost use Rattle.hs_wire.specs.Messages.{AreBytes, IsHead, IsId, IsGroup, AreTraces, AreLosses, IsHello, IsTold, IsAsk, IsReported, IsStanding, IsSaid, IsMessage, why_byte, wholeness_byte, kind_of, head_bytes, id_bytes, group_bytes, traces_bytes, losses_bytes, hello_bytes, told_bytes, ask_bytes, reported_bytes, standing_bytes, said_bytes, message_bytes, plain_hello, plain_reported, said_of, plain};
-ghost use Rattle.hs_wire.specs.Writing.{Puts, IsWithin, said_len, message_len};
+ghost use Rattle.hs_wire.specs.Writing.{Puts, IsWithin, HasSpelling, said_len, message_len};
 
 use crate::message::{
     Body, Head, Hello, Losses, MOST_NAME, MOST_PAGE, Message, Reported, Standing, VERSION,
@@ -308,6 +308,10 @@ pub fn write(out: &mut [u8], message: &Message<'_>) -> Result<usize, WriteFault>
         → (wanted ≡ length (message_bytes (plain message.now))) × (length out.old < wanted) }
     ensures no_spelling { result ≡ Err WriteFault.NoSpelling → IsMessage (plain message.now) → ⊥ }
     ensures same { OnErr result (out.new ≡ out.old) }
+
+    // NoSpelling comes exactly if a node is not below 128, or a name or a page is too long, whatever the slice.
+    ensures beyond { result ≡ Err WriteFault.NoSpelling → ¬ HasSpelling (plain message.now) }
+    ensures within { result ≢ Err WriteFault.NoSpelling → HasSpelling (plain message.now) }
 {
     if message.head.node.0 >= MOST_NODES || !is_within(&message.body) {
         return Err(WriteFault::NoSpelling);
