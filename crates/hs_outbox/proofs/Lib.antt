@@ -1,0 +1,5 @@
+pub mod Rising
+pub mod Places
+pub mod Accounts
+pub mod Handed
+pub mod Layouts

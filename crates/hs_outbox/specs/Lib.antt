@@ -1,0 +1,5 @@
+pub mod Queue
+pub mod Lives
+pub mod Slots
+pub mod Layout
+pub mod Examples
