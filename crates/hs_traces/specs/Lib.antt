@@ -1,0 +1,5 @@
+pub mod Keys
+pub mod Parts
+pub mod Shelves
+pub mod Traces
+pub mod TracesLayout

@@ -1,0 +1,46 @@
+//! What tells pages of a trace apart.
+
+ghost use Rattle.std.specs.Prelude.{◌≡◌};
+ghost use Rattle.hs_traces.specs.Keys.{is_own, key_of};
+
+use hs_words::Header;
+
+/// The core of a client that wrote a page: the node with its epoch, the client there, and the core's number among those of
+/// the client.
+#[derive(Clone, Copy, Debug, PartialEq, Eq)]
+pub struct Sender {
+    pub node: u16,
+    pub epoch: u64,
+    pub client: u16,
+    pub core: u64,
+}
+
+/// A page's place among those of its trace: by node, epoch, client and core, and by its number among those of the core.
+#[derive(Clone, Copy, Debug, PartialEq, Eq, PartialOrd, Ord)]
+pub struct PageKey {
+    pub node: u16,
+    pub epoch: u64,
+    pub client: u16,
+    pub core: u64,
+    pub page: u32,
+}
+
+/// Whether a page names its sender's node and client.
+pub(crate) fn is_own(sender: &Sender, header: &Header) -> bool
+    ensures { result ≡ is_own sender.now header.now }
+{
+    header.client.node == sender.node && header.client.number == sender.client
+}
+
+/// The key of a sender's page.
+pub(crate) fn key_of(sender: &Sender, header: &Header) -> PageKey
+    ensures { result ≡ key_of sender.now header.now }
+{
+    PageKey {
+        node: sender.node,
+        epoch: sender.epoch,
+        client: sender.client,
+        core: sender.core,
+        page: header.page,
+    }
+}

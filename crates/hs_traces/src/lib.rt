@@ -1,0 +1,13 @@
+//! The pages of claimed traces, kept until they are saved elsewhere (`docs/RULES.md`, "The hub").
+#![tactic(auto)]
+
+mod answers;
+mod key;
+mod part;
+mod reading;
+mod shelf;
+mod traces;
+
+pub use answers::{Added, LEAST_BYTES, MakeFault, Offered, TraceCounts, TraceLimits};
+pub use key::{PageKey, Sender};
+pub use traces::Traces;
