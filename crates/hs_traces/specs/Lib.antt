@@ -3,3 +3,4 @@ pub mod Parts
 pub mod Shelves
 pub mod Traces
 pub mod TracesLayout
+pub mod History

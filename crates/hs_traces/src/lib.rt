@@ -3,6 +3,7 @@
 
 mod answers;
 mod key;
+mod laws;
 mod part;
 mod reading;
 mod shelf;
@@ -10,4 +11,5 @@ mod traces;
 
 pub use answers::{Added, LEAST_BYTES, MakeFault, Offered, TraceCounts, TraceLimits};
 pub use key::{PageKey, Sender};
+pub use laws::pages_decide_the_part;
 pub use traces::Traces;
