@@ -91,7 +91,7 @@ impl<L: Token> Opened<L> {
         self.chunks += count;
     }
 
-    /// The groups, with what is pinned for the open one among them. It takes no memory.
+    /// The groups, with what is pinned for the open one among them. Room that it did not use is given back.
     pub fn close(self) -> Pinned<L>
         ensures { result ≡ self.groups }
     {
@@ -99,8 +99,9 @@ impl<L: Token> Opened<L> {
             mut groups,
             chunks,
             priority,
-            pile,
+            mut pile,
         } = self;
+        pile.shrink_to_fit();
         put_pile(&mut groups, priority, Pile::from_deque(pile));
         Pinned { groups, chunks }
     }
