@@ -81,6 +81,43 @@ fn memory_stays_wanting(alloc: Global) -> Result<bool, Memory> {
     Ok(stays)
 }
 
+/// Tries a chunk of this trace, and once more where it came back. Answers whether it was taken.
+fn takes_a_chunk(site: &mut Site, trace: u32) -> Result<bool, Memory> {
+    Ok(site.try_chunk(u128::from(trace), 0)? || site.try_chunk(u128::from(trace), 0)?)
+}
+
+/// Tries a chunk of each of 20 traces. Answers whether each was taken.
+fn takes_chunks(site: &mut Site) -> Result<bool, Memory> {
+    let mut all = true;
+    for trace in 0u32..20 {
+        all &= takes_a_chunk(site, trace)?;
+    }
+    Ok(all)
+}
+
+/// Tries a crumb of this trace, and once more where it was not taken. Answers whether it was.
+fn takes_a_crumb(site: &mut Site, trace: u128) -> Result<bool, Memory> {
+    Ok(site.try_crumb(trace, 1)? || site.try_crumb(trace, 1)?)
+}
+
+/// Tries a trigger of this trace, and once more where it was not taken. Answers whether it was.
+fn takes_a_trigger(site: &mut Site, lead: u128) -> Result<bool, Memory> {
+    let laterals = Laterals::none();
+    Ok(site.try_trigger(lead, laterals)? || site.try_trigger(lead, laterals)?)
+}
+
+/// Tries a crumb of a new trace, and a trigger of the last trace that has a chunk. Answers whether both were taken, and its
+/// chunk is pinned.
+fn claims_the_last(site: &mut Site) -> Result<bool, Memory> {
+    Ok(takes_a_crumb(site, 20)? && takes_a_trigger(site, 19)? && site.pinned() == 1)
+}
+
+/// Where one allocation is refused, what was tried comes back, and is taken when it is tried again.
+fn what_comes_back_is_taken_later(alloc: Global) -> Result<bool, Memory> {
+    let mut site = Site::make(alloc, FEW)?;
+    Ok(takes_chunks(&mut site)? && claims_the_last(&mut site)?)
+}
+
 #[test]
 fn agents(rt: HostRuntime) {
     row(&rt, "the most is pinned", the_most_is_pinned(rt.alloc()));
@@ -88,5 +125,10 @@ fn agents(rt: HostRuntime) {
         &rt,
         "memory stays wanting",
         memory_stays_wanting(rt.alloc()),
+    );
+    row(
+        &rt,
+        "what comes back is taken later",
+        what_comes_back_is_taken_later(rt.alloc()),
     );
 }

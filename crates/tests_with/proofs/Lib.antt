@@ -3,3 +3,4 @@ pub mod PageLemmas
 pub mod RuleLemmas
 pub mod Pairs
 pub mod Sites
+pub mod Tried

@@ -111,6 +111,53 @@ impl Site {
         self.take(Input::Trigger { client: 0, trigger })
     }
 
+    /// Takes a chunk as `chunk` does, or not at all. Answers whether it did.
+    #[tactic(auto, using(crate::proofs::Sites::few_here))]
+    pub fn try_chunk(&mut self, trace: u128, page: u32) -> Result<bool, Memory> {
+        let held = page_of(self.alloc, trace, page)?;
+        if self.events >= u32::MAX - 1 {
+            return Err(Memory);
+        }
+        let tried = self.agent.try_chunk(0, held);
+        self.events += 1;
+        Ok(tried.is_ok())
+    }
+
+    /// Takes a crumb as `crumb` does, or not at all. Answers whether it did.
+    #[tactic(auto, using(crate::proofs::Sites::few_here))]
+    pub fn try_crumb(&mut self, trace: u128, node: u16) -> Result<bool, Memory>
+        requires { node < MAX_NODES }
+    {
+        let crumb = Crumb {
+            trace: TraceId(trace),
+            node: NodeId(node),
+        };
+        if self.events >= u32::MAX - 1 {
+            return Err(Memory);
+        }
+        let tried = self.agent.try_crumb(0, crumb);
+        self.events += 1;
+        Ok(tried.is_ok())
+    }
+
+    /// Takes a trigger as `trigger` does, or not at all. Answers whether it did.
+    #[tactic(auto, using(crate::proofs::Sites::few_here))]
+    pub fn try_trigger(&mut self, lead: u128, laterals: Laterals) -> Result<bool, Memory> {
+        few_are_admitted();
+        let trigger = Trigger {
+            moment: 0,
+            trigger: TriggerId(1),
+            lead: TraceId(lead),
+            laterals,
+        };
+        if self.events >= u32::MAX - 1 {
+            return Err(Memory);
+        }
+        let tried = self.agent.try_trigger(0, &trigger);
+        self.events += 1;
+        Ok(tried.is_ok())
+    }
+
     #[tactic(auto, using(crate::proofs::Sites::few_here))]
     fn take(&mut self, input: Input<()>) -> Result<Option<Told>, Memory>
         requires { Fits input }
