@@ -1,0 +1,99 @@
+-- What a client counts: the points that were done, and what was refused, by cause. A count of a segment has 32 bits, one of a whole
+-- life 64, and each stays at its greatest number once it is there.
+use Rattle.std.specs.Prelude.{◌≡◌, ℕ, ◌+◌, ◌-◌, min, refl}
+use Rattle.hs_node_client.specs.declared.called.Called.{Called}
+use Rattle.hs_node_client.specs.declared.called.Called.TheVariants as called
+use Rattle.hs_node_client.specs.declared.segment.SegmentCounts.{SegmentCounts}
+use Rattle.hs_node_client.specs.declared.counts.Counts.{Counts}
+use Rattle.hs_node_client.specs.declared.counts.Tally.{Tally}
+
+abbrev pub more : ℕ → ℕ → ℕ
+more count by = min (count + by) 18446744073709551615
+
+abbrev pub more_in_segment : ℕ → ℕ
+more_in_segment count = min (count + 1) 4294967295
+
+abbrev pub none_here : SegmentCounts
+none_here = record { points = 0; null_pages = 0; full_points = 0; long_points = 0; spent_points = 0; refused_crumbs = 0 }
+
+abbrev pub none_past : Counts
+none_past = record { points = 0; null_pages = 0; stray_points = 0; full_points = 0; long_points = 0; spent_points = 0; refused_crumbs = 0; refused_triggers = 0; dropped_notes = 0 }
+
+abbrev pub no_counts : Tally
+no_counts = record { here = none_here; past = none_past; nulls = 0 }
+
+-- ---- segments
+
+-- a segment begins, where the core has so many null pages
+abbrev pub opened : ℕ → Tally → Tally
+opened nulls tally = record tally { here = none_here; nulls = nulls }
+
+-- the counts of a segment that ends, where the core has so many null pages
+abbrev pub segment_counts : ℕ → Tally → SegmentCounts
+segment_counts nulls tally = record tally.here { null_pages = nulls - tally.nulls }
+
+abbrev pub closed : Tally → Tally
+closed tally = record tally { here = none_here; past = record tally.past { points = more tally.past.points tally.here.points } }
+
+-- the core goes, which has so many null pages
+abbrev pub renewed : ℕ → Tally → Tally
+renewed nulls tally = record tally { past = record tally.past { null_pages = more tally.past.null_pages nulls }; nulls = 0 }
+
+-- ---- what calls count
+
+-- a point that was answered so
+abbrev pub with_point : Called → Tally → Tally
+with_point called.Done tally = record tally { here = record tally.here { points = tally.here.points + 1 } }
+with_point called.NoTrace tally = record tally { past = record tally.past { stray_points = more tally.past.stray_points 1 } }
+with_point called.AlreadyOpen tally = tally
+with_point called.TooWide tally =
+    record tally { here = record tally.here { long_points = more_in_segment tally.here.long_points }; past = record tally.past { long_points = more tally.past.long_points 1 } }
+with_point called.Full tally =
+    record tally { here = record tally.here { full_points = more_in_segment tally.here.full_points }; past = record tally.past { full_points = more tally.past.full_points 1 } }
+with_point called.Unknown tally = tally
+with_point called.Spent tally =
+    record tally { here = record tally.here { spent_points = more_in_segment tally.here.spent_points }; past = record tally.past { spent_points = more tally.past.spent_points 1 } }
+
+abbrev pub with_refused_crumb : Tally → Tally
+with_refused_crumb tally =
+    record tally { here = record tally.here { refused_crumbs = more_in_segment tally.here.refused_crumbs }; past = record tally.past { refused_crumbs = more tally.past.refused_crumbs 1 } }
+
+-- a crumb of a trace that need not be open
+abbrev pub with_refused_late : Tally → Tally
+with_refused_late tally = record tally { past = record tally.past { refused_crumbs = more tally.past.refused_crumbs 1 } }
+
+abbrev pub with_refused_trigger : Tally → Tally
+with_refused_trigger tally = record tally { past = record tally.past { refused_triggers = more tally.past.refused_triggers 1 } }
+
+abbrev pub with_dropped : Tally → Tally
+with_dropped tally = record tally { past = record tally.past { dropped_notes = more tally.past.dropped_notes 1 } }
+
+-- what a call counts that is refused only where its outbox has no place
+abbrev pub if_full : Called → (Tally → Tally) → Tally → Tally
+if_full called.Full counted tally = counted tally
+if_full called.Done counted tally = tally
+if_full called.NoTrace counted tally = tally
+if_full called.AlreadyOpen counted tally = tally
+if_full called.TooWide counted tally = tally
+if_full called.Unknown counted tally = tally
+if_full called.Spent counted tally = tally
+
+-- all counts, where the core has so many null pages
+abbrev pub all_counts : ℕ → Tally → Counts
+all_counts nulls tally = record tally.past { points = more tally.past.points tally.here.points; null_pages = more tally.past.null_pages nulls }
+
+-- ---- examples
+
+-- Two points are done in a segment with one null page, a third is refused, and the segment ends.
+abbrev three_points : Tally
+three_points = with_point called.Full (with_point called.Done (with_point called.Done (opened 4 no_counts)))
+
+counted_here : segment_counts 5 three_points ≡ record { points = 2; null_pages = 1; full_points = 1; long_points = 0; spent_points = 0; refused_crumbs = 0 }
+counted_here = refl
+
+-- an end changes no sum
+counted_all : all_counts 5 (closed three_points) ≡ all_counts 5 three_points
+counted_all = refl
+
+stays_at_most : more 18446744073709551615 3 ≡ 18446744073709551615
+stays_at_most = refl

@@ -1,0 +1,9 @@
+pub mod Known
+pub mod Counting
+pub mod Notes
+pub mod Clients
+pub mod Lives
+pub mod Answers
+pub mod Inside
+pub mod Fitting
+pub mod Making

@@ -1,0 +1,165 @@
+//! What a call does to the client of the library. Each tests first for what the library asks of its caller.
+
+ghost use Rattle.std.specs.Prelude.{◌≡◌, ◌<◌, ◌≤◌, ◌+◌, true, false, length, None, IsSome};
+ghost use Rattle.hs_base.specs.declared.limits.TheConstants.{MAX_PAYLOAD};
+ghost use Rattle.hs_client.specs.Core.{NeedsPage};
+ghost use Rattle.hs_live.specs.Calls.{IsAutoOf};
+ghost use Rattle.hs_live.specs.Keys.{IsTriggerOf};
+ghost use Rattle.hs_records.specs.Plain.{Point, Crumb as LeaveCrumb, End, Fire, Sample};
+ghost use Rattle.hs_node_client.specs.declared.called.Called.TheVariants.{Done};
+ghost use Rattle.hs_node_client.specs.Answers.{PointsBy, CrumbsBy, TriggersBy, SamplesBy, EndsBy, HasNumbers, LacksNumbers, pieces_in};
+ghost use Rattle.hs_node_client.specs.Clients.{PutsThrough, KeepsEnds};
+ghost use Rattle.hs_node_client.specs.Known.{rules_in};
+ghost use Rattle.hs_node_client.specs.Lives.{Lives};
+
+use crate::called::Called;
+use crate::places::{has_chunk_places, has_crumb_place, has_trigger_place};
+use hs_base::limits::{MAX_PAYLOAD, PIECE_COST};
+use hs_base::{NodeId, Trigger, TriggerId};
+use hs_live::{Called as Live, Client};
+use hs_records::{piece_count, piece_limit};
+
+/// How many pieces a payload of so many bytes has. Most have one, and no division is made for these.
+fn pieces_of(client: &Client, bytes: usize) -> u32
+    requires { bytes ≤ MAX_PAYLOAD }
+    ensures value { result ≡ pieces_in client.now bytes }
+    ensures some { 1 ≤ result }
+{
+    let size = client.size();
+    if bytes <= piece_limit(size) {
+        1
+    } else {
+        piece_count(size, bytes) as u32
+    }
+}
+
+/// Whether the core has calls, and the drawer draws, for so many pieces on new pages.
+fn has_numbers(client: &Client, pieces: u32) -> bool
+    ensures has { result ≡ true → HasNumbers pieces client.now }
+    ensures lacks { result ≡ false → LacksNumbers pieces client.now }
+{
+    let aside = u64::from(client.size()) / PIECE_COST as u64 + 2;
+    u64::from(pieces) + aside <= u64::from(client.calls_left()) && pieces <= client.draws_left()
+}
+
+/// Records a payload that the open page has no room for.
+pub(crate) fn point(client: &mut Client, moment: u64, payload: &[u8]) -> Called
+    requires { NeedsPage client.old.core (length payload.now) }
+    ensures answer { PointsBy client.old (length payload.now) result client.new }
+    ensures does { Lives (Point moment payload.now) result client.old client.new }
+    ensures refused { (result ≡ Done → ⊥) → PutsThrough client.old client.new }
+    ensures keeps { KeepsEnds client.old client.new }
+    ensures rules { rules_in client.new ≡ rules_in client.old }
+    ensures trace { client.new.core.trace ≡ client.old.core.trace }
+    ensures numbers { result ≡ Done → HasNumbers (pieces_in client.old (length payload.now)) client.old }
+    ensures counted { result ≡ Done → client.new.core.counted ≡ client.old.core.counted + pieces_in client.old (length payload.now) }
+    ensures some { result ≡ Done → 1 ≤ pieces_in client.old (length payload.now) }
+{
+    if client.trace().is_none() {
+        return Called::NoTrace;
+    }
+    if payload.len() > MAX_PAYLOAD {
+        return Called::TooWide;
+    }
+    let pieces = pieces_of(client, payload.len());
+    if !has_numbers(client, pieces) {
+        return Called::Spent;
+    }
+    if !has_chunk_places(client, pieces) {
+        return Called::Full;
+    }
+    match client.point(moment, payload) {
+        Live::Done => Called::Done,
+        Live::Spent | Live::AlreadyOpen | Live::NoTrace | Live::TooWide => unreachable!(),
+    }
+}
+
+/// Leaves a crumb to one of the nodes.
+pub(crate) fn crumb(client: &mut Client, node: NodeId) -> Called
+    requires { node.0 < client.old.crumbs.key.nodes }
+    ensures answer { CrumbsBy client.old node result client.new }
+    ensures does { Lives (LeaveCrumb node) result client.old client.new }
+    ensures refused { (result ≡ Done → ⊥) → PutsThrough client.old client.new }
+    ensures keeps { KeepsEnds client.old client.new }
+    ensures rules { rules_in client.new ≡ rules_in client.old }
+    ensures core { client.new.core ≡ client.old.core }
+{
+    if client.trace().is_none() {
+        return Called::NoTrace;
+    }
+    if !has_crumb_place(client) {
+        return Called::Full;
+    }
+    match client.crumb(node) {
+        Live::Done => Called::Done,
+        Live::Spent | Live::AlreadyOpen | Live::NoTrace | Live::TooWide => unreachable!(),
+    }
+}
+
+/// Fires a trigger of a declared id.
+pub(crate) fn trigger(client: &mut Client, trigger: &Trigger) -> Called
+    requires { IsTriggerOf client.old.triggers.key trigger.now }
+    ensures answer { TriggersBy client.old trigger.now result client.new }
+    ensures does { Lives (Fire trigger.now) result client.old client.new }
+    ensures refused { (result ≡ Done → ⊥) → PutsThrough client.old client.new }
+    ensures keeps { KeepsEnds client.old client.new }
+    ensures rules { rules_in client.new ≡ rules_in client.old }
+    ensures core { client.new.core ≡ client.old.core }
+{
+    if !has_trigger_place(client) {
+        return Called::Full;
+    }
+    let _ = client.trigger(*trigger);
+    Called::Done
+}
+
+/// Gives an autotrigger a value of the open trace.
+pub(crate) fn sample(
+    client: &mut Client,
+    moment: u64,
+    auto: u32,
+    value: u64,
+    trigger: TriggerId,
+) -> Called
+    requires { IsAutoOf client.old auto trigger }
+    ensures answer { SamplesBy client.old auto result client.new }
+    ensures does { Lives (Sample moment auto value) result client.old client.new }
+    ensures refused { (result ≡ Done → ⊥) → PutsThrough client.old client.new }
+    ensures keeps { KeepsEnds client.old client.new }
+    ensures rules { rules_in client.new ≡ rules_in client.old }
+    ensures core { client.new.core ≡ client.old.core }
+{
+    if client.trace().is_none() {
+        return Called::NoTrace;
+    }
+    if !has_trigger_place(client) {
+        return Called::Full;
+    }
+    match client.sample(moment, auto, value, trigger) {
+        Live::Done => Called::Done,
+        Live::Spent | Live::AlreadyOpen | Live::NoTrace | Live::TooWide => unreachable!(),
+    }
+}
+
+/// Closes the open trace, whose core has a call left.
+pub(crate) fn end(client: &mut Client) -> Called
+    requires { IsSome client.old.core.trace → client.old.core.counted < client.old.core.calls }
+    ensures answer { EndsBy client.old result client.new }
+    ensures does { Lives End result client.old client.new }
+    ensures refused { (result ≡ Done → ⊥) → PutsThrough client.old client.new }
+    ensures keeps { KeepsEnds client.old client.new }
+    ensures rules { rules_in client.new ≡ rules_in client.old }
+    ensures closes { result ≡ Done → client.new.core.trace ≡ None }
+    ensures counted { result ≡ Done → client.new.core.counted ≡ client.old.core.counted + 1 }
+{
+    if client.trace().is_none() {
+        return Called::NoTrace;
+    }
+    if !has_chunk_places(client, 1) {
+        return Called::Full;
+    }
+    match client.end() {
+        Live::Done => Called::Done,
+        Live::Spent | Live::AlreadyOpen | Live::NoTrace | Live::TooWide => unreachable!(),
+    }
+}

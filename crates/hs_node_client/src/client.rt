@@ -1,0 +1,323 @@
+//! The client of a service.
+
+ghost use Rattle.std.specs.Prelude.{◌≡◌, ◌+◌, ◌<◌, ◌≤◌, ◌^◌, true, false, length, map, count_by, Some, None};
+ghost use Rattle.hs_base.specs.Rules.{fired_by};
+ghost use Rattle.hs_base.specs.declared.limits.TheConstants.{MAX_SIZE};
+ghost use Rattle.hs_client.specs.Core.{is_null, NeedsPage};
+ghost use Rattle.hs_live.specs.Live.{Sends};
+ghost use Rattle.hs_records.specs.Plain.{Point, Crumb as LeaveCrumb, End, Fire, Sample};
+ghost use Rattle.hs_node_client.specs.declared.called.Called.TheVariants.{Done};
+ghost use Rattle.hs_node_client.specs.declared.limits.TheConstants.{MIN_CALLS};
+ghost use Rattle.hs_node_client.specs.declared.segment.SegmentState.TheVariants.{Opened};
+ghost use Rattle.hs_node_client.specs.Counting.{no_counts, all_counts, with_point, with_refused_crumb, with_refused_late, with_refused_trigger, if_full};
+ghost use Rattle.hs_node_client.specs.Answers.{BeginsBy, PointsBy, CrumbsBy, LateBy, TriggersBy, SamplesBy, EndsBy, MayRenew, IsAtItsLast};
+ghost use Rattle.hs_node_client.specs.Clients.{PutsThrough, KeepsEnds, NotesIt, NotesEnd, tally_at_begin, waiting};
+ghost use Rattle.hs_node_client.specs.Known.{AreDeclared, rules_in};
+ghost use Rattle.hs_node_client.specs.Notes.{PutsOn};
+ghost use Rattle.hs_node_client.specs.Lives.{HasHalf, Lives, LivesByBegin, LivesOn, TurnsInto, RenewsInto};
+
+use crate::acts;
+use crate::called::Called;
+use crate::counts::{Counts, Tally};
+use crate::notebook::Notebook;
+use crate::places::has_place;
+use crate::segment::{Segment, SegmentKey, SegmentState};
+use hs_base::{Crumb, List, NodeId, TraceId, Trigger, TriggerId};
+use hs_link::Sender;
+use hs_live::{Called as Live, Client, ClientKey};
+use std::marker::Model;
+
+/// How many trigger ids there could be: an id has eight bits.
+pub(crate) const IDS: usize = 256;
+
+/// From this number on a begin makes no note, since none would be left for the end.
+const MOST_NOTES: u64 = u64::MAX - 1;
+
+/// What a thread of a service holds. Each call may be made at any time, answers at once, and takes no memory: its answer says
+/// whether it was done.
+#[derive(Drop)]
+pub struct NodeClient {
+    live: Client,
+    late: Sender<Crumb, ClientKey>,
+    notebook: Notebook,
+    tally: Tally,
+    declared: [bool; IDS],
+    fires: List<TriggerId>,
+    nodes: u16,
+    calls: u32,
+}
+
+impl Model for NodeClient {
+    ghost use Rattle.hs_node_client.specs.Clients.{PlainNodeClient};
+
+    ghost Value = { PlainNodeClient };
+
+    ghost use Rattle.hs_node_client.specs.Inside.{node_client_of, IsNodeClient};
+
+    ghost view = { node_client_of };
+
+    ghost invariant = { IsNodeClient };
+}
+
+impl NodeClient {
+    /// A client with these parts, none of which was used.
+    pub(crate) fn make(
+        live: Client,
+        late: Sender<Crumb, ClientKey>,
+        notes: Sender<Segment, SegmentKey>,
+        declared: [bool; IDS],
+        fires: List<TriggerId>,
+        nodes: u16,
+        calls: u32,
+    ) -> NodeClient
+        requires declared { AreDeclared live.triggers.key.rules declared }
+        requires fires { map fired_by (rules_in live) ≡ fires.items }
+        requires nodes { (live.crumbs.key.nodes ≡ nodes) × (late.key.nodes ≡ nodes) }
+        requires calls { (live.core.calls ≡ calls) × (MIN_CALLS ≤ calls) }
+        requires trace { live.core.trace ≡ None }
+        requires size { live.core.size ≤ MAX_SIZE }
+        ensures { result ≡ record { live = live; late = late; notebook = record { link = notes; number = 0 }; tally = no_counts } }
+    {
+        NodeClient {
+            live,
+            late,
+            notebook: Notebook {
+                link: notes,
+                number: 0,
+            },
+            tally: Tally::none(),
+            declared,
+            fires,
+            nodes,
+            calls,
+        }
+    }
+
+    /// Opens a trace. Where fewer than half of the core's calls are left, the core is renewed first.
+    pub fn begin(&mut self, trace: TraceId) -> Called
+        ensures answer { BeginsBy self.old result }
+        ensures does { LivesByBegin trace result self.old.live self.new.live }
+        ensures refused { (result ≡ Done → ⊥) → self.new ≡ self.old }
+        ensures keeps { KeepsEnds self.old.live self.new.live }
+        ensures opens { result ≡ Done → self.new.live.core.trace ≡ Some trace }
+        ensures half { result ≡ Done → HasHalf self.new.live.core }
+        ensures notes { result ≡ Done → NotesIt trace Opened self.old.notebook (tally_at_begin self.old) self.new.notebook self.new.tally }
+        ensures late { self.new.late ≡ self.old.late }
+    {
+        if self.live.trace().is_some() {
+            return Called::AlreadyOpen;
+        }
+        if self.notebook.number >= MOST_NOTES || !self.has_calls() {
+            return Called::Spent;
+        }
+        match self.live.begin(trace) {
+            Live::Done => {}
+            Live::Spent | Live::AlreadyOpen | Live::NoTrace | Live::TooWide => unreachable!(),
+        }
+        self.tally.open(self.live.nulls());
+        if !self.notebook.note(trace, SegmentState::Opened) {
+            self.tally.drop_note();
+        }
+        Called::Done
+    }
+
+    /// Whether half of the core's calls are left, or it could be renewed.
+    fn has_calls(&mut self) -> bool
+        requires { self.old.live.core.trace ≡ None }
+        ensures true_is { result ≡ true → MayRenew self.old.live.core }
+        ensures false_is { result ≡ false → IsAtItsLast self.old.live.core × (self.new ≡ self.old) }
+        ensures turns { result ≡ true → TurnsInto self.old self.new }
+    {
+        if u64::from(self.live.calls_left()) * 2 >= u64::from(self.calls) {
+            return true;
+        }
+        self.renew()
+    }
+
+    /// Renews the core, and answers whether this could be done.
+    #[cold]
+    #[inline(never)]
+    fn renew(&mut self) -> bool
+        requires trace { self.old.live.core.trace ≡ None }
+        ensures true_is { result ≡ true → self.old.live.core.renewed + 1 < 2 ^ 64 }
+        ensures false_is { result ≡ false → (self.old.live.core.renewed + 1 ≡ 2 ^ 64) × (self.new ≡ self.old) }
+        ensures renews { result ≡ true → RenewsInto self.old self.new }
+    {
+        let nulls = self.live.nulls();
+        match self.live.renew(self.calls) {
+            Live::Done => {
+                self.tally.renew(nulls);
+                true
+            }
+            Live::Spent => false,
+            Live::AlreadyOpen | Live::NoTrace | Live::TooWide => unreachable!(),
+        }
+    }
+
+    /// Records a payload at a moment, in microseconds.
+    pub fn point(&mut self, moment: u64, payload: &[u8]) -> Called
+        ensures answer { PointsBy self.old.live (length payload.now) result self.new.live }
+        ensures does { Lives (Point moment payload.now) result self.old.live self.new.live }
+        ensures refused { (result ≡ Done → ⊥) → PutsThrough self.old.live self.new.live }
+        ensures keeps { KeepsEnds self.old.live self.new.live }
+        ensures counts { self.new.tally ≡ with_point result self.old.tally }
+        ensures only { self.new ≡ record self.old { live = self.new.live; tally = self.new.tally } }
+    {
+        if self.live.has_room(payload.len()) {
+            self.live.point_here(moment, payload);
+            self.tally.here.points += 1;
+            return Called::Done;
+        }
+        self.point_apart(moment, payload)
+    }
+
+    /// Records a payload that the open page has no room for. It stands apart, since most payloads fit the open page.
+    #[cold]
+    #[inline(never)]
+    fn point_apart(&mut self, moment: u64, payload: &[u8]) -> Called
+        requires { NeedsPage self.old.live.core (length payload.now) }
+        ensures answer { PointsBy self.old.live (length payload.now) result self.new.live }
+        ensures does { Lives (Point moment payload.now) result self.old.live self.new.live }
+        ensures refused { (result ≡ Done → ⊥) → PutsThrough self.old.live self.new.live }
+        ensures keeps { KeepsEnds self.old.live self.new.live }
+        ensures counts { self.new.tally ≡ with_point result self.old.tally }
+        ensures only { self.new ≡ record self.old { live = self.new.live; tally = self.new.tally } }
+    {
+        let called = acts::point(&mut self.live, moment, payload);
+        self.tally.point(called);
+        called
+    }
+
+    /// Leaves a crumb: the open trace goes on to this node.
+    pub fn crumb(&mut self, node: NodeId) -> Called
+        ensures answer { CrumbsBy self.old.live node result self.new.live }
+        ensures does { Lives (LeaveCrumb node) result self.old.live self.new.live }
+        ensures refused { (result ≡ Done → ⊥) → PutsThrough self.old.live self.new.live }
+        ensures keeps { KeepsEnds self.old.live self.new.live }
+        ensures core { self.new.live.core ≡ self.old.live.core }
+        ensures counts { self.new.tally ≡ if_full result with_refused_crumb self.old.tally }
+        ensures only { self.new ≡ record self.old { live = self.new.live; tally = self.new.tally } }
+    {
+        if node.0 >= self.nodes {
+            return Called::Unknown;
+        }
+        let called = acts::crumb(&mut self.live, node);
+        if let Called::Full = called {
+            self.tally.refuse_crumb();
+        }
+        called
+    }
+
+    /// Leaves a crumb of a trace that need not be open: it went on to this node. The crumb goes by a link of its own, and is none of
+    /// the operations of the client's cores.
+    pub fn crumb_of(&mut self, trace: TraceId, node: NodeId) -> Called
+        ensures answer { LateBy self.old node result self.new }
+        ensures sends { result ≡ Done → Sends (record { trace = trace; node = node }) self.old.late self.new.late }
+        ensures refused { (result ≡ Done → ⊥) → PutsOn self.old.late self.new.late }
+        ensures counts { self.new.tally ≡ if_full result with_refused_late self.old.tally }
+        ensures only { self.new ≡ record self.old { late = self.new.late; tally = self.new.tally } }
+    {
+        if self.nodes <= node.0 {
+            return Called::Unknown;
+        }
+        if !has_place(&mut self.late) {
+            self.tally.refuse_late();
+            return Called::Full;
+        }
+        self.late.send_within(Crumb { trace, node });
+        Called::Done
+    }
+
+    /// Fires a trigger. It needs no open trace.
+    pub fn trigger(&mut self, trigger: &Trigger) -> Called
+        ensures answer { TriggersBy self.old.live trigger.now result self.new.live }
+        ensures does { Lives (Fire trigger.now) result self.old.live self.new.live }
+        ensures refused { (result ≡ Done → ⊥) → PutsThrough self.old.live self.new.live }
+        ensures keeps { KeepsEnds self.old.live self.new.live }
+        ensures core { self.new.live.core ≡ self.old.live.core }
+        ensures counts { self.new.tally ≡ if_full result with_refused_trigger self.old.tally }
+        ensures only { self.new ≡ record self.old { live = self.new.live; tally = self.new.tally } }
+    {
+        if !self.declared[trigger.trigger.0 as usize] {
+            return Called::Unknown;
+        }
+        let called = acts::trigger(&mut self.live, trigger);
+        if let Called::Full = called {
+            self.tally.refuse_trigger();
+        }
+        called
+    }
+
+    /// Gives an autotrigger, by its number, a value of the open trace. Where it fires, a trigger of its id goes to the agent.
+    pub fn sample(&mut self, moment: u64, auto: u32, value: u64) -> Called
+        ensures answer { SamplesBy self.old.live auto result self.new.live }
+        ensures does { Lives (Sample moment auto value) result self.old.live self.new.live }
+        ensures refused { (result ≡ Done → ⊥) → PutsThrough self.old.live self.new.live }
+        ensures keeps { KeepsEnds self.old.live self.new.live }
+        ensures core { self.new.live.core ≡ self.old.live.core }
+        ensures counts { self.new.tally ≡ if_full result with_refused_trigger self.old.tally }
+        ensures only { self.new ≡ record self.old { live = self.new.live; tally = self.new.tally } }
+    {
+        let Some(trigger) = self.fires.get(auto as usize).copied() else {
+            return Called::Unknown;
+        };
+        let called = acts::sample(&mut self.live, moment, auto, value, trigger);
+        if let Called::Full = called {
+            self.tally.refuse_trigger();
+        }
+        called
+    }
+
+    /// Closes the open trace.
+    pub fn end(&mut self) -> Called
+        ensures answer { EndsBy self.old.live result self.new.live }
+        ensures does { Lives End result self.old.live self.new.live }
+        ensures refused { (result ≡ Done → ⊥) → PutsThrough self.old.live self.new.live }
+        ensures keeps { KeepsEnds self.old.live self.new.live }
+        ensures closes { result ≡ Done → self.new.live.core.trace ≡ None }
+        ensures notes { result ≡ Done → NotesEnd self.old self.new }
+        ensures same { (result ≡ Done → ⊥) → (self.new.notebook ≡ self.old.notebook) × (self.new.tally ≡ self.old.tally) }
+        ensures late { self.new.late ≡ self.old.late }
+    {
+        let Some(trace) = self.live.trace() else {
+            return Called::NoTrace;
+        };
+        let called = acts::end(&mut self.live);
+        if let Called::Done = called {
+            let counts = self.tally.close(self.live.nulls());
+            if !self.notebook.note(trace, SegmentState::Closed(counts)) {
+                self.tally.drop_note();
+            }
+        }
+        called
+    }
+
+    /// Puts what waits in the outboxes into the rings, as far as there is room, and answers how much still waits.
+    pub fn flush(&mut self) -> u64
+        ensures left { result ≡ waiting self.new }
+        ensures does { LivesOn self.old.live self.new.live }
+        ensures live { PutsThrough self.old.live self.new.live }
+        ensures late { PutsOn self.old.late self.new.late }
+        ensures notes { PutsOn self.old.notebook.link self.new.notebook.link }
+        ensures only { self.new ≡ record self.old { live = self.new.live; late = self.new.late; notebook = record self.old.notebook { link = self.new.notebook.link } } }
+    {
+        let live = u64::from(self.live.flush());
+        let late = u64::from(self.late.flush());
+        let notes = u64::from(self.notebook.flush());
+        live + late + notes
+    }
+
+    /// What the client did since it was made, and what it refused, by cause.
+    pub fn counts(&self) -> Counts
+        ensures { result ≡ all_counts (count_by is_null self.now.live.core.draws) self.now.tally }
+    {
+        self.tally.all(self.live.nulls())
+    }
+
+    /// The open trace, or `None` where none is open.
+    pub fn trace(&self) -> Option<TraceId>
+        ensures { result ≡ self.now.live.core.trace }
+    {
+        self.live.trace()
+    }
+}

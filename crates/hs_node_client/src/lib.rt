@@ -1,0 +1,24 @@
+//! What a thread of a service holds: a client of which each call may be made at any time, takes no memory and never waits
+//! (`docs/RULES.md`, "Between client and agent"). Its numbers do not end, it counts what it refuses, and it notes where each segment of a
+//! trace begins and ends.
+#![tactic(auto)]
+
+mod acts;
+mod called;
+mod checking;
+mod client;
+mod counts;
+mod laws;
+mod limits;
+mod making;
+mod notebook;
+mod places;
+mod segment;
+
+pub use called::Called;
+pub use client::NodeClient;
+pub use counts::Counts;
+pub use laws::notes_are_numbered;
+pub use limits::{ClientLimits, MAX_BACKLOG, MIN_CALLS, MakeFault};
+pub use making::{Made, make_clients};
+pub use segment::{Segment, SegmentCounts, SegmentKey, SegmentState};

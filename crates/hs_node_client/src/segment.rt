@@ -1,0 +1,47 @@
+//! What a client notes of its segments. A segment is what it records between the begin and the end of a trace.
+
+use hs_base::{ClientId, TraceId};
+use hs_link::Fact;
+
+/// What was recorded and what was refused in a segment, by cause. A count stays at the greatest number of its type once it is
+/// there.
+#[derive(Clone, Copy, Debug, PartialEq, Eq)]
+pub struct SegmentCounts {
+    /// Points that were done.
+    pub points: u32,
+    /// Pages that were written to no buffer, since the pool was empty.
+    pub null_pages: u32,
+    /// Points refused since the outbox had too few places.
+    pub full_points: u32,
+    /// Points refused since they were too long.
+    pub long_points: u32,
+    /// Points refused since numbers ended.
+    pub spent_points: u32,
+    /// Crumbs refused since the outbox had no place.
+    pub refused_crumbs: u32,
+}
+
+/// Whether a segment begins or ends.
+#[derive(Clone, Copy, Debug, PartialEq, Eq)]
+pub enum SegmentState {
+    Opened,
+    Closed(SegmentCounts),
+}
+
+/// A note of a client: a segment of a trace begins, or ends. The numbers of a client's notes rise by one for each note, sent or
+/// not. So a gap tells how many were dropped.
+#[derive(Clone, Copy, Debug, PartialEq, Eq)]
+pub struct Segment {
+    pub number: u64,
+    pub trace: TraceId,
+    pub state: SegmentState,
+}
+
+/// The key of a client's link of notes. Only contracts see it.
+#[derive(Clone, Copy)]
+pub struct SegmentKey(pub ClientId);
+
+/// Any note.
+impl Fact<Segment> for SegmentKey {
+    ghost holds = { λ key segment. Unit {0} };
+}
