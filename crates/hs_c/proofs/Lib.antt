@@ -1,0 +1,3 @@
+pub mod ClientSlotSteps
+pub mod PortSlotSteps
+pub mod Values

@@ -1,0 +1,7 @@
+pub mod Calls
+pub mod Codes
+pub mod Holds
+pub mod Messages
+pub mod Opening
+pub mod Ports
+pub mod Traces

@@ -1,0 +1,88 @@
+//! What stands behind the handles.
+
+ghost use Rattle.std.specs.Prelude.{◌≡◌, length};
+ghost use Rattle.hs_c.specs.Ports.{IsOfPool, KeepsPort};
+
+use hs_base::{Crumb, List};
+use hs_link::Receiver;
+use hs_live::{AgentPort, ClientKey};
+use hs_node_client::{NodeClient, Segment, SegmentKey};
+use hs_ring::Lease;
+use hs_words::{Given, Held};
+use std::alloc::Global;
+
+/// A client.
+#[derive(Drop)]
+pub struct ClientCell {
+    pub client: NodeClient,
+}
+
+/// The port of a node, the clients that were not handed out, how many there are in all, and the other ends of what they note.
+#[derive(Drop)]
+pub struct PortCell {
+    pub port: AgentPort,
+    pub left: List<Box<ClientCell, Global>>,
+    pub late: List<Receiver<Crumb, ClientKey>>,
+    pub notes: List<Receiver<Segment, SegmentKey>>,
+    pub clients: u16,
+    pub ghost few: { clients ≡ length port.chunks },
+}
+
+/// What came of a client.
+pub enum Took {
+    /// A chunk, whose buffer was given back.
+    Chunk,
+    /// A chunk, whose buffer the pool did not take in so many tries. It is gone.
+    Lost,
+    /// None.
+    Nothing,
+    /// There is no such client.
+    Unknown,
+}
+
+/// How often a give is tried. It misses once for each draw that found the pool empty.
+const TRIES: u32 = 1_000_000;
+
+/// Gives a chunk back. The answer is whether the pool took it.
+fn give_back(port: &mut AgentPort, held: Held<Lease>) -> bool
+    requires { IsOfPool port.old held }
+    ensures { KeepsPort port.old port.new }
+{
+    let mut held = held;
+    for _ in 0..TRIES {
+        held = match port.give(held) {
+            Given::Given { stamp: _ } => return true,
+            Given::Missed { held, stamp: _ } => held,
+            Given::Unread { held } => held,
+        };
+    }
+    false
+}
+
+impl PortCell {
+    /// Takes the next chunk of a client, and gives its buffer back.
+    pub fn take(&mut self, client: u16) -> Took {
+        if client >= self.clients {
+            return Took::Unknown;
+        }
+        let Some(held) = self.port.chunk(client) else {
+            return Took::Nothing;
+        };
+        if give_back(&mut self.port, held) {
+            Took::Chunk
+        } else {
+            Took::Lost
+        }
+    }
+
+    /// Takes what a client noted, as far as it came: its segments, and its crumbs of traces that need not be open.
+    pub fn take_notes(&mut self, client: u16) {
+        let at = client as usize;
+        if let Some(link) = self.notes.as_mut_slice().get_mut(at) {
+            let _ = link.receive();
+        }
+        if let Some(link) = self.late.as_mut_slice().get_mut(at) {
+            let _ = link.receive();
+        }
+    }
+}

@@ -1,0 +1,66 @@
+//! What calls answer to C.
+
+ghost use Rattle.std.specs.Prelude.{◌≡◌};
+ghost use Rattle.hs_c.specs.Codes.{code_of};
+
+use hs_node_client::Called;
+
+/// The call was done.
+pub const DONE: u32 = 0;
+
+/// The handle is vacant.
+pub const VACANT: u32 = 1;
+
+/// A handle that is to be filled is in use.
+pub const BUSY: u32 = 2;
+
+/// Memory is wanting. Nothing changed.
+pub const MEMORY: u32 = 3;
+
+/// The settings are refused: a line and a reason say why.
+pub const SETTINGS: u32 = 4;
+
+/// A number is not what the settings allow.
+pub const UNFIT: u32 = 5;
+
+/// No trace is open.
+pub const NO_TRACE: u32 = 6;
+
+/// A trace is open already.
+pub const OPEN: u32 = 7;
+
+/// The payload is longer than a record may have.
+pub const TOO_WIDE: u32 = 8;
+
+/// The outbox has fewer places than the call asks for.
+pub const FULL: u32 = 9;
+
+/// There is no such node, trigger id or autotrigger.
+pub const UNKNOWN: u32 = 10;
+
+/// Numbers end.
+pub const SPENT: u32 = 11;
+
+/// Nothing is there.
+pub const NOTHING: u32 = 12;
+
+/// The bytes spell no message.
+pub const NO_MESSAGE: u32 = 13;
+
+/// The slice is too short for what it is to take.
+pub const SHORT: u32 = 14;
+
+/// The code of a client's answer.
+pub(crate) fn code_of(called: Called) -> u32
+    ensures { result ≡ code_of called }
+{
+    match called {
+        Called::Done => DONE,
+        Called::NoTrace => NO_TRACE,
+        Called::AlreadyOpen => OPEN,
+        Called::TooWide => TOO_WIDE,
+        Called::Full => FULL,
+        Called::Unknown => UNKNOWN,
+        Called::Spent => SPENT,
+    }
+}
