@@ -1,0 +1,4 @@
+pub mod Looking
+pub mod Standings
+pub mod Steps
+pub mod Law

@@ -1,0 +1,446 @@
+-- What each deed does to what is kept of a trace.
+use Rattle.std.proofs.Common.{◌≡◌, inl, inr, ℕ, zero, suc, ◌+◌, ◌-◌, ◌<◌, ◌≤◌, min, max, eqb-true, Bool, true, false, not, cond, ◌||◌, ◌&&◌, List, [], ◌∷◌, length, take, slice_get, unwrap_or, set, Option, Some, None, is_some, option_map, refl, sym, ap, subst, arith, ◌∙◌}
+use Rattle.std.specs.Prelude.{nat_lt, ◌==◌, if◌then◌else◌}
+use Rattle.std.specs.Option.{option_map_or}
+use Rattle.std.proofs.lemmas.Option.{same_Some}
+use Rattle.lru.specs.LruCache.{last_entry}
+use Rattle.hs_lists.proofs.Bools.{by_answer, first_false, second_false, second_true}
+use Rattle.hs_lists.proofs.Places.{unwrap_set, unwrap_other}
+use Rattle.hs_base.specs.declared.ids.TraceId.{TraceId}
+use Rattle.hs_base.specs.Ids.{same_trace}
+use Rattle.hs_whole.specs.declared.answers.NoteLimits.{NoteLimits}
+use Rattle.hs_whole.specs.declared.answers.SegmentReport.{SegmentReport}
+use Rattle.hs_whole.specs.declared.answers.Loss.{Loss}
+use Rattle.hs_whole.specs.declared.track.Track.{Track}
+use Rattle.hs_whole.specs.declared.kept.Kept.{Kept}
+use Rattle.hs_whole.specs.Tracks.{no_notes, is_open, begins_next, ends_next, begun, ended}
+use Rattle.hs_whole.specs.Kept.{more, fresh, misses, begins, ends, loses, goes_out, reports_loss}
+use Rattle.hs_whole.specs.Notes.{PlainNotes, track_of, kept_of, missed_open, checked, moved_horizon, remembered, remembered_as, with_kept, opened, closed, after_lost, after_handed_out}
+use Rattle.hs_whole.specs.History.{Deed, Opens, Closes, Loses, HandsOut, Misses, after, IsOfClient, segments, latest_of, hands_out, track_after}
+use Rattle.hs_whole.proofs.Looking.{found, same-true, same-refl, found-with_same, found-with_other, length-with, found-promoted, length-promoted, IsLast, dropped, length-take_few, there_below}
+use Rattle.hs_whole.proofs.Standings.{most, IsKept, Stands, raised, presented, doubts, freshly, kept_pending, with_deed, aside}
+
+-- ---- what stays where a trace is kept, or a note was missed
+
+pub record IsAlike (s s' : PlainNotes) : Type 0 where
+  pub limits : s'.limits ≡ s.limits
+  pub heard : s'.heard ≡ s.heard
+  pub tracks : s'.tracks ≡ s.tracks
+  pub few : length s.traces ≤ s.limits.traces → 0 < s.limits.traces → length s'.traces ≤ s.limits.traces
+
+alike_remembered : (s : PlainNotes) (trace : TraceId) (is_missed : Bool) → IsAlike s (remembered s trace is_missed)
+alike_remembered s trace is_missed = at (kept_of s trace)
+  where
+    at : (o : Option Kept) → IsAlike s (remembered_as s trace is_missed o)
+    at None = record {
+      limits = refl;
+      heard = refl;
+      tracks = refl;
+      few = λ few some. (let least = length-take_few s.traces (s.limits.traces - 1) in omega (arith, least, some));
+    }
+    at (Some k) = record {
+      limits = refl;
+      heard = refl;
+      tracks = refl;
+      few = λ few some. (let same = length-promoted trace s.traces in omega (arith, same, few));
+    }
+
+alike_open : (s : PlainNotes) (current : Option TraceId) → IsAlike s (missed_open current s)
+alike_open s None = record { limits = refl; heard = refl; tracks = refl; few = λ few some. few }
+alike_open s (Some trace) = record { limits = refl; heard = refl; tracks = refl; few = λ few some. (let same = length-with misses trace s.traces in omega (arith, same, few)) }
+
+alike_checked : (s : PlainNotes) (client : ℕ) (is_next : Bool) → IsAlike s (checked s client is_next)
+alike_checked s client true = record { limits = refl; heard = refl; tracks = refl; few = λ few some. few }
+alike_checked s client false = alike_open s (track_of s client).current
+
+-- both, one after the other
+alike_both : (s : PlainNotes) (trace : TraceId) (is_missed : Bool) (client : ℕ) (is_next : Bool) → IsAlike s (checked (remembered s trace is_missed) client is_next)
+alike_both s trace is_missed client is_next =
+    let one = alike_remembered s trace is_missed in
+    let two = alike_checked (remembered s trace is_missed) client is_next in
+    record {
+      limits = two.limits ∙ one.limits;
+      heard = two.heard ∙ one.heard;
+      tracks = two.tracks ∙ one.tracks;
+      few = λ few some. (
+          let cap : (remembered s trace is_missed).limits.traces ≡ s.limits.traces = ap (λ (l : NoteLimits). l.traces) one.limits in
+          let first = one.few few some in
+          let last = two.few (omega (arith, cap, first)) (omega (arith, cap, some)) in
+          omega (arith, cap, last)
+          );
+    }
+
+-- ---- a trace is kept
+
+moved_up : (s : PlainNotes) → s.horizon ≤ moved_horizon s
+moved_up s = at (nat_lt (length s.traces) s.limits.traces) (last_entry s.traces)
+  where
+    at : (b : Bool) (o : Option (TraceId × Kept)) → s.horizon ≤ (if b then s.horizon else option_map_or (λ (oldest : TraceId × Kept). max s.horizon oldest.1.latest) o s.horizon)
+    at true o = omega arith
+    at false None = omega arith
+    at false (Some e) = omega arith
+
+remembered_own : (s : PlainNotes) (trace : TraceId) (is_missed pending : Bool) (deeds : List Deed) → Stands false false trace deeds s.horizon (kept_of s trace) → (is_missed ≡ false → pending ≡ true)
+    → Stands true pending trace deeds (remembered s trace is_missed).horizon (kept_of (remembered s trace is_missed) trace)
+remembered_own s trace is_missed pending deeds stands pends = at (kept_of s trace) refl stands
+  where
+    at : (o : Option Kept) → kept_of s trace ≡ o → Stands false false trace deeds s.horizon o → Stands true pending trace deeds (remembered_as s trace is_missed o).horizon (kept_of (remembered_as s trace is_missed o) trace)
+    at None is stands =
+        subst (Stands true pending trace deeds (moved_horizon s)) (sym (ap (λ b. cond b (Some (fresh s.heard is_missed)) (found trace (take (s.limits.traces - 1) s.traces))) (same-refl trace)))
+        (freshly pending is_missed trace deeds (moved_horizon s) s.heard (let up = moved_up s in let low = stands.1 in omega (arith, up, low)) pends)
+    at (Some k) is stands = subst (Stands true pending trace deeds s.horizon) (sym (found-promoted trace trace s.traces ∙ is)) (kept_pending pending trace deeds s.horizon k stands)
+
+moved_behind : (s : PlainNotes) (trace : TraceId) → 0 < s.limits.traces → length s.traces ≤ s.limits.traces → (last : IsLast trace s.traces (s.limits.traces - 1)) → moved_horizon s ≡ max s.horizon last.last.1.latest
+moved_behind s trace some few last =
+    let below = there_below s.traces (s.limits.traces - 1) last.last last.there in
+    let full : nat_lt (length s.traces) s.limits.traces ≡ false = grind (arith, below, some, few) in
+    let end : length s.traces - 1 ≡ s.limits.traces - 1 = omega (arith, below, some, few) in
+    ap (λ b. if b then s.horizon else option_map_or (λ (oldest : TraceId × Kept). max s.horizon oldest.1.latest) (last_entry s.traces) s.horizon) full
+    ∙ ap (λ n. option_map_or (λ (oldest : TraceId × Kept). max s.horizon oldest.1.latest) (slice_get s.traces n) s.horizon) end
+    ∙ ap (λ o. option_map_or (λ (oldest : TraceId × Kept). max s.horizon oldest.1.latest) o s.horizon) last.there
+
+remembered_other : (s : PlainNotes) (trace other : TraceId) (is_missed : Bool) (deeds : List Deed) → same_trace trace other ≡ false → 0 < s.limits.traces → length s.traces ≤ s.limits.traces
+    → Stands false false trace deeds s.horizon (kept_of s trace) → Stands false false trace deeds (remembered s other is_missed).horizon (kept_of (remembered s other is_missed) trace)
+remembered_other s trace other is_missed deeds apart some few stands = at (kept_of s other)
+  where
+    rest : Option Kept
+    rest = found trace (take (s.limits.traces - 1) s.traces)
+
+    left : Stands false false trace deeds (moved_horizon s) rest
+    left = elim (dropped trace s.traces (s.limits.traces - 1) (omega (arith, some, few))) [
+      | inl same ↦ subst (Stands false false trace deeds (moved_horizon s)) (sym same) (raised false false trace deeds s.horizon (moved_horizon s) (kept_of s trace) (moved_up s) stands)
+      | inr last ↦
+          subst (Stands false false trace deeds (moved_horizon s)) (sym last.gone)
+          (
+          let was : IsKept false trace deeds s.horizon last.last.1 = subst (Stands false false trace deeds s.horizon) last.was stands in
+          let low = was.latest in
+          let moved = moved_behind s trace some few last in
+          (refl, omega (arith, low, moved))
+          )
+    ]
+
+    at : (o : Option Kept) → Stands false false trace deeds (remembered_as s other is_missed o).horizon (kept_of (remembered_as s other is_missed o) trace)
+    at None = subst (Stands false false trace deeds (moved_horizon s)) (sym (ap (λ b. cond b (Some (fresh s.heard is_missed)) rest) apart)) left
+    at (Some k) = subst (Stands false false trace deeds s.horizon) (sym (found-promoted trace other s.traces)) stands
+
+-- ---- a note that may have been missed
+
+found-doubted : (trace other : TraceId) (s : PlainNotes) → same_trace trace other ≡ true → found trace (with_kept misses other s.traces) ≡ option_map misses (kept_of s trace)
+found-doubted trace other s same = ap (λ (x : TraceId). found trace (with_kept misses x s.traces)) (sym (same-true trace other same)) ∙ found-with_same misses trace s.traces
+
+checked_stands : (s : PlainNotes) (client : ℕ) (is_next there pending : Bool) (trace : TraceId) (deeds : List Deed) → s.heard ≡ segments deeds → Stands there pending trace deeds s.horizon (kept_of s trace)
+    → Stands there pending trace deeds (checked s client is_next).horizon (kept_of (checked s client is_next) trace)
+checked_stands s client true there pending trace deeds heard stands = stands
+checked_stands s client false there pending trace deeds heard stands = at (track_of s client).current
+  where
+    now : Stands there pending trace deeds s.heard (kept_of s trace)
+    now = subst (λ n. Stands there pending trace deeds n (kept_of s trace)) (sym heard) (presented there pending trace deeds s.horizon (kept_of s trace) stands)
+
+    at : (current : Option TraceId) → Stands there pending trace deeds (missed_open current s).horizon (kept_of (missed_open current s) trace)
+    at None = now
+    at (Some other) =
+        by_answer (same_trace trace other)
+        (λ y. subst (Stands there pending trace deeds s.heard) (sym (found-doubted trace other s y)) (doubts there pending trace deeds s.heard (kept_of s trace) now))
+        (λ n. subst (Stands there pending trace deeds s.heard) (sym (found-with_other misses trace other n s.traces)) now)
+
+mapped_misses : (o : Option Kept) (k : Kept) → option_map misses o ≡ Some k → k.is_missed ≡ true
+mapped_misses None k is = let never : None ≡ Some k = is in absurd cc
+mapped_misses (Some was) k is = sym (ap (λ (x : Kept). x.is_missed) (same_Some (misses was) k is))
+
+flipped : (a b : TraceId) → same_trace a b ≡ true → same_trace b a ≡ true
+flipped a b same = ap (λ (x : TraceId). same_trace b x) (same-true a b same) ∙ same-refl b
+
+-- of the trace whose segment is open at a client, a note may have been missed where the client's note is not its next one
+checked_doubts : (s : PlainNotes) (client : ℕ) (trace : TraceId) → is_open trace (track_of s client) ≡ true → (k : Kept) → kept_of (checked s client false) trace ≡ Some k → k.is_missed ≡ true
+checked_doubts s client trace = at (track_of s client).current
+  where
+    at : (current : Option TraceId) → option_map_or (λ c. same_trace c trace) current false ≡ true → (k : Kept) → kept_of (missed_open current s) trace ≡ Some k → k.is_missed ≡ true
+    at None open_there k is = let never : false ≡ true = open_there in absurd cc
+    at (Some other) open_there k is = mapped_misses (kept_of s trace) k (sym (found-doubted trace other s (flipped other trace open_there)) ∙ is)
+
+-- so where none may have been missed, the client's note is its next one
+is_next_there : (s : PlainNotes) (client : ℕ) (trace : TraceId) (is_next : Bool) → is_open trace (track_of s client) ≡ true → (k : Kept) → kept_of (checked s client is_next) trace ≡ Some k → k.is_missed ≡ false → is_next ≡ true
+is_next_there s client trace true open_there k is off = refl
+is_next_there s client trace false open_there k is off = let on = checked_doubts s client trace open_there k is in let never : true ≡ false = sym on ∙ off in absurd cc
+
+none_begins : (trace : TraceId) (track : Track) (number : ℕ) → is_open trace track ≡ true → begins_next track number ≡ true → ⊥
+none_begins trace track number open_there next = at track.current open_there (second_true (number == track.next) (not (is_some track.current)) next)
+  where
+    at : (current : Option TraceId) → option_map_or (λ c. same_trace c trace) current false ≡ true → not (is_some current) ≡ true → ⊥
+    at None open_there next = let never : false ≡ true = open_there in absurd cc
+    at (Some other) open_there next = let never : false ≡ true = next in absurd cc
+
+un_not : (b : Bool) → not b ≡ false → b ≡ true
+un_not true off = refl
+un_not false off = absurd cc
+
+-- ---- what a node is like
+
+pub record IsLike (bounds : NoteLimits) (deeds : List Deed) (s : PlainNotes) : Type 0 where
+  pub limits : s.limits ≡ bounds
+  pub some : 0 < s.limits.traces
+  pub few : length s.traces ≤ s.limits.traces
+  pub clients : length s.tracks ≡ s.limits.clients
+  pub heard : s.heard ≡ segments deeds
+  pub tracks : (client : ℕ) → client < s.limits.clients → track_of s client ≡ track_after client deeds
+
+-- ---- a segment begins
+
+module _ (limits : NoteLimits) (deeds : List Deed) (s : PlainNotes) (like : IsLike limits deeds s) (client number : ℕ) (low : client < s.limits.clients) where
+  track_is : track_of s client ≡ track_after client deeds
+  track_is = like.tracks client low
+
+  module _ (trace : TraceId) where
+    abbrev is_next : Bool
+    is_next = begins_next (track_of s client) number
+
+    abbrev kept_one : PlainNotes
+    kept_one = remembered s trace false
+
+    still_track : track_of kept_one client ≡ track_of s client
+    still_track = ap (λ (ts : List Track). unwrap_or (slice_get ts client) no_notes) (alike_remembered s trace false).tracks
+
+    abbrev ready : PlainNotes
+    ready = checked kept_one client is_next
+
+    heard_still : kept_one.heard ≡ segments deeds
+    heard_still = (alike_remembered s trace false).heard ∙ like.heard
+
+    -- a segment of this trace is not open, unless a note may have been missed
+    opens_in_order : (other : TraceId) (k : Kept) → kept_of ready other ≡ Some k → k.is_missed ≡ false → is_open other (track_after client deeds) ≡ false
+    opens_in_order other k is off =
+        by_answer (is_open other (track_after client deeds))
+        (λ y. let here : is_open other (track_of s client) ≡ true = ap (is_open other) track_is ∙ y in
+        absurd (none_begins other (track_of s client) number here (is_next_there kept_one client other is_next (ap (is_open other) still_track ∙ here) k is off)))
+        (λ n. n)
+
+    pub opens_own : segments deeds + 1 ≤ most → Stands false false trace deeds s.horizon (kept_of s trace)
+        → Stands false false trace (Opens client number trace ∷ deeds) (opened s client number trace).horizon (kept_of (opened s client number trace) trace)
+    opens_own bound stands =
+        at (kept_of ready trace) refl (checked_stands kept_one client is_next true true trace deeds heard_still (remembered_own s trace false true deeds stands (λ off. refl)))
+      where
+        count : ℕ
+        count = more ready.heard 1
+
+        count_is : count ≡ segments deeds + 1
+        count_is = let same : ready.heard ≡ segments deeds = (alike_checked kept_one client is_next).heard ∙ heard_still in omega (arith, same, bound)
+
+        at : (o : Option Kept) → kept_of ready trace ≡ o → Stands true true trace deeds ready.horizon o → Stands false false trace (Opens client number trace ∷ deeds) ready.horizon (found trace (with_kept (begins count) trace ready.traces))
+        at None is stands = let never : true ≡ false = stands.0 in absurd cc
+        at (Some k) is stands =
+            subst (Stands false false trace (Opens client number trace ∷ deeds) ready.horizon) (sym (found-with_same (begins count) trace ready.traces ∙ ap (option_map (begins count)) is))
+            (with_deed (Opens client number trace) true trace deeds ready.horizon k (begins count k) stands
+            (let own : latest_of trace (Opens client number trace ∷ deeds) ≡ segments deeds + 1 = ap (λ b. if b then segments deeds + 1 else latest_of trace deeds) (same-refl trace) in
+            let same = count_is in omega (arith, own, same))
+            (λ off. off)
+            (opens_in_order trace k is)
+            (λ on. same-refl trace)
+            (λ n is. is ∙ ap (λ m. min m most) (omega arith))
+            (λ n is. is ∙ ap (λ m. min m most) (omega arith))
+            (λ off. (off, refl)))
+
+    pub opens_other : (other : TraceId) → same_trace other trace ≡ false → Stands false false other deeds s.horizon (kept_of s other)
+        → Stands false false other (Opens client number trace ∷ deeds) (opened s client number trace).horizon (kept_of (opened s client number trace) other)
+    opens_other other apart stands =
+        subst (Stands false false other (Opens client number trace ∷ deeds) ready.horizon) (sym (found-with_other (begins (more ready.heard 1)) other trace apart ready.traces))
+        (aside other (Opens client number trace) deeds ready.horizon (kept_of ready other) (record { opens = apart; sends = refl; hands_out = refl; loses = refl }) (opens_in_order other)
+        (checked_stands kept_one client is_next false false other deeds heard_still (remembered_other s other trace false deeds apart like.some like.few stands)))
+
+  -- ---- a segment ends
+
+  module _ (trace : TraceId) (report : SegmentReport) where
+    abbrev ends_now : Bool
+    ends_now = ends_next (track_of s client) number trace
+
+    abbrev kept_it : PlainNotes
+    kept_it = remembered s trace true
+
+    same_track : track_of kept_it client ≡ track_of s client
+    same_track = ap (λ (ts : List Track). unwrap_or (slice_get ts client) no_notes) (alike_remembered s trace true).tracks
+
+    abbrev checked_it : PlainNotes
+    checked_it = checked kept_it client ends_now
+
+    heard_same : kept_it.heard ≡ segments deeds
+    heard_same = (alike_remembered s trace true).heard ∙ like.heard
+
+    next_after : ends_now ≡ true → ends_next (track_after client deeds) number trace ≡ true
+    next_after on = ap (λ (track : Track). ends_next track number trace) (sym track_is) ∙ on
+
+    pub closes_own : Stands false false trace deeds s.horizon (kept_of s trace)
+        → Stands false false trace (Closes client number trace report ∷ deeds) (closed s client number trace report).horizon (kept_of (closed s client number trace report) trace)
+    closes_own stands =
+        at (kept_of checked_it trace) refl
+        (checked_stands kept_it client ends_now true false trace deeds heard_same (remembered_own s trace true false deeds stands (λ off. let never : true ≡ false = off in absurd cc)))
+      where
+        at : (o : Option Kept) → kept_of checked_it trace ≡ o → Stands true false trace deeds checked_it.horizon o
+            → Stands false false trace (Closes client number trace report ∷ deeds) checked_it.horizon (found trace (with_kept (ends report (not ends_now)) trace checked_it.traces))
+        at None is stands = let never : true ≡ false = stands.0 in absurd cc
+        at (Some k) is stands =
+            subst (Stands false false trace (Closes client number trace report ∷ deeds) checked_it.horizon)
+            (sym (found-with_same (ends report (not ends_now)) trace checked_it.traces ∙ ap (option_map (ends report (not ends_now))) is))
+            (with_deed (Closes client number trace report) false trace deeds checked_it.horizon k (ends report (not ends_now) k) stands
+            stands.latest
+            (λ off. first_false k.is_missed (not ends_now) off)
+            (λ off touches. next_after (un_not ends_now (second_false k.is_missed (not ends_now) off)))
+            (λ never. let off : false ≡ true = never in absurd cc)
+            (λ n is. let own : (if same_trace trace trace then report.pages else 0) ≡ report.pages = ap (λ b. if b then report.pages else 0) (same-refl trace) in omega (arith, is, own))
+            (λ n is. is ∙ ap (λ m. min m most) (omega arith))
+            (λ off. (first_false k.is_lost (reports_loss report) off, ap (λ b. b && reports_loss report) (same-refl trace) ∙ second_false k.is_lost (reports_loss report) off)))
+
+    pub closes_other : (other : TraceId) → same_trace other trace ≡ false → Stands false false other deeds s.horizon (kept_of s other)
+        → Stands false false other (Closes client number trace report ∷ deeds) (closed s client number trace report).horizon (kept_of (closed s client number trace report) other)
+    closes_other other apart stands =
+        subst (Stands false false other (Closes client number trace report ∷ deeds) checked_it.horizon) (sym (found-with_other (ends report (not ends_now)) other trace apart checked_it.traces))
+        (aside other (Closes client number trace report) deeds checked_it.horizon (kept_of checked_it other)
+        (record { opens = refl; sends = ap (λ b. if b then report.pages else 0) apart; hands_out = refl; loses = ap (λ b. b && reports_loss report) apart })
+        (λ k is off touches.
+        let here : is_open other (track_of s client) ≡ true = ap (is_open other) track_is ∙ or_left (is_open other (track_after client deeds)) (same_trace other trace) apart touches in
+        next_after (is_next_there kept_it client other ends_now (ap (is_open other) same_track ∙ here) k is off))
+        (checked_stands kept_it client ends_now false false other deeds heard_same (remembered_other s other trace true deeds apart like.some like.few stands)))
+      where
+        or_left : (a b : Bool) → b ≡ false → (a || b) ≡ true → a ≡ true
+        or_left true b off on = refl
+        or_left false b off on = let never : true ≡ false = sym on ∙ off in absurd cc
+
+-- ---- what becomes of pages and crumbs
+
+pub loses_own : (s : PlainNotes) (deeds : List Deed) (trace : TraceId) (loss : Loss) (count : ℕ) → Stands false false trace deeds s.horizon (kept_of s trace)
+    → Stands false false trace (Loses trace loss count ∷ deeds) s.horizon (kept_of (after_lost s trace loss count) trace)
+loses_own s deeds trace loss count stands = subst (Stands false false trace (Loses trace loss count ∷ deeds) s.horizon) (sym (found-with_same (loses loss count) trace s.traces)) (at (kept_of s trace) stands)
+  where
+    at : (o : Option Kept) → Stands false false trace deeds s.horizon o → Stands false false trace (Loses trace loss count ∷ deeds) s.horizon (option_map (loses loss count) o)
+    at None stands = stands
+    at (Some k) stands =
+        with_deed (Loses trace loss count) false trace deeds s.horizon k (loses loss count k) stands
+        stands.latest
+        (λ off. off)
+        (λ off. tt)
+        (λ never. let off : false ≡ true = never in absurd cc)
+        (λ n is. is ∙ ap (λ m. min m most) (omega arith))
+        (λ n is. is ∙ ap (λ m. min m most) (omega arith))
+        (λ off. (first_false k.is_lost (not (count == 0)) off, ap (λ b. b && not (count == 0)) (same-refl trace) ∙ second_false k.is_lost (not (count == 0)) off))
+
+pub hands_own : (s : PlainNotes) (deeds : List Deed) (trace : TraceId) → Stands false false trace deeds s.horizon (kept_of s trace)
+    → Stands false false trace (HandsOut trace ∷ deeds) s.horizon (kept_of (after_handed_out s trace) trace)
+hands_own s deeds trace stands = subst (Stands false false trace (HandsOut trace ∷ deeds) s.horizon) (sym (found-with_same goes_out trace s.traces)) (at (kept_of s trace) stands)
+  where
+    at : (o : Option Kept) → Stands false false trace deeds s.horizon o → Stands false false trace (HandsOut trace ∷ deeds) s.horizon (option_map goes_out o)
+    at None stands = stands
+    at (Some k) stands =
+        with_deed (HandsOut trace) false trace deeds s.horizon k (goes_out k) stands
+        stands.latest
+        (λ off. off)
+        (λ off. tt)
+        (λ never. let off : false ≡ true = never in absurd cc)
+        (λ n is. is ∙ ap (λ m. min m most) (omega arith))
+        (λ n is. let own : hands_out trace (HandsOut trace) ≡ 1 = ap (λ b. if b then 1 else 0) (same-refl trace) in omega (arith, is, own))
+        (λ off. (off, refl))
+
+-- ---- any deed
+
+reopened : (deed : Deed) (trace other : TraceId) (deeds : List Deed) (s : PlainNotes) → same_trace trace other ≡ true → Stands false false other (deed ∷ deeds) (after s deed).horizon (kept_of (after s deed) other)
+    → Stands false false trace (deed ∷ deeds) (after s deed).horizon (kept_of (after s deed) trace)
+reopened deed trace other deeds s same stands = subst (λ (x : TraceId). Stands false false x (deed ∷ deeds) (after s deed).horizon (kept_of (after s deed) x)) (sym (same-true trace other same)) stands
+
+moved_to : (trace other : TraceId) (deeds : List Deed) (s : PlainNotes) → same_trace trace other ≡ true → Stands false false trace deeds s.horizon (kept_of s trace) → Stands false false other deeds s.horizon (kept_of s other)
+moved_to trace other deeds s same stands = subst (λ (x : TraceId). Stands false false x deeds s.horizon (kept_of s x)) (same-true trace other same) stands
+
+pub any_deed : (limits : NoteLimits) (deeds : List Deed) (s : PlainNotes) (like : IsLike limits deeds s) (deed : Deed) (trace : TraceId) → IsOfClient s.limits.clients deed → segments deeds + 1 ≤ most
+    → Stands false false trace deeds s.horizon (kept_of s trace) → Stands false false trace (deed ∷ deeds) (after s deed).horizon (kept_of (after s deed) trace)
+any_deed limits deeds s like (Opens client number other) trace low bound stands =
+    by_answer (same_trace trace other)
+    (λ y. reopened (Opens client number other) trace other deeds s y (opens_own limits deeds s like client number low other bound (moved_to trace other deeds s y stands)))
+    (λ n. opens_other limits deeds s like client number low other trace n stands)
+any_deed limits deeds s like (Closes client number other report) trace low bound stands =
+    by_answer (same_trace trace other)
+    (λ y. reopened (Closes client number other report) trace other deeds s y (closes_own limits deeds s like client number low other report (moved_to trace other deeds s y stands)))
+    (λ n. closes_other limits deeds s like client number low other report trace n stands)
+any_deed limits deeds s like (Loses other loss count) trace low bound stands =
+    by_answer (same_trace trace other)
+    (λ y. reopened (Loses other loss count) trace other deeds s y (loses_own s deeds other loss count (moved_to trace other deeds s y stands)))
+    (λ n. subst (Stands false false trace (Loses other loss count ∷ deeds) s.horizon) (sym (found-with_other (loses loss count) trace other n s.traces))
+    (aside trace (Loses other loss count) deeds s.horizon (kept_of s trace) (record { opens = refl; sends = refl; hands_out = refl; loses = ap (λ b. b && not (count == 0)) n }) (λ k is off. tt) stands))
+any_deed limits deeds s like (HandsOut other) trace low bound stands =
+    by_answer (same_trace trace other)
+    (λ y. reopened (HandsOut other) trace other deeds s y (hands_own s deeds other (moved_to trace other deeds s y stands)))
+    (λ n. subst (Stands false false trace (HandsOut other ∷ deeds) s.horizon) (sym (found-with_other goes_out trace other n s.traces))
+    (aside trace (HandsOut other) deeds s.horizon (kept_of s trace) (record { opens = refl; sends = refl; hands_out = ap (λ b. if b then 1 else 0) n; loses = refl }) (λ k is off. tt) stands))
+any_deed limits deeds s like Misses trace low bound stands =
+    aside trace Misses deeds s.heard (kept_of s trace) (record { opens = refl; sends = refl; hands_out = refl; loses = refl }) (λ k is off. tt)
+    (subst (λ n. Stands false false trace deeds n (kept_of s trace)) (sym like.heard) (presented false false trace deeds s.horizon (kept_of s trace) stands))
+
+-- ---- and the node after it
+
+tracks_set : (tracks : List Track) (place client : ℕ) (track : Track) (b : Bool) → (place == client) ≡ b → place < length tracks
+    → unwrap_or (slice_get (set tracks place track) client) no_notes ≡ (if b then track else unwrap_or (slice_get tracks client) no_notes)
+tracks_set tracks place client track true is low =
+    ap (λ n. unwrap_or (slice_get (set tracks place track) n) no_notes) (sym (eqb-true place client is)) ∙ unwrap_set tracks place track no_notes low
+tracks_set tracks place client track false is low = unwrap_other tracks place client track no_notes (λ same. let on : (place == client) ≡ true = ap (λ n. place == n) (sym same) ∙ itself place in let never : true ≡ false = sym on ∙ is in absurd cc)
+  where
+    itself : (n : ℕ) → (n == n) ≡ true
+    itself n = grind arith
+
+length-set_any : (tracks : List Track) (place : ℕ) (track : Track) → length (set tracks place track) ≡ length tracks
+length-set_any [] place track = refl
+length-set_any (x ∷ tracks) zero track = refl
+length-set_any (x ∷ tracks) (suc place) track = ap suc (length-set_any tracks place track)
+
+pub like_after : (limits : NoteLimits) (deeds : List Deed) (s : PlainNotes) → IsLike limits deeds s → (deed : Deed) → IsOfClient s.limits.clients deed → segments deeds + 1 ≤ most → IsLike limits (deed ∷ deeds) (after s deed)
+like_after limits deeds s like (Opens client number trace) low bound =
+    let ready = checked (remembered s trace false) client (begins_next (track_of s client) number) in
+    let alike = alike_both s trace false client (begins_next (track_of s client) number) in
+    let cap : ready.limits.traces ≡ s.limits.traces = ap (λ (l : NoteLimits). l.traces) alike.limits in
+    let clients : ready.limits.clients ≡ s.limits.clients = ap (λ (l : NoteLimits). l.clients) alike.limits in
+    let long : length ready.tracks ≡ s.limits.clients = ap length alike.tracks ∙ like.clients in
+    record {
+      limits = alike.limits ∙ like.limits;
+      some = (let some = like.some in omega (arith, cap, some));
+      few = (let few = alike.few like.few like.some in let same = length-with (begins (more ready.heard 1)) trace ready.traces in omega (arith, cap, few, same));
+      clients = length-set_any ready.tracks client (begun number trace) ∙ long ∙ sym clients;
+      heard = (let same : ready.heard ≡ segments deeds = alike.heard ∙ like.heard in omega (arith, same, bound));
+      tracks = λ other below.
+          tracks_set ready.tracks client other (begun number trace) (client == other) refl (omega (arith, low, long))
+          ∙ ap (λ (track : Track). if client == other then begun number trace else track) (ap (λ (ts : List Track). unwrap_or (slice_get ts other) no_notes) alike.tracks ∙ like.tracks other (omega (arith, below, clients)));
+    }
+like_after limits deeds s like (Closes client number trace report) low bound =
+    let is_next = ends_next (track_of s client) number trace in
+    let ready = checked (remembered s trace true) client is_next in
+    let alike = alike_both s trace true client is_next in
+    let cap : ready.limits.traces ≡ s.limits.traces = ap (λ (l : NoteLimits). l.traces) alike.limits in
+    let clients : ready.limits.clients ≡ s.limits.clients = ap (λ (l : NoteLimits). l.clients) alike.limits in
+    let long : length ready.tracks ≡ s.limits.clients = ap length alike.tracks ∙ like.clients in
+    record {
+      limits = alike.limits ∙ like.limits;
+      some = (let some = like.some in omega (arith, cap, some));
+      few = (let few = alike.few like.few like.some in let same = length-with (ends report (not is_next)) trace ready.traces in omega (arith, cap, few, same));
+      clients = length-set_any ready.tracks client (ended number) ∙ long ∙ sym clients;
+      heard = (let same : ready.heard ≡ segments deeds = alike.heard ∙ like.heard in omega (arith, same));
+      tracks = λ other below.
+          tracks_set ready.tracks client other (ended number) (client == other) refl (omega (arith, low, long))
+          ∙ ap (λ (track : Track). if client == other then ended number else track) (ap (λ (ts : List Track). unwrap_or (slice_get ts other) no_notes) alike.tracks ∙ like.tracks other (omega (arith, below, clients)));
+    }
+like_after limits deeds s like (Loses trace loss count) low bound = record {
+  limits = like.limits;
+  some = like.some;
+  few = (let few = like.few in let same = length-with (loses loss count) trace s.traces in omega (arith, few, same));
+  clients = like.clients;
+  heard = (let same = like.heard in omega (arith, same));
+  tracks = like.tracks;
+}
+like_after limits deeds s like (HandsOut trace) low bound = record {
+  limits = like.limits;
+  some = like.some;
+  few = (let few = like.few in let same = length-with goes_out trace s.traces in omega (arith, few, same));
+  clients = like.clients;
+  heard = (let same = like.heard in omega (arith, same));
+  tracks = like.tracks;
+}
+like_after limits deeds s like Misses low bound = record {
+  limits = like.limits;
+  some = like.some;
+  few = like.few;
+  clients = like.clients;
+  heard = (let same = like.heard in omega (arith, same));
+  tracks = like.tracks;
+}

@@ -1,0 +1,98 @@
+-- One trace, as far as a node knows it: pages that its closed segments sent, pages that were handed out, and what was lost.
+use Rattle.std.specs.Prelude.{◌≡◌, ℕ, ◌+◌, ◌-◌, ◌^◌, min, Bool, true, false, not, ◌||◌, ◌==◌, nat_lt, if◌then◌else◌, refl}
+use Rattle.hs_wire.specs.declared.message.Losses.{Losses}
+use Rattle.hs_wire.specs.declared.message.Wholeness.{Wholeness}
+use Rattle.hs_wire.specs.declared.message.Wholeness.TheVariants.{WholeSince, Lost, Unknown, Open}
+use Rattle.hs_whole.specs.declared.answers.SegmentReport.{SegmentReport}
+use Rattle.hs_whole.specs.declared.answers.Loss.{Loss}
+use Rattle.hs_whole.specs.declared.answers.Loss.TheVariants.{EvictedPages, AbandonedPages, EvictedCrumbs, ForgottenCrumbs}
+use Rattle.hs_whole.specs.declared.kept.Kept as kept
+
+-- a count with so many more: it stays at 2^64 - 1 once it is there
+abbrev pub more : ℕ → ℕ → ℕ
+more count by = min (count + by) (2 ^ 64 - 1)
+
+abbrev pub no_losses : Losses
+no_losses = record { null_pages = 0; full_points = 0; dry_points = 0; long_points = 0; refused_crumbs = 0; evicted_crumbs = 0; forgotten_crumbs = 0; evicted_pages = 0; abandoned_pages = 0 }
+
+-- whether a segment lost something
+abbrev pub reports_loss : SegmentReport → Bool
+reports_loss r = not (r.null_pages == 0) || (not (r.full_points == 0) || (not (r.dry_points == 0) || (not (r.long_points == 0) || (not (r.spent_points == 0) || not (r.refused_crumbs == 0)))))
+
+abbrev pub with_report : Losses → SegmentReport → Losses
+with_report l r = record l {
+  null_pages = more l.null_pages r.null_pages;
+  full_points = more l.full_points r.full_points;
+  dry_points = more l.dry_points r.dry_points;
+  long_points = more l.long_points r.long_points;
+  refused_crumbs = more l.refused_crumbs r.refused_crumbs;
+}
+
+abbrev pub with_loss : Losses → Loss → ℕ → Losses
+with_loss l EvictedPages count = record l { evicted_pages = more l.evicted_pages count }
+with_loss l AbandonedPages count = record l { abandoned_pages = more l.abandoned_pages count }
+with_loss l EvictedCrumbs count = record l { evicted_crumbs = more l.evicted_crumbs count }
+with_loss l ForgottenCrumbs count = record l { forgotten_crumbs = more l.forgotten_crumbs count }
+
+-- ---- what becomes of a trace
+
+-- a trace of which nothing is known, where so many segments had been heard
+abbrev pub fresh : ℕ → Bool → kept.Kept
+fresh latest is_missed = record { latest = latest; sent = 0; handed_out = 0; is_missed = is_missed; is_lost = false; losses = no_losses }
+
+-- a note of it may have been missed
+abbrev pub misses : kept.Kept → kept.Kept
+misses k = record k { is_missed = true }
+
+-- a segment of it begins, the last of so many
+abbrev pub begins : ℕ → kept.Kept → kept.Kept
+begins heard k = record k { latest = heard }
+
+-- a segment of it ends
+abbrev pub ends : SegmentReport → Bool → kept.Kept → kept.Kept
+ends r is_missed k = record k {
+  sent = more k.sent r.pages;
+  is_missed = k.is_missed || is_missed;
+  is_lost = k.is_lost || reports_loss r;
+  losses = with_report k.losses r;
+}
+
+-- so much of it is lost
+abbrev pub loses : Loss → ℕ → kept.Kept → kept.Kept
+loses loss count k = record k { is_lost = k.is_lost || not (count == 0); losses = with_loss k.losses loss count }
+
+-- a page of it is handed out
+abbrev pub goes_out : kept.Kept → kept.Kept
+goes_out k = record k { handed_out = more k.handed_out 1 }
+
+-- how whole it is, where so many segments of it are open: an open segment comes before a loss, a loss before what is not known
+abbrev pub wholeness : ℕ → kept.Kept → Wholeness
+wholeness segments k =
+    if nat_lt 0 segments then Open
+    else if k.is_lost then Lost
+    else if k.is_missed || not (k.sent == k.handed_out) then Unknown
+    else WholeSince
+
+-- ---- worked examples: a segment that sent two pages
+
+abbrev pub two_pages : SegmentReport
+two_pages = record { pages = 2; null_pages = 0; full_points = 0; dry_points = 0; long_points = 0; spent_points = 0; refused_crumbs = 0 }
+
+abbrev sent_two : kept.Kept
+sent_two = ends two_pages false (begins 5 (fresh 4 false))
+
+-- it is whole once both are handed out
+both_out : (wholeness 0 sent_two ≡ Unknown) × (wholeness 0 (goes_out sent_two) ≡ Unknown) × (wholeness 0 (goes_out (goes_out sent_two)) ≡ WholeSince) × (wholeness 1 (goes_out (goes_out sent_two)) ≡ Open)
+both_out = (refl, refl, refl, refl)
+
+-- one of them is evicted
+one_evicted : (wholeness 0 (loses EvictedPages 1 (goes_out sent_two)) ≡ Lost) × ((loses EvictedPages 1 sent_two).losses.evicted_pages ≡ 1) × (wholeness 0 (goes_out (goes_out (loses EvictedPages 0 sent_two))) ≡ WholeSince)
+one_evicted = (refl, refl, refl)
+
+-- a point that was refused since numbers ended is a loss too
+spent : wholeness 0 (ends (record two_pages { pages = 0; spent_points = 1 }) false (fresh 4 false)) ≡ Lost
+spent = refl
+
+-- where a note may have been missed it is never whole
+not_known : wholeness 0 (misses (goes_out (goes_out sent_two))) ≡ Unknown
+not_known = refl

@@ -1,0 +1,5 @@
+pub mod Tracks
+pub mod Kept
+pub mod Notes
+pub mod NotesLayout
+pub mod History

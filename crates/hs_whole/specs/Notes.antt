@@ -1,0 +1,186 @@
+-- What a node heard of its segments. The horizon is a count of segments that were heard: none that was heard later is missed or
+-- forgotten. It moves to the present count where a note was missed, and behind the segments of a trace that is forgotten.
+use Rattle.std.specs.Prelude.{◌≡◌, ◌⊎◌, ℕ, ◌-◌, ◌<◌, max, Bool, true, false, not, replicate, List, [], ◌∷◌, length, take, slice_set, slice_get, unwrap_or, count_by, nat_lt, nat_le, Option, Some, None, if◌then◌else◌, refl}
+use Rattle.std.specs.Option.{option_map_or}
+use Rattle.std.specs.Map.{lookup, set_value}
+use Rattle.lru.specs.LruCache.{promoted, last_entry}
+use Rattle.hs_base.specs.declared.ids.TraceId.{TraceId}
+use Rattle.hs_base.specs.declared.ids.GroupId.{GroupId}
+use Rattle.hs_base.specs.Ids.{same_trace}
+use Rattle.hs_base.specs.Samples.{t}
+use Rattle.hs_wire.specs.declared.message.Losses.{Losses}
+use Rattle.hs_wire.specs.declared.message.Standing.{Standing}
+use Rattle.hs_wire.specs.declared.message.Wholeness.{Wholeness}
+use Rattle.hs_wire.specs.declared.message.Wholeness.TheVariants.{WholeSince, UnheardSince, Unknown, Open}
+use Rattle.hs_whole.specs.declared.answers.NoteLimits.{NoteLimits}
+use Rattle.hs_whole.specs.declared.answers.SegmentReport.{SegmentReport}
+use Rattle.hs_whole.specs.declared.answers.Loss.{Loss}
+use Rattle.hs_whole.specs.declared.answers.Noted.{Noted}
+use Rattle.hs_whole.specs.declared.answers.Noted.TheVariants as noting
+use Rattle.hs_whole.specs.declared.answers.TheConstants.{MOST_CLIENTS}
+use Rattle.hs_whole.specs.declared.track.Track.{Track}
+use Rattle.hs_whole.specs.declared.kept.Kept.{Kept}
+use Rattle.hs_whole.specs.Tracks.{no_notes, is_open, begins_next, ends_next, begun, ended}
+use Rattle.hs_whole.specs.Kept.{more, no_losses, fresh, misses, begins, ends, loses, goes_out, wholeness, two_pages}
+
+-- how many segments were heard, the horizon, the clients by number, and the traces, the one with the latest note first
+pub record PlainNotes : Type 0 where
+  pub limits : NoteLimits
+  pub heard : ℕ
+  pub horizon : ℕ
+  pub tracks : List Track
+  pub traces : List (TraceId × Kept)
+
+-- a limit is out of its range
+abbrev pub AreOut : NoteLimits → Type 0
+AreOut limits = (limits.traces ≡ 0) ⊎ (MOST_CLIENTS < limits.clients)
+
+abbrev pub no_notes_in : NoteLimits → PlainNotes
+no_notes_in limits = record { limits = limits; heard = 0; horizon = 0; tracks = replicate limits.clients no_notes; traces = [] }
+
+abbrev pub track_of : PlainNotes → ℕ → Track
+track_of s client = unwrap_or (slice_get s.tracks client) no_notes
+
+abbrev pub kept_of : PlainNotes → TraceId → Option Kept
+kept_of s trace = lookup (same_trace trace) s.traces
+
+-- what is kept of a trace changes, where it is kept
+abbrev pub with_kept : (Kept → Kept) → TraceId → List (TraceId × Kept) → List (TraceId × Kept)
+with_kept f trace traces = option_map_or (λ k. set_value (same_trace trace) traces (f k)) (lookup (same_trace trace) traces) traces
+
+-- ---- a note that is missed
+
+-- a note may have been missed: the horizon moves to the present count
+abbrev pub missed : PlainNotes → PlainNotes
+missed s = record s { horizon = s.heard }
+
+-- of a trace a note may have been missed
+abbrev pub doubted : PlainNotes → TraceId → PlainNotes
+doubted s trace = record s { traces = with_kept misses trace s.traces }
+
+-- a note was missed where this segment is open, or none
+abbrev pub missed_open : Option TraceId → PlainNotes → PlainNotes
+missed_open None s = missed s
+missed_open (Some trace) s = doubted (missed s) trace
+
+-- a client's note is its next one, or shows that one was missed
+abbrev pub checked : PlainNotes → ℕ → Bool → PlainNotes
+checked s client is_next = if is_next then s else missed_open (track_of s client).current s
+
+-- ---- a trace is kept
+
+-- the horizon where one trace more is kept: it moves behind the segments of the one that is forgotten
+abbrev pub moved_horizon : PlainNotes → ℕ
+moved_horizon s = if nat_lt (length s.traces) s.limits.traces then s.horizon else option_map_or (λ (oldest : TraceId × Kept). max s.horizon oldest.1.latest) (last_entry s.traces) s.horizon
+
+-- one trace more, where there is none of it yet
+abbrev pub with_new : PlainNotes → TraceId → Bool → PlainNotes
+with_new s trace is_missed = record s { horizon = moved_horizon s; traces = (trace, fresh s.heard is_missed) ∷ take (s.limits.traces - 1) s.traces }
+
+abbrev pub remembered_as : PlainNotes → TraceId → Bool → Option Kept → PlainNotes
+remembered_as s trace is_missed (Some kept) = record s { traces = promoted (same_trace trace) s.traces }
+remembered_as s trace is_missed None = with_new s trace is_missed
+
+abbrev pub remembered : PlainNotes → TraceId → Bool → PlainNotes
+remembered s trace is_missed = remembered_as s trace is_missed (kept_of s trace)
+
+-- ---- a note comes
+
+-- a segment of a kept trace begins
+abbrev pub begun_in : PlainNotes → ℕ → ℕ → TraceId → PlainNotes
+begun_in s client number trace = record s {
+  heard = more s.heard 1;
+  tracks = slice_set s.tracks client (begun number trace);
+  traces = with_kept (begins (more s.heard 1)) trace s.traces;
+}
+
+-- a segment of a kept trace ends
+abbrev pub ended_in : PlainNotes → ℕ → ℕ → TraceId → SegmentReport → Bool → PlainNotes
+ended_in s client number trace report is_next = record s {
+  tracks = slice_set s.tracks client (ended number);
+  traces = with_kept (ends report (not is_next)) trace s.traces;
+}
+
+abbrev pub answer_of : PlainNotes → ℕ → Noted
+answer_of s client = if nat_le s.limits.clients client then noting.Refused else noting.Kept
+
+abbrev pub opened : PlainNotes → ℕ → ℕ → TraceId → PlainNotes
+opened s client number trace = begun_in (checked (remembered s trace false) client (begins_next (track_of s client) number)) client number trace
+
+abbrev pub closed : PlainNotes → ℕ → ℕ → TraceId → SegmentReport → PlainNotes
+closed s client number trace report = ended_in (checked (remembered s trace true) client (ends_next (track_of s client) number trace)) client number trace report (ends_next (track_of s client) number trace)
+
+-- a note of a client that is not there is a missed one
+abbrev pub after_opened : PlainNotes → ℕ → ℕ → TraceId → PlainNotes
+after_opened s client number trace = if nat_le s.limits.clients client then missed s else opened s client number trace
+
+abbrev pub after_closed : PlainNotes → ℕ → ℕ → TraceId → SegmentReport → PlainNotes
+after_closed s client number trace report = if nat_le s.limits.clients client then missed s else closed s client number trace report
+
+-- ---- what becomes of pages and crumbs
+
+abbrev pub after_lost : PlainNotes → TraceId → Loss → ℕ → PlainNotes
+after_lost s trace loss count = record s { traces = with_kept (loses loss count) trace s.traces }
+
+abbrev pub after_handed_out : PlainNotes → TraceId → PlainNotes
+after_handed_out s trace = record s { traces = with_kept goes_out trace s.traces }
+
+-- ---- how whole a trace is
+
+abbrev pub open_segments : PlainNotes → TraceId → ℕ
+open_segments s trace = count_by (is_open trace) s.tracks
+
+-- a trace that is not kept is unheard since the horizon
+abbrev pub wholeness_of : PlainNotes → TraceId → Wholeness
+wholeness_of s trace = option_map_or (wholeness (open_segments s trace)) (kept_of s trace) UnheardSince
+
+abbrev pub losses_of : PlainNotes → TraceId → Losses
+losses_of s trace = option_map_or (λ kept. kept.losses) (kept_of s trace) no_losses
+
+abbrev pub standing_of : PlainNotes → TraceId → GroupId → Standing
+standing_of s trace group = record {
+  trace = trace;
+  group = group;
+  wholeness = wholeness_of s trace;
+  open_segments = open_segments s trace;
+  horizon = s.horizon;
+  losses = losses_of s trace;
+}
+
+-- ---- worked examples: two clients, and two traces at a time
+
+abbrev none : PlainNotes
+none = no_notes_in (record { clients = 2; traces = 2 })
+
+-- client 0 has a segment of trace 9, which sends two pages
+abbrev open_9 : PlainNotes
+open_9 = opened none 0 0 (t 9)
+
+abbrev closed_9 : PlainNotes
+closed_9 = closed open_9 0 1 (t 9) two_pages
+
+abbrev whole_9 : PlainNotes
+whole_9 = after_handed_out (after_handed_out closed_9 (t 9)) (t 9)
+
+in_order : (wholeness_of none (t 9) ≡ UnheardSince) × (wholeness_of open_9 (t 9) ≡ Open) × (wholeness_of closed_9 (t 9) ≡ Unknown) × (wholeness_of whole_9 (t 9) ≡ WholeSince) × (whole_9.heard ≡ 1) × (whole_9.horizon ≡ 0)
+in_order = (refl, refl, refl, refl, refl, refl)
+
+-- a page of trace 8 is not one of trace 9
+another : wholeness_of (after_handed_out (after_handed_out closed_9 (t 8)) (t 9)) (t 9) ≡ Unknown
+another = refl
+
+-- client 1's first note has number 3: three were missed, so the horizon moves, and trace 9 is whole since then
+since_one : (wholeness_of (opened whole_9 1 3 (t 8)) (t 9) ≡ WholeSince) × ((opened whole_9 1 3 (t 8)).horizon ≡ 1)
+since_one = (refl, refl)
+
+-- client 0's note 1 is missed, so the end of its segment may have been: trace 9 is not known to be whole
+gap : (wholeness_of (opened open_9 0 2 (t 8)) (t 9) ≡ Unknown) × ((opened open_9 0 2 (t 8)).horizon ≡ 1) × (wholeness_of (opened open_9 0 2 (t 8)) (t 8) ≡ Open)
+gap = (refl, refl, refl)
+
+-- with a third trace the one whose note is oldest is forgotten, and the horizon moves behind its one segment
+forgets : (wholeness_of (opened (opened whole_9 1 0 (t 8)) 0 2 (t 7)) (t 9) ≡ UnheardSince) × ((opened (opened whole_9 1 0 (t 8)) 0 2 (t 7)).horizon ≡ 1) × ((opened (opened whole_9 1 0 (t 8)) 0 2 (t 7)).heard ≡ 3)
+forgets = (refl, refl, refl)
+
+-- there is no client 2
+no_such_client : (answer_of none 2 ≡ noting.Refused) × ((after_opened whole_9 2 0 (t 9)).horizon ≡ 1)
+no_such_client = (refl, refl)

@@ -1,0 +1,333 @@
+//! All that a node heard of its segments.
+
+ghost use Rattle.std.specs.Prelude.{◌≡◌, ◌<◌, ◌≤◌, ◌↔◌, length, Ok, Err, Some, None, IfOk, OnOk, OnErr, option_copied, count_by};
+ghost use Rattle.std.specs.NonZero.{non_zero_usize_get};
+ghost use Rattle.hs_whole.specs.Tracks.{is_open, begins_next, ends_next};
+ghost use Rattle.hs_whole.specs.Notes.{PlainNotes, AreOut, no_notes_in, kept_of, missed, missed_open, doubted, moved_horizon, with_new, remembered, checked, begun_in, ended_in, answer_of, opened, closed, after_opened, after_closed, after_lost, after_handed_out, standing_of};
+
+use crate::answers::{Loss, MOST_CLIENTS, MakeFault, NoteLimits, Noted, SegmentReport};
+use crate::kept::{Kept, no_losses};
+use crate::track::Track;
+use hs_base::{GroupId, Memory, TraceId};
+use hs_wire::{Standing, Wholeness};
+use lru::LruCache;
+use std::alloc::Global;
+use std::marker::Model;
+use std::num::NonZeroUsize;
+
+/// What a node heard of its segments, in bounded memory: of each client its latest note, and the traces that had one latest.
+/// Contracts see the clients by number, and the traces, the one with the latest note first.
+#[derive(Drop)]
+pub struct SegmentNotes {
+    limits: NoteLimits,
+    /// How many segments were heard.
+    heard: u64,
+    /// The count of segments since which none was missed and none forgotten.
+    horizon: u64,
+    tracks: Vec<Track>,
+    traces: LruCache<TraceId, Kept>,
+}
+
+impl Model for SegmentNotes {
+    ghost use Rattle.hs_whole.specs.Notes.{PlainNotes};
+    ghost use Rattle.hs_whole.specs.NotesLayout.{notes_in, AreKept};
+
+    ghost Value = { PlainNotes };
+
+    ghost view = { notes_in };
+
+    ghost invariant = { AreKept };
+}
+
+impl SegmentNotes {
+    /// No notes, within these limits.
+    pub fn make(alloc: Global, limits: NoteLimits) -> Result<SegmentNotes, MakeFault>
+        ensures made { IfOk result (λ notes. notes ≡ no_notes_in limits) }
+        ensures limits { (result ≡ Err MakeFault.Limits) ↔ AreOut limits }
+    {
+        let Some(most) = NonZeroUsize::new(limits.traces as usize) else {
+            return Err(MakeFault::Limits);
+        };
+        if limits.clients > MOST_CLIENTS {
+            return Err(MakeFault::Limits);
+        }
+        match SegmentNotes::empty(alloc, limits, most) {
+            Ok(notes) => Ok(notes),
+            Err(_) => Err(MakeFault::Memory),
+        }
+    }
+
+    /// No notes, within these limits.
+    fn empty(alloc: Global, limits: NoteLimits, most: NonZeroUsize) -> Result<SegmentNotes, Memory>
+        requires most { non_zero_usize_get most ≡ limits.traces }
+        requires clients { limits.clients ≤ MOST_CLIENTS }
+        ensures { IfOk result (λ notes. notes ≡ no_notes_in limits) }
+    {
+        Ok(SegmentNotes {
+            limits,
+            heard: 0,
+            horizon: 0,
+            tracks: vec![in alloc; Track::new(); limits.clients as usize]?,
+            traces: LruCache::new(alloc, most)?,
+        })
+    }
+
+    /// The horizon moves to the count of all segments that were heard: a note may have been missed.
+    pub fn miss(&mut self)
+        ensures { self.new ≡ missed self.old }
+    {
+        self.horizon = self.heard;
+    }
+
+    /// The horizon where one trace more is kept: where as many are kept as may be, the one without a note for longest is
+    /// forgotten, with all its segments.
+    fn moved_horizon(&self) -> u64
+        ensures { result ≡ moved_horizon self.now }
+    {
+        if self.traces.len() < self.limits.traces as usize {
+            return self.horizon;
+        }
+        match self.traces.peek_lru() {
+            Some((_, oldest)) => self.horizon.max(oldest.latest),
+            None => self.horizon,
+        }
+    }
+
+    /// Keeps a trace, as the one with the latest note. Where it is not kept yet, a note of it may have been missed or not.
+    fn remember(&mut self, trace: TraceId, is_missed: bool) -> Result<(), Memory>
+        ensures kept { OnOk result (self.new ≡ remembered self.old trace is_missed) }
+        ensures memory { OnErr result (self.new ≡ self.old) }
+    {
+        if self.traces.contains(&trace) {
+            self.traces.promote(&trace);
+            return Ok(());
+        }
+        self.keep(trace, is_missed)
+    }
+
+    /// Keeps one trace more.
+    fn keep(&mut self, trace: TraceId, is_missed: bool) -> Result<(), Memory>
+        requires new { kept_of self.old trace ≡ None }
+        ensures kept { OnOk result (self.new ≡ with_new self.old trace is_missed) }
+        ensures memory { OnErr result (self.new ≡ self.old) }
+    {
+        let horizon = self.moved_horizon();
+        match self.traces.put(trace, Kept::fresh(self.heard, is_missed)) {
+            Ok(_) => {
+                self.horizon = horizon;
+                Ok(())
+            }
+            Err(_) => Err(Memory),
+        }
+    }
+
+    /// A note of a trace may have been missed.
+    fn doubt(&mut self, trace: TraceId)
+        ensures { self.new ≡ doubted self.old trace }
+    {
+        if let Some(kept) = self.traces.peek_mut(&trace) {
+            kept.miss();
+        }
+    }
+
+    /// A note was missed: the horizon moves, and of this open segment, if any, a note may have been missed.
+    fn miss_segment(&mut self, current: Option<TraceId>)
+        ensures { self.new ≡ missed_open current self.old }
+    {
+        self.miss();
+        match current {
+            Some(trace) => self.doubt(trace),
+            None => {}
+        }
+    }
+
+    /// Where a client's note is not its next one, a note was missed.
+    fn check(&mut self, client: u16, is_next: bool)
+        requires { client < self.old.limits.clients }
+        ensures { self.new ≡ checked self.old client is_next }
+    {
+        if is_next {
+            return;
+        }
+        let current = self.tracks[client as usize].current;
+        self.miss_segment(current);
+    }
+
+    /// A segment of a kept trace begins.
+    fn begin(&mut self, client: u16, number: u64, trace: TraceId)
+        requires { client < self.old.limits.clients }
+        ensures { self.new ≡ begun_in self.old client number trace }
+    {
+        self.heard = self.heard.saturating_add(1);
+        self.tracks[client as usize] = Track::begun(number, trace);
+        if let Some(kept) = self.traces.peek_mut(&trace) {
+            kept.begin(self.heard);
+        }
+    }
+
+    /// A segment of a kept trace ends.
+    fn end(
+        &mut self,
+        client: u16,
+        number: u64,
+        trace: TraceId,
+        report: &SegmentReport,
+        is_next: bool,
+    )
+        requires { client < self.old.limits.clients }
+        ensures { self.new ≡ ended_in self.old client number trace report.now is_next }
+    {
+        self.tracks[client as usize] = Track::ended(number);
+        if let Some(kept) = self.traces.peek_mut(&trace) {
+            kept.end(report, !is_next);
+        }
+    }
+
+    /// Hears that a client that is there begins a segment.
+    fn open_segment(&mut self, client: u16, number: u64, trace: TraceId) -> Result<(), Memory>
+        requires { client < self.old.limits.clients }
+        ensures after { OnOk result (self.new ≡ opened self.old client number trace) }
+        ensures memory { OnErr result (self.new ≡ self.old) }
+    {
+        let is_next = self.tracks[client as usize].begins_next(number);
+        self.remember(trace, false)?;
+        self.check(client, is_next);
+        self.begin(client, number, trace);
+        Ok(())
+    }
+
+    /// Hears that a client that is there ends a segment.
+    fn close_segment(
+        &mut self,
+        client: u16,
+        number: u64,
+        trace: TraceId,
+        report: &SegmentReport,
+    ) -> Result<(), Memory>
+        requires { client < self.old.limits.clients }
+        ensures after { OnOk result (self.new ≡ closed self.old client number trace report.now) }
+        ensures memory { OnErr result (self.new ≡ self.old) }
+    {
+        let is_next = self.tracks[client as usize].ends_next(number, trace);
+        self.remember(trace, true)?;
+        self.check(client, is_next);
+        self.end(client, number, trace, report, is_next);
+        Ok(())
+    }
+
+    /// Hears that a client begins a segment of a trace, by a note of this number. After `Refused`, and after `Memory`, the
+    /// horizon has moved to the count of all segments that were heard, and nothing else changed.
+    pub fn opened(&mut self, client: u16, number: u64, trace: TraceId) -> Result<Noted, Memory>
+        ensures answer { IfOk result (λ noted. noted ≡ answer_of self.old client) }
+        ensures after { OnOk result (self.new ≡ after_opened self.old client number trace) }
+        ensures memory { OnErr result (self.new ≡ missed self.old) }
+    {
+        if client >= self.limits.clients {
+            self.miss();
+            return Ok(Noted::Refused);
+        }
+        match self.open_segment(client, number, trace) {
+            Ok(()) => Ok(Noted::Kept),
+            Err(_) => {
+                self.miss();
+                Err(Memory)
+            }
+        }
+    }
+
+    /// Hears that a client ends a segment of a trace, by a note of this number, and what it says of it. After `Refused`, and
+    /// after `Memory`, the horizon has moved to the count of all segments that were heard, and nothing else changed.
+    pub fn closed(
+        &mut self,
+        client: u16,
+        number: u64,
+        trace: TraceId,
+        report: &SegmentReport,
+    ) -> Result<Noted, Memory>
+        ensures answer { IfOk result (λ noted. noted ≡ answer_of self.old client) }
+        ensures after { OnOk result (self.new ≡ after_closed self.old client number trace report.now) }
+        ensures memory { OnErr result (self.new ≡ missed self.old) }
+    {
+        if client >= self.limits.clients {
+            self.miss();
+            return Ok(Noted::Refused);
+        }
+        match self.close_segment(client, number, trace, report) {
+            Ok(()) => Ok(Noted::Kept),
+            Err(_) => {
+                self.miss();
+                Err(Memory)
+            }
+        }
+    }
+
+    /// Hears that so much of a trace was lost. Where the trace is not kept nothing changes. Takes no memory.
+    pub fn lost(&mut self, trace: TraceId, loss: Loss, count: u64)
+        ensures { self.new ≡ after_lost self.old trace loss count }
+    {
+        if let Some(kept) = self.traces.peek_mut(&trace) {
+            kept.lose(loss, count);
+        }
+    }
+
+    /// Hears that a page of a trace is handed out. Where the trace is not kept nothing changes. Takes no memory.
+    pub fn handed_out(&mut self, trace: TraceId)
+        ensures { self.new ≡ after_handed_out self.old trace }
+    {
+        if let Some(kept) = self.traces.peek_mut(&trace) {
+            kept.hand_out();
+        }
+    }
+
+    /// How many segments of a trace are open.
+    fn open_segments(&self, trace: TraceId) -> usize
+        ensures count { result ≡ count_by (is_open trace) self.now.tracks }
+        ensures few { result ≤ MOST_CLIENTS }
+    {
+        self.tracks
+            .iter()
+            .filter(|track| track.is_open(trace))
+            .count()
+    }
+
+    /// How the node stands to a trace that a group claims.
+    pub fn standing(&self, trace: TraceId, group: GroupId) -> Standing
+        ensures { result ≡ standing_of self.now trace group }
+    {
+        let segments = self.open_segments(trace);
+        let (wholeness, losses) = match self.traces.peek(&trace) {
+            Some(kept) => (kept.wholeness(segments), kept.losses),
+            None => (Wholeness::UnheardSince, no_losses()),
+        };
+        Standing {
+            trace,
+            group,
+            wholeness,
+            open_segments: segments as u32,
+            horizon: self.horizon,
+            losses,
+        }
+    }
+
+    /// What is known of a trace, or `None` where it is not kept.
+    pub fn kept(&self, trace: TraceId) -> Option<&Kept>
+        ensures { option_copied result ≡ kept_of self.now trace }
+    {
+        self.traces.peek(&trace)
+    }
+
+    /// How many segments were heard.
+    pub fn heard(&self) -> u64
+        ensures { result ≡ self.now.heard }
+    {
+        self.heard
+    }
+
+    /// How many traces are kept.
+    pub fn len(&self) -> usize
+        ensures len { result ≡ length self.now.traces }
+        ensures within { result ≤ self.now.limits.traces }
+    {
+        self.traces.len()
+    }
+}
