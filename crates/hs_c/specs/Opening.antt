@@ -40,6 +40,8 @@ pub record Fills (made : Made) (port : HindPort) : Type 0 where
   pub live : port.live ≡ 1
   pub held : port.slot.held ≡ Some cell
   pub port_is : cell.port ≡ made.port
+  pub late : cell.late ≡ made.late
+  pub notes : cell.notes ≡ made.segments
   pub left : left_in cell ≡ made.clients.items
 
 -- The text reads as settings, and behind the port stand the clients that are made by them for this node.
@@ -83,4 +85,4 @@ pub record HandsOut (cell : PortCell) (port : HindPort) (client : HindClient) : 
   pub port_live : port.live ≡ 1
   pub port_held : port.slot.held ≡ Some others
   pub left : left_in cell ≡ left_in others ++ next ∷ []
-  pub port_is : others.port ≡ cell.port
+  pub only : others ≡ record cell { left = others.left }

@@ -54,7 +54,7 @@ pub extern "C" fn hindcore_message_head(bytes: &[u8], head: &mut HindHead) -> u3
 /// than the message; then `out` stays as it is. What is written is what was read, byte for byte.
 #[unsafe(no_mangle)]
 pub extern "C" fn hindcore_message_copy(bytes: &[u8], out: &mut [u8]) -> u32
-    ensures done { result ≡ done → out.new ≡ bytes.now ++ drop (length bytes.now) out.old }
+    ensures done { result ≡ done → (m : PlainMessage) × IsMessage m × (bytes.now ≡ message_bytes m) × (out.new ≡ bytes.now ++ drop (length bytes.now) out.old) }
     ensures none { result ≡ no_message → SpellsNone bytes.now }
     ensures short { result ≡ short → length out.old < length bytes.now }
     ensures same { result ≢ done → out.new ≡ out.old }

@@ -54,7 +54,8 @@ pub extern "C" fn hindcore_open(
 ) -> u32
     ensures done { result ≡ DONE → Opens text.now node port.new }
     ensures same { result ≢ DONE → port.new ≡ port.old }
-    ensures busy { result ≡ BUSY → port.old.live ≡ 1 }
+    ensures busy { port.old.live ≡ 1 → result ≡ BUSY }
+    ensures free { result ≡ BUSY → port.old.live ≡ 1 }
     ensures settings { result ≡ SETTINGS → IsRefused text.now fault.new }
     ensures unfit { result ≡ UNFIT → IsUnfit text.now node }
     ensures only { result ≢ DONE → result ≢ BUSY → result ≢ SETTINGS → result ≢ UNFIT → result ≡ MEMORY }
@@ -160,7 +161,7 @@ fn boxed(alloc: Global, clients: List<NodeClient>) -> Result<List<Box<ClientCell
 fn next_of(cell: &mut PortCell) -> Option<Box<ClientCell, Global>>
     ensures some { IfSome result (λ boxed. left_in cell.old ≡ left_in cell.new ++ boxed.value.client ∷ []) }
     ensures none { IfNone result ((left_in cell.old ≡ []) × (cell.new ≡ cell.old)) }
-    ensures port { cell.new.port ≡ cell.old.port }
+    ensures only { cell.new ≡ record cell.old { left = cell.new.left } }
 {
     match cell.left.pop() {
         Some(boxed) => Some(boxed),

@@ -26,20 +26,20 @@ impl Model for ClientSlot {
 unsafe impl Send for ClientSlot {}
 
 impl ClientSlot {
-    pub fn full(loose: Loose<ClientCell, Global>) -> ClientSlot
+    pub(crate) fn full(loose: Loose<ClientCell, Global>) -> ClientSlot
         ensures { result.held ≡ Some loose.value }
     {
         let Loose { at, alloc: _ } = loose;
         ClientSlot { at: at as *mut () }
     }
 
-    pub fn vacant() -> ClientSlot
+    pub(crate) fn vacant() -> ClientSlot
         ensures { result.held ≡ None }
     {
         ClientSlot { at: null_mut() }
     }
 
-    pub fn open(self, alloc: Global) -> Loose<ClientCell, Global>
+    pub(crate) fn open(self, alloc: Global) -> Loose<ClientCell, Global>
         requires { IsSome self.held }
         ensures { self.held ≡ Some result.value }
     {
@@ -66,20 +66,20 @@ impl Model for PortSlot {
 unsafe impl Send for PortSlot {}
 
 impl PortSlot {
-    pub fn full(loose: Loose<PortCell, Global>) -> PortSlot
+    pub(crate) fn full(loose: Loose<PortCell, Global>) -> PortSlot
         ensures { result.held ≡ Some loose.value }
     {
         let Loose { at, alloc: _ } = loose;
         PortSlot { at: at as *mut () }
     }
 
-    pub fn vacant() -> PortSlot
+    pub(crate) fn vacant() -> PortSlot
         ensures { result.held ≡ None }
     {
         PortSlot { at: null_mut() }
     }
 
-    pub fn open(self, alloc: Global) -> Loose<PortCell, Global>
+    pub(crate) fn open(self, alloc: Global) -> Loose<PortCell, Global>
         requires { IsSome self.held }
         ensures { self.held ≡ Some result.value }
     {

@@ -12,5 +12,5 @@ returns-in-Some-clause-done c cell holds done =
       port_live = search rules;
       port_held = search rules;
       left = search rules;
-      port_is = search rules;
+      only = search rules;
     }
