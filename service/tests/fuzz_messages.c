@@ -62,7 +62,7 @@ static size_t standing(const uint8_t *b, size_t len) {
     at = at ? node(b, at, len) : 0;
     at = skip(at, 4, len);
     at = at ? byte_up_to(b, at, 4, len) : 0;
-    return skip(at, 4 + 8 + 9 * 8, len);
+    return skip(at, 4 + 8 + 8 + 9 * 8, len);
 }
 
 static int spells(const uint8_t *b, size_t len) {
@@ -119,7 +119,7 @@ size_t LLVMFuzzerMutate(uint8_t *bytes, size_t len, size_t most);
 static uint32_t drawn(uint32_t *seed) { return *seed = *seed * 1664525u + 1013904223u, *seed >> 8; }
 
 static size_t made(uint8_t *b, size_t most, uint32_t *seed) {
-    static const size_t fronts[] = {0, 33, 41, 24, 35, 107};
+    static const size_t fronts[] = {0, 33, 41, 24, 35, 115};
     unsigned kind = 1 + drawn(seed) % 5, count = 0;
     size_t len = FRONT + fronts[kind];
     if (most < len + 600) return 0;

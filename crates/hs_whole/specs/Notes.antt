@@ -137,6 +137,9 @@ wholeness_of s trace = option_map_or (wholeness (open_segments s trace)) (kept_o
 abbrev pub losses_of : PlainNotes → TraceId → Losses
 losses_of s trace = option_map_or (λ kept. kept.losses) (kept_of s trace) no_losses
 
+abbrev pub pages_of : PlainNotes → TraceId → ℕ
+pages_of s trace = option_map_or (λ kept. kept.handed_out) (kept_of s trace) 0
+
 abbrev pub standing_of : PlainNotes → TraceId → GroupId → Standing
 standing_of s trace group = record {
   trace = trace;
@@ -144,6 +147,7 @@ standing_of s trace group = record {
   wholeness = wholeness_of s trace;
   open_segments = open_segments s trace;
   horizon = s.horizon;
+  pages = pages_of s trace;
   losses = losses_of s trace;
 }
 

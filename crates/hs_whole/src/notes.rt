@@ -295,9 +295,9 @@ impl SegmentNotes {
         ensures { result ≡ standing_of self.now trace group }
     {
         let segments = self.open_segments(trace);
-        let (wholeness, losses) = match self.traces.peek(&trace) {
-            Some(kept) => (kept.wholeness(segments), kept.losses),
-            None => (Wholeness::UnheardSince, no_losses()),
+        let (wholeness, pages, losses) = match self.traces.peek(&trace) {
+            Some(kept) => (kept.wholeness(segments), kept.handed_out, kept.losses),
+            None => (Wholeness::UnheardSince, 0, no_losses()),
         };
         Standing {
             trace,
@@ -305,6 +305,7 @@ impl SegmentNotes {
             wholeness,
             open_segments: segments as u32,
             horizon: self.horizon,
+            pages,
             losses,
         }
     }

@@ -88,6 +88,8 @@ pub struct Standing {
     pub open_segments: u32,
     /// The count of segments since which the node missed none.
     pub horizon: u64,
+    /// How many pages of the trace the node handed out in this life. A hub that has fewer waits for the others.
+    pub pages: u64,
     pub losses: Losses,
 }
 

@@ -283,6 +283,7 @@ fn standing_of(bytes: &[u8]) -> Option<(Standing, &[u8])>
     let (wholeness, rest) = wholeness_in(rest)?;
     let (open_segments, rest) = u32_of(rest)?;
     let (horizon, rest) = u64_of(rest)?;
+    let (pages, rest) = u64_of(rest)?;
     let (losses, rest) = losses_of(rest)?;
     let standing = Standing {
         trace: TraceId(trace),
@@ -290,6 +291,7 @@ fn standing_of(bytes: &[u8]) -> Option<(Standing, &[u8])>
         wholeness,
         open_segments,
         horizon,
+        pages,
         losses,
     };
     Some((standing, rest))

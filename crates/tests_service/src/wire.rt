@@ -37,11 +37,12 @@ pub(crate) const REPORTED: [u8; 98] = [
 ];
 
 /// Part of a trace was lost, for each cause another count.
-pub(crate) const STANDING: [u8; 127] = [
+pub(crate) const STANDING: [u8; 135] = [
     1, 5, 0, 0, 0, 0, 0, 0, 1, 2, 0, 0, 0, 0, 0, 0, 0, 7, 0, 3, 0, 0, 0, 0, 0, 0, 0, 0, 0, 0, 0, 0,
-    0, 0, 10, 27, 0, 3, 0, 0, 0, 7, 1, 0, 0, 0, 2, 0, 0, 0, 0, 0, 0, 0, 80, 0, 0, 0, 0, 0, 0, 0, 1,
-    0, 0, 0, 0, 0, 0, 0, 2, 0, 0, 0, 0, 0, 0, 0, 3, 0, 0, 0, 0, 0, 0, 0, 4, 0, 0, 0, 0, 0, 0, 0, 5,
-    0, 0, 0, 0, 0, 0, 0, 6, 0, 0, 0, 0, 0, 0, 0, 7, 0, 0, 0, 0, 0, 0, 0, 8, 0, 0, 0, 0, 0, 0, 0, 9,
+    0, 0, 10, 27, 0, 3, 0, 0, 0, 7, 1, 0, 0, 0, 2, 0, 0, 0, 0, 0, 0, 0, 80, 0, 0, 0, 0, 0, 0, 0,
+    17, 0, 0, 0, 0, 0, 0, 0, 1, 0, 0, 0, 0, 0, 0, 0, 2, 0, 0, 0, 0, 0, 0, 0, 3, 0, 0, 0, 0, 0, 0,
+    0, 4, 0, 0, 0, 0, 0, 0, 0, 5, 0, 0, 0, 0, 0, 0, 0, 6, 0, 0, 0, 0, 0, 0, 0, 7, 0, 0, 0, 0, 0, 0,
+    0, 8, 0, 0, 0, 0, 0, 0, 0, 9,
 ];
 
 const DIGEST: [u8; 32] = [
@@ -85,22 +86,22 @@ pub(crate) fn group() -> Group {
 
 /// Whether a message is written to the front of a slice as these bytes, and no byte behind them changes.
 fn is_written(message: &Message<'_>, bytes: &[u8]) -> bool {
-    let mut out = [0xee; 128];
+    let mut out = [0xee; 136];
     let Ok(len) = write(&mut out, message) else {
         return false;
     };
     len == bytes.len()
         && out.get(..len) == Some(bytes)
-        && (len == 128 || out.get(len) == Some(&0xee))
+        && (len == 136 || out.get(len) == Some(&0xee))
 }
 
 /// Whether a slice one byte too short is told the length, and stays as it is.
 fn wants_more(message: &Message<'_>, bytes: &[u8]) -> bool {
-    let mut out = [0xee; 128];
+    let mut out = [0xee; 136];
     let Some(short) = out.get_mut(1..bytes.len()) else {
         return false;
     };
-    write(short, message) == Err(WriteFault::Short(bytes.len())) && out == [0xee; 128]
+    write(short, message) == Err(WriteFault::Short(bytes.len())) && out == [0xee; 136]
 }
 
 fn spells(message: &Message<'_>, bytes: &[u8]) -> bool {
@@ -156,6 +157,7 @@ fn standing() -> Standing {
         wholeness: Wholeness::Lost,
         open_segments: 2,
         horizon: 80,
+        pages: 17,
         losses: LOSSES,
     }
 }
