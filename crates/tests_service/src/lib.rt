@@ -1,5 +1,5 @@
-//! Tables over what a service links beside the client library: its settings, its messages and the outbox of a node. Each call is made
-//! near its greatest size, with nothing at all, or with values from outside.
+//! Tables over what a service links beside the client library: its settings, its messages, the outbox of a node, and what a node says
+//! of how whole a trace is. Each call is made near its greatest size, with nothing at all, or with values from outside.
 #![tactic(auto)]
 
 #[cfg(test)]
@@ -8,5 +8,7 @@ mod outbox;
 mod rows;
 #[cfg(test)]
 mod settings;
+#[cfg(test)]
+mod whole;
 #[cfg(test)]
 mod wire;
