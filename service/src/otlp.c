@@ -1,6 +1,6 @@
 /* A trace as one line of OTLP's JSON. Each life of a node is a resource, and its spans are those that its records speak of (docs/FORMATS.md, "A
  * trace as OTLP"). */
-#include "otlp.h"
+#include "spanlist.h"
 #include <math.h>
 #include <stdarg.h>
 #include <stdio.h>
@@ -159,112 +159,6 @@ static void put_span_attribute(otlp_text *t, int *count, const hind_span_record 
     put_text(t, "}}");
 }
 
-/* ---- which records speak of which span */
-
-enum { NO_RECORD = -1 };
-
-typedef struct {
-    hind_span_id id;
-    long first, last;  /* its records, each with the next one in `next` */
-    long start, end;   /* the records that start and end it, or NO_RECORD */
-} span;
-
-typedef struct {
-    const otlp_part *part;
-    span *spans;
-    long count;
-    long *table; /* spans by their ids: open addressing */
-    size_t mask;
-    long *next;  /* of each record the next one of its span */
-} sorted;
-
-static int same_id(hind_span_id a, hind_span_id b) { return !memcmp(&a, &b, sizeof a); }
-
-static uint64_t mixed(uint64_t x) {
-    x ^= x >> 33;
-    x *= 0xff51afd7ed558ccdu;
-    x ^= x >> 33;
-    x *= 0xc4ceb9fe1a85ec53u;
-    return x ^ x >> 33;
-}
-
-static hind_span_id id_of(uint64_t number) {
-    hind_span_id id;
-    for (int i = 0; i < 8; i++) id.bytes[i] = (uint8_t)(number >> (56 - 8 * i));
-    return id;
-}
-
-static uint64_t number_of(hind_span_id id) {
-    uint64_t number = 0;
-    for (int i = 0; i < 8; i++) number = number << 8 | id.bytes[i];
-    return number;
-}
-
-/* The span of this id, which is new if no record spoke of it so far. There is a place for it. */
-static span *span_of(sorted *s, hind_span_id id) {
-    size_t at = (size_t)mixed(number_of(id)) & s->mask;
-    while (s->table[at] >= 0 && !same_id(s->spans[s->table[at]].id, id)) at = (at + 1) & s->mask;
-    if (s->table[at] < 0) {
-        span fresh = {id, NO_RECORD, NO_RECORD, NO_RECORD, NO_RECORD};
-        s->table[at] = s->count;
-        s->spans[s->count++] = fresh;
-    }
-    return &s->spans[s->table[at]];
-}
-
-/* The span of what a client wrote before it started any: an id of its own, the same each time. */
-static hind_span_id loose_span(const otlp_part *part, const otlp_record *r) {
-    uint64_t number = mixed(mixed(mixed(part->epoch) ^ part->node) ^ ((uint64_t)r->client << 48 ^ r->core));
-    return id_of(number ? number : 1);
-}
-
-static void add(sorted *s, span *to, long record) {
-    s->next[record] = NO_RECORD;
-    if (to->first == NO_RECORD) to->first = record;
-    else s->next[to->last] = record;
-    to->last = record;
-}
-
-/* Gives each record to its span: one of the profile to the one that it names, any other to the one that its client started last. */
-static void sort(sorted *s) {
-    const otlp_part *part = s->part;
-    hind_span_id latest = {{0}};
-    for (size_t i = 0; i < part->count; i++) {
-        const otlp_record *r = &part->records[i];
-        hind_span_record said;
-        if (!i || r->client != r[-1].client || r->core != r[-1].core) latest = loose_span(part, r);
-        int is_said = hind_read_span(r->payload, r->len, &said);
-        span *to = span_of(s, is_said ? said.span : latest);
-        if (is_said && said.what == HIND_SPAN_START) {
-            latest = said.span;
-            if (to->start == NO_RECORD) to->start = (long)i;
-        }
-        if (is_said && said.what == HIND_SPAN_END) to->end = (long)i;
-        add(s, to, (long)i);
-    }
-}
-
-static int make_sorted(sorted *s, const otlp_part *part) {
-    size_t places = 4;
-    memset(s, 0, sizeof *s);
-    s->part = part;
-    while (places < 2 * part->count) places *= 2;
-    s->mask = places - 1;
-    s->spans = malloc((part->count + 1) * sizeof *s->spans);
-    s->next = malloc((part->count + 1) * sizeof *s->next);
-    s->table = malloc(places * sizeof *s->table);
-    if (!s->spans || !s->next || !s->table) return 0;
-    for (size_t i = 0; i < places; i++) s->table[i] = -1;
-    sort(s);
-    return 1;
-}
-
-static void free_sorted(sorted *s) {
-    free(s->spans);
-    free(s->next);
-    free(s->table);
-}
-
 /* ---- spans */
 
 static void put_moment(otlp_text *t, const char *name, uint64_t moment) { put_format(t, "\"%s\":\"%llu\",", name, (unsigned long long)moment); }
@@ -306,7 +200,7 @@ static void put_event(otlp_text *t, int *count, const otlp_record *r) {
     }
 }
 
-static void put_attributes(otlp_text *t, const sorted *s, const span *p) {
+static void put_attributes(otlp_text *t, const span_list *s, const span *p) {
     const otlp_record *first = &s->part->records[p->first];
     int count = 0;
     put_text(t, ",\"attributes\":[");
@@ -324,7 +218,7 @@ static void put_attributes(otlp_text *t, const sorted *s, const span *p) {
 }
 
 /* The greatest moment of a span's records, and the least. */
-static void bounds(const sorted *s, const span *p, uint64_t *least, uint64_t *greatest) {
+static void bounds(const span_list *s, const span *p, uint64_t *least, uint64_t *greatest) {
     *least = *greatest = s->part->records[p->first].moment;
     for (long i = p->first; i != NO_RECORD; i = s->next[i]) {
         uint64_t moment = s->part->records[i].moment;
@@ -333,7 +227,7 @@ static void bounds(const sorted *s, const span *p, uint64_t *least, uint64_t *gr
     }
 }
 
-static void put_span(otlp_text *t, const sorted *s, const span *p, const hind_trace_id *trace) {
+static void put_span(otlp_text *t, const span_list *s, const span *p, const hind_trace_id *trace) {
     static const hind_span_id none;
     const otlp_record *records = s->part->records;
     hind_span_record start = {0}, end = {0};
@@ -345,7 +239,7 @@ static void put_span(otlp_text *t, const sorted *s, const span *p, const hind_tr
     put_hex(t, trace->bytes, 16);
     put_text(t, "\",\"spanId\":\"");
     put_hex(t, p->id.bytes, 8);
-    if (!same_id(start.parent, none)) {
+    if (memcmp(&start.parent, &none, sizeof none)) {
         put_text(t, "\",\"parentSpanId\":\"");
         put_hex(t, start.parent.bytes, 8);
     }
@@ -365,11 +259,11 @@ static void put_span(otlp_text *t, const sorted *s, const span *p, const hind_tr
 }
 
 static void put_part(otlp_text *t, const otlp_trace *trace, const otlp_part *part) {
-    sorted s;
+    span_list s;
     char epoch[24];
     int count = 0;
     snprintf(epoch, sizeof epoch, "%llu", (unsigned long long)part->epoch);
-    if (!make_sorted(&s, part)) t->failed = 1;
+    if (!span_list_make(&s, part)) t->failed = 1;
     put_text(t, "{\"resource\":{\"attributes\":[");
     put_text_attribute(t, &count, "service.name", part->service);
     put_count_attribute(t, &count, "hindsight.node", part->node);
@@ -383,7 +277,7 @@ static void put_part(otlp_text *t, const otlp_trace *trace, const otlp_part *par
         put_span(t, &s, &s.spans[i], &trace->id);
     }
     put_text(t, "]}]}");
-    free_sorted(&s);
+    span_list_free(&s);
 }
 
 int otlp_write(const otlp_trace *trace, otlp_text *to) {
