@@ -59,11 +59,11 @@ nulls_of core = count_by is_null core.draws
 -- the counts where a trace is opened: after a renewal, if fewer than half of the core's calls were left
 abbrev pub tally_at_begin : PlainNodeClient → Tally
 tally_at_begin old =
-    if nat_lt old.live.core.calls (2 * old.live.core.counted) then opened 0 (renewed (nulls_of old.live.core) old.tally) else opened (nulls_of old.live.core) old.tally
+    if nat_lt old.live.core.calls (2 * old.live.core.counted) then opened 0 old.live.drawer.left (renewed (nulls_of old.live.core) old.tally) else opened (nulls_of old.live.core) old.live.drawer.left old.tally
 
 -- The end of the open segment is noted with its counts.
 abbrev pub NotesEnd : PlainNodeClient → PlainNodeClient → Type 0
-NotesEnd old new = IfSome old.live.core.trace (λ trace. NotesIt trace (Closed (segment_counts (nulls_of new.live.core) old.tally)) old.notebook (closed old.tally) new.notebook new.tally)
+NotesEnd old new = IfSome old.live.core.trace (λ trace. NotesIt trace (Closed (segment_counts (nulls_of new.live.core) new.live.drawer.left old.tally)) old.notebook (closed old.tally) new.notebook new.tally)
 
 -- how many items wait in all outboxes
 abbrev pub waiting : PlainNodeClient → ℕ

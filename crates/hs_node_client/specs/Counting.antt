@@ -14,23 +14,24 @@ abbrev pub more_in_segment : ℕ → ℕ
 more_in_segment count = min (count + 1) 4294967295
 
 abbrev pub none_here : SegmentCounts
-none_here = record { points = 0; null_pages = 0; full_points = 0; long_points = 0; spent_points = 0; refused_crumbs = 0 }
+none_here = record { points = 0; pages = 0; null_pages = 0; full_points = 0; long_points = 0; spent_points = 0; refused_crumbs = 0 }
 
 abbrev pub none_past : Counts
 none_past = record { points = 0; null_pages = 0; stray_points = 0; full_points = 0; long_points = 0; spent_points = 0; refused_crumbs = 0; refused_triggers = 0; dropped_notes = 0 }
 
 abbrev pub no_counts : Tally
-no_counts = record { here = none_here; past = none_past; nulls = 0 }
+no_counts = record { here = none_here; past = none_past; nulls = 0; draws = 0 }
 
 -- ---- segments
 
--- a segment begins, where the core has so many null pages
-abbrev pub opened : ℕ → Tally → Tally
-opened nulls tally = record tally { here = none_here; nulls = nulls }
+-- a segment begins, where the core has so many null pages and the client so many draws left
+abbrev pub opened : ℕ → ℕ → Tally → Tally
+opened nulls draws tally = record tally { here = none_here; nulls = nulls; draws = draws }
 
--- the counts of a segment that ends, where the core has so many null pages
-abbrev pub segment_counts : ℕ → Tally → SegmentCounts
-segment_counts nulls tally = record tally.here { null_pages = nulls - tally.nulls }
+-- The counts of a segment that ends, where the core has so many null pages and the client so many draws left. Each draw since its begin
+-- made a page, which was sent, or found the pool empty.
+abbrev pub segment_counts : ℕ → ℕ → Tally → SegmentCounts
+segment_counts nulls draws tally = record tally.here { pages = tally.draws - draws - (nulls - tally.nulls); null_pages = nulls - tally.nulls }
 
 abbrev pub closed : Tally → Tally
 closed tally = record tally { here = none_here; past = record tally.past { points = more tally.past.points tally.here.points } }
@@ -84,11 +85,11 @@ all_counts nulls tally = record tally.past { points = more tally.past.points tal
 
 -- ---- examples
 
--- Two points are done in a segment with one null page, a third is refused, and the segment ends.
+-- Two points are done in a segment that draws for three pages, one of them null. A third is refused, and the segment ends.
 abbrev three_points : Tally
-three_points = with_point called.Full (with_point called.Done (with_point called.Done (opened 4 no_counts)))
+three_points = with_point called.Full (with_point called.Done (with_point called.Done (opened 4 90 no_counts)))
 
-counted_here : segment_counts 5 three_points ≡ record { points = 2; null_pages = 1; full_points = 1; long_points = 0; spent_points = 0; refused_crumbs = 0 }
+counted_here : segment_counts 5 87 three_points ≡ record { points = 2; pages = 2; null_pages = 1; full_points = 1; long_points = 0; spent_points = 0; refused_crumbs = 0 }
 counted_here = refl
 
 -- an end changes no sum

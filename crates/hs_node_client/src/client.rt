@@ -114,7 +114,7 @@ impl NodeClient {
             Live::Done => {}
             Live::Spent | Live::AlreadyOpen | Live::NoTrace | Live::TooWide => unreachable!(),
         }
-        self.tally.open(self.live.nulls());
+        self.tally.open(self.live.nulls(), self.live.draws_left());
         if !self.notebook.note(trace, SegmentState::Opened) {
             self.tally.drop_note();
         }
@@ -284,7 +284,7 @@ impl NodeClient {
         };
         let called = acts::end(&mut self.live);
         if let Called::Done = called {
-            let counts = self.tally.close(self.live.nulls());
+            let counts = self.tally.close(self.live.nulls(), self.live.draws_left());
             if !self.notebook.note(trace, SegmentState::Closed(counts)) {
                 self.tally.drop_note();
             }

@@ -38,6 +38,8 @@ pub(crate) struct Tally {
     pub(crate) past: Counts,
     /// How many null pages the core had when the segment was opened.
     pub(crate) nulls: u32,
+    /// How many draws the client had left then.
+    pub(crate) draws: u32,
 }
 
 /// A count with some more, as far as its type goes.
@@ -56,6 +58,7 @@ fn more_in_segment(count: u32) -> u32
 
 const NONE_HERE: SegmentCounts = SegmentCounts {
     points: 0,
+    pages: 0,
     null_pages: 0,
     full_points: 0,
     long_points: 0,
@@ -84,24 +87,28 @@ impl Tally {
             here: NONE_HERE,
             past: NONE_PAST,
             nulls: 0,
+            draws: 0,
         }
     }
 
-    /// A segment is opened, where the core has so many null pages.
-    pub(crate) fn open(&mut self, nulls: u32)
-        ensures { self.new ≡ opened nulls self.old }
+    /// A segment is opened, where the core has so many null pages and the client so many draws left.
+    pub(crate) fn open(&mut self, nulls: u32, draws: u32)
+        ensures { self.new ≡ opened nulls draws self.old }
     {
         self.here = NONE_HERE;
         self.nulls = nulls;
+        self.draws = draws;
     }
 
-    /// The segment is closed, where the core has so many null pages. Its counts are the answer.
-    pub(crate) fn close(&mut self, nulls: u32) -> SegmentCounts
-        ensures counts { result ≡ segment_counts nulls self.old }
+    /// The segment is closed, where the core has so many null pages and the client so many draws left. Its counts are the answer.
+    pub(crate) fn close(&mut self, nulls: u32, draws: u32) -> SegmentCounts
+        ensures counts { result ≡ segment_counts nulls draws self.old }
         ensures closed { self.new ≡ closed self.old }
     {
+        let null_pages = nulls.saturating_sub(self.nulls);
         let counts = SegmentCounts {
-            null_pages: nulls.saturating_sub(self.nulls),
+            pages: self.draws.saturating_sub(draws).saturating_sub(null_pages),
+            null_pages,
             ..self.here
         };
         self.past.points = more(self.past.points, u64::from(self.here.points));

@@ -9,6 +9,8 @@ use hs_link::Fact;
 pub struct SegmentCounts {
     /// Points that were done.
     pub points: u32,
+    /// Pages that were sent, since the pool had a buffer for each.
+    pub pages: u32,
     /// Pages that were written to no buffer, since the pool was empty.
     pub null_pages: u32,
     /// Points refused since the outbox had too few places.
