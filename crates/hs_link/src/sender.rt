@@ -1,5 +1,5 @@
 //! The end that sends.
-ghost use Rattle.std.specs.Prelude.{◌≡◌, ℕ, ◌+◌, ◌<◌, ◌≤◌, ◌^◌, [], ◌∷◌, ◌++◌, length, IfSome, IfNone};
+ghost use Rattle.std.specs.Prelude.{◌≡◌, ℕ, ◌+◌, ◌<◌, ◌≤◌, ◌^◌, true, false, [], ◌∷◌, ◌++◌, length, IfSome, IfNone};
 ghost use Rattle.std.specs.Arc.{arc_value};
 ghost use Rattle.std.specs.VecDeque.{deque_capacity};
 ghost use Rattle.hs_link.specs.Contents.{sent, IsBeginning, EndsWith, IsSameSender, SeemsFull, HasPlaces, AreEnds, Contains};
@@ -296,5 +296,47 @@ impl<T, F: Fact<T>> Sender<T, F> {
         ensures none { IfNone result ((self.old.outbox ≡ []) × (self.new.outbox ≡ [])) }
     {
         self.outbox.pop_front()
+    }
+}
+
+impl<T: Drop, F: Fact<T>> Sender<T, F> {
+    /// Sends an item behind all that waits, or drops it where the outbox has no place for it, and answers whether it was sent.
+    ///
+    /// An item that finds the outbox empty and the next entry free goes there straight. Else what waits goes into the ring first, as
+    /// `try_send` does. It takes no memory.
+    #[inline(always)]
+    pub fn send_or_drop(&mut self, item: T) -> bool
+        requires fact { F.holds self.old.key item }
+        ensures same { IsSameSender self.old self.new }
+        ensures put { IsBeginning self.old.put self.new.put }
+        ensures sent { result ≡ true → sent self.new ≡ sent self.old ++ item ∷ [] }
+        ensures dropped { result ≡ false → (sent self.new ≡ sent self.old) × (HasPlaces 1 self.new → ⊥) }
+    {
+        if self.outbox.is_empty() && self.cursor.count < MOST_ITEMS {
+            let board = &self.board;
+            let entries = &board.shared;
+            if look_to_put(entries, &mut self.place, self.cursor.entry) {
+                put(entries, &mut self.place, self.cursor.entry, item);
+                self.cursor.advance();
+                return true;
+            }
+        }
+        self.send_apart(item)
+    }
+
+    /// The same, where it takes more than that.
+    #[cold]
+    #[inline(never)]
+    fn send_apart(&mut self, item: T) -> bool
+        requires fact { F.holds self.old.key item }
+        ensures same { IsSameSender self.old self.new }
+        ensures put { IsBeginning self.old.put self.new.put }
+        ensures sent { result ≡ true → sent self.new ≡ sent self.old ++ item ∷ [] }
+        ensures dropped { result ≡ false → (sent self.new ≡ sent self.old) × (HasPlaces 1 self.new → ⊥) }
+    {
+        match self.try_send(item) {
+            Tried::Through | Tried::Kept => true,
+            Tried::Full(_) => false,
+        }
     }
 }
