@@ -3,7 +3,6 @@
 ghost use Rattle.std.specs.Prelude.{◌≡◌, ◌+◌, ◌<◌, ◌≤◌, ◌^◌, IsTrue, length};
 ghost use Rattle.hs_node_client.specs.Notes.{Notes, PutsOn};
 
-use crate::places::has_place;
 use crate::segment::{Segment, SegmentKey, SegmentState};
 use hs_base::TraceId;
 use hs_link::Sender;
@@ -18,22 +17,18 @@ pub(crate) struct Notebook {
 impl Notebook {
     /// Notes that a segment of a trace begins or ends. The answer is whether the note was sent. Where the outbox has no place it is
     /// dropped, and its number with it.
+    #[inline(always)]
     pub(crate) fn note(&mut self, trace: TraceId, state: SegmentState) -> bool
         requires { self.old.number + 1 < 2 ^ 64 }
         ensures { Notes trace state self.old result self.new }
     {
         let number = self.number;
         self.number += 1;
-        let segment = Segment {
+        self.link.send_or_drop(Segment {
             number,
             trace,
             state,
-        };
-        if !has_place(&mut self.link) {
-            return false;
-        }
-        self.link.send_within(segment);
-        true
+        })
     }
 
     /// Puts what waits into the ring, as far as there is room, and answers how much still waits.
