@@ -47,6 +47,15 @@ party_same a b group laterals =
     let l = laterals_same a.laterals b.laterals laterals in
     λ i. record { group = g i; laterals = l i }
 
+-- the other way round
+pub party_alike : (a b : Party) → a ≡ b
+    → (pointwise same_trace (a.laterals ++ replicate (MAX_LATERALS - length a.laterals) no_trace) (b.laterals ++ replicate (MAX_LATERALS - length b.laterals) no_trace) && (length a.laterals == length b.laterals)) ≡ true
+party_alike a b same =
+    let xs = a.laterals ++ replicate (MAX_LATERALS - length a.laterals) no_trace in
+    let all : pointwise same_trace xs xs ≡ true = (pointwise_decides trace_decides xs xs).1 refl in
+    let long : (length a.laterals == length a.laterals) ≡ true = eq-eqb (length a.laterals) (length a.laterals) refl in
+    subst (λ (p : Party). (pointwise same_trace xs (p.laterals ++ replicate (MAX_LATERALS - length p.laterals) no_trace) && (length a.laterals == length p.laterals)) ≡ true) same (λ i. all i && long i)
+
 -- ---- look-ups
 
 pub noted_get : {X : Type 0} (f : Claim → X) (h : ClaimNote → X) (parties : List Party) (notes : Notes) (trace : TraceId) → ((key : TraceId) (note : ClaimNote) → f (claim_from parties (key, note)) ≡ h note)

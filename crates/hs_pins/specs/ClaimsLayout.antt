@@ -1,6 +1,6 @@
 -- The parts of a claim: a party is a group with its laterals, and stands once for the traces that it claims one after
 -- another; of each trace the place of its party is noted, and the nodes to which its crumbs lead.
-use Rattle.std.specs.Prelude.{ℕ, ◌<◌, List, [], length, slice_get, unwrap_or}
+use Rattle.std.specs.Prelude.{◌≡◌, ℕ, ◌<◌, List, [], length, slice_get, Option, Some, unwrap_or}
 use Rattle.std.specs.List.{AllByRecursion}
 use Rattle.hs_base.specs.declared.ids.TraceId.{TraceId}
 use Rattle.hs_base.specs.declared.node_set.NodeSet.{NodeSet}
@@ -8,10 +8,18 @@ use Rattle.hs_pins.specs.declared.claims.Party.{Party}
 use Rattle.hs_pins.specs.declared.claims.ClaimNote.{ClaimNote}
 use Rattle.hs_pins.specs.Remembered.{Claim}
 
--- the claims, and for how many more there is room
+-- The claims, and for how many more there is room. A claim of the last party takes that room alone, any other takes a place
+-- for its party too.
 pub record ClaimList : Type 0 where
   pub claims : List Claim
   pub room : ℕ
+  -- for how many parties more there is a place, and which party is the last
+  pub seats : ℕ
+  pub last : Option Party
+
+-- the party has a place, or there is one for it
+abbrev pub HasSeat : ClaimList → Party → Type 0
+HasSeat list party = list.seats ≡ 0 → list.last ≡ Some party
 
 abbrev pub nobody : Party
 nobody = record { group = record { id = record { node = 0; number = 0 }; trigger = record { 0 = 0 }; lead = record { 0 = 0 } }; laterals = [] }

@@ -4,6 +4,7 @@ use Rattle.indexmap.specs.IndexSet.{spare}
 use Rattle.hs_pins.specs.declared.pins.claiming.Claiming.TheInside.{Inside}
 use Rattle.hs_pins.specs.Priorities.{priority_of}
 use Rattle.hs_pins.specs.Groups.{count_of}
+use Rattle.hs_pins.specs.ClaimsLayout.{HasSeat}
 use Rattle.hs_pins.specs.Opens.{Opening}
 
 abbrev pub opening_in : {L : Type 0} {g : _} → Inside L g → Opening L
@@ -22,6 +23,7 @@ opening_in a =
 
 pub record IsOpening {L : Type 0} {g : _} (a : Inside L g) : Type 0 where
   pub priority : a.opened.priority ≡ priority_of a.party.group
+  pub seat : HasSeat a.claims a.party
   pub room : a.left ≤ a.opened.room
   pub few : count_of a.opened.groups + a.left < 2 ^ 32
   pub none : a.dropped.items ≡ []

@@ -1,10 +1,10 @@
 //! The claims of a node.
 
-ghost use Rattle.std.specs.Prelude.{◌≡◌, ◌<◌, ◌≤◌, ℕ, [], ◌∷◌, ◌++◌, ◌+◌, length, slice_get, not, filter, IsSome, Some, None, OnOk, option_map};
+ghost use Rattle.std.specs.Prelude.{◌≡◌, ◌<◌, ◌≤◌, ℕ, [], ◌∷◌, ◌++◌, ◌+◌, ◌-◌, length, slice_get, not, filter, true, IsSome, Some, None, OnOk, option_map};
 ghost use Rattle.std.specs.Bool.{OnTrue};
 ghost use Rattle.hs_pins.specs.Priorities.{same_group};
 ghost use Rattle.hs_pins.specs.Remembered.{claim_of, has_crumb, with_crumb, is_of_group};
-ghost use Rattle.hs_pins.specs.ClaimsLayout.{party_at, claim_by};
+ghost use Rattle.hs_pins.specs.ClaimsLayout.{party_at, claim_by, HasSeat};
 
 use crate::priority::is_group;
 use hs_base::limits::MOST_NODES;
@@ -91,21 +91,24 @@ impl Claims {
         }
     }
 
-    /// Makes room for so many claims more.
+    /// Makes room for so many claims more, all of one party.
     pub fn reserve(&mut self, more: usize) -> Result<(), Memory>
         ensures ok { OnOk result (more ≤ self.new.room) }
+        ensures seat { OnOk result (0 < self.new.seats) }
         ensures claims { self.new.claims ≡ self.old.claims }
     {
         self.notes.reserve(more)?;
-        self.parties.reserve(more)
+        self.parties.reserve(1)
     }
 
     /// Adds the claim of a trace that is not claimed. There is room.
     pub fn add(&mut self, trace: TraceId, party: Party, crumbs: NodeSet)
         requires unclaimed { claim_of self.old.claims trace ≡ None }
         requires room { 1 ≤ self.old.room }
+        requires seat { HasSeat self.old party }
         ensures claims { self.new.claims ≡ self.old.claims ++ claim_by party trace crumbs ∷ [] }
         ensures room { self.old.room ≤ self.new.room + 1 }
+        ensures seat { HasSeat self.new party }
     {
         let party = place_of(&mut self.parties, party);
         match self.notes.insert(trace, ClaimNote { party, crumbs }) {
@@ -158,29 +161,37 @@ fn group_at(parties: &[Party], place: usize) -> Group
 
 /// The place of a party among the parties. It joins them where it is not the last of them.
 fn place_of(parties: &mut List<Party>, party: Party) -> usize
-    requires { length parties.old.items < parties.old.room }
+    requires { parties.old.room - length parties.old.items ≡ 0
+        → slice_get parties.old.items (length parties.old.items - 1) ≡ Some party }
     ensures place { slice_get parties.new.items result ≡ Some party }
     ensures kept { (k : ℕ) → k < length parties.old.items
         → party_at parties.new.items k ≡ party_at parties.old.items k }
     ensures longer { length parties.old.items ≤ length parties.new.items }
-    ensures one { length parties.new.items ≤ length parties.old.items + 1 }
-    ensures room { parties.old.room ≤ parties.new.room }
+    ensures last { slice_get parties.new.items (length parties.new.items - 1) ≡ Some party }
 {
     let count = parties.len();
-    if count > 0 {
-        if let Some(last) = parties.get(count - 1) {
-            if is_party(last, &party) {
-                return count - 1;
-            }
-        }
+    if is_last(parties.as_slice(), &party) {
+        return count - 1;
     }
     parties.push(party);
     count
 }
 
+/// Whether the party is the last of these.
+fn is_last(parties: &[Party], party: &Party) -> bool
+    ensures yes { OnTrue result (slice_get parties.now (length parties.now - 1) ≡ Some party.now) }
+    ensures no { slice_get parties.now (length parties.now - 1) ≡ Some party.now → result ≡ true }
+{
+    if parties.is_empty() {
+        return false;
+    }
+    is_party(&parties[parties.len() - 1], party)
+}
+
 /// Whether two parties are one.
 fn is_party(party: &Party, other: &Party) -> bool
-    ensures { OnTrue result (party.now ≡ other.now) }
+    ensures yes { OnTrue result (party.now ≡ other.now) }
+    ensures no { party.now ≡ other.now → result ≡ true }
 {
     party.group == other.group && party.laterals == other.laterals
 }

@@ -116,6 +116,13 @@ impl<L: Token> Pins<L> {
         }
     }
 
+    /// How many triggers were admitted.
+    pub fn admitted(&self) -> u32
+        ensures { (memory : Remembered L) → Remembers self.now memory → result ≡ memory.admitted }
+    {
+        self.admitted
+    }
+
     /// The group that claimed a trace, or `None` where the trace is not claimed here.
     pub fn owner(&self, trace: TraceId) -> Option<Group>
         ensures { (memory : Remembered L) → Remembers self.now memory

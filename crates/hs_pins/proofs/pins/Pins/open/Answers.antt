@@ -1,4 +1,5 @@
 use Rattle.std.proofs.Common.{ap, ◌∙◌, arith}
+use Rattle.hs_pins.proofs.Prelude.{ClaimList}
 use Rattle.indexmap.specs.IndexSet.{spare}
 use Rattle.hs_pins.proofs.Remembering.{queue_there, at_view}
 use Rattle.hs_pins.proofs.pins.Pins.open.Goals as goal
@@ -18,6 +19,7 @@ invariant_of-result g c =
     let moved = ap spare c.replace-2.ensures.value in
     record {
       priority = c.in_ok-opened.ensures.priority ∙ c.of-priority.ensures;
+      seat = λ none. absurd (let some = c.in_ok-reserve.ensures.seat in let moved = ap (λ (l : ClaimList). l.seats) c.replace.ensures.value in omega (arith, none, some, moved));
       room = c.in_ok-opened.ensures.room;
       few = omega (arith, total, all, few);
       none = c.in_ok-dropped.ensures.empty;

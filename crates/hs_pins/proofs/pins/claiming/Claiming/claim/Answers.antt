@@ -17,6 +17,7 @@ invariant_of-self g c =
     let more = c.pin.ensures.count in
     record {
       priority = c.pin.ensures.priority ∙ c.self.invariant.priority;
+      seat = c.add.ensures.seat;
       room = omega (arith, within, left, is, room, less);
       few = omega (arith, within, left, is, few, more);
       none = c.self.invariant.none;
