@@ -86,6 +86,10 @@ module _ {L : Type 0} (kept : Kept L) (pins_now : Pinning ArrivalPlace) (point :
     sent = h.sent;
     offered = h.offered;
     hand = h.hand;
+    again = h.again;
+    keeps = h.keeps;
+    lefts = h.lefts;
+    untouched = h.untouched;
     standings = h.standings;
     claims = h.claims;
     pages = h.pages;

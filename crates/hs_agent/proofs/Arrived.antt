@@ -1,13 +1,13 @@
 -- What is kept after a chunk came is what the model says then, before anything has to give way.
 use Rattle.std.proofs.Common.{◌≡◌, ℕ, ◌+◌, ◌≤◌, ◌<◌, ◌^◌, false, List, [], ◌∷◌, ◌++◌, length, map, Some, None, slice_get, refl, sym, ap, subst, ◌∙◌, arith}
-use Rattle.hs_agent.proofs.Prelude.{filter_map, AllByRecursion, option_map, option_map_or, option_and_then, option_to_list, append_assoc, map-append, length-map, length-append, all_weaker, all_append, all_front, all_back, TraceId, Group, Header, Sheet, used_of, header_of, Buffer, Pin, claim_of, with_pin, pin_for, Pinning, Remembers, Indexed, Noted, noted_of, others, touch, with_chunk, chunks_left, AgentState, Taken, ChunkStanding, is_indexed, Pinned, Abandoned, pinning_group, pinned_for, page_standing, bytes_at, with_indexed, with_pinned, with_abandoned, ArrivalPlace, Placed, place_of, placed_at, Kept, Holds, HasPage, IsKept, IsIndexed, Point, pinned_place, waiting_chunks, let_go, with_fate, abandoned_fate, noted}
+use Rattle.hs_agent.proofs.Prelude.{AreLeft, Mark, unoffered, filter_map, AllByRecursion, option_map, option_map_or, option_and_then, option_to_list, append_assoc, map-append, length-map, length-append, all_weaker, all_append, all_front, all_back, TraceId, Group, Header, Sheet, used_of, header_of, Buffer, Pin, claim_of, with_pin, pin_for, Pinning, Remembers, Indexed, Noted, noted_of, others, touch, with_chunk, chunks_left, AgentState, Taken, ChunkStanding, is_indexed, Pinned, Abandoned, pinning_group, pinned_for, mark_of, bytes_at, with_indexed, with_pinned, with_abandoned, ArrivalPlace, Placed, place_of, placed_at, Kept, Holds, HasPage, IsKept, IsIndexed, Point, pinned_place, waiting_chunks, let_go, with_left, abandoned_for, noted}
 use Rattle.hs_lists.proofs.Places.{get_last}
-use Rattle.hs_base.specs.declared.told.Fate.TheVariants as fates
 use Rattle.hs_index.specs.Index.{with_touched, trace_of}
 use Rattle.hs_index.specs.Index as index
 use Rattle.hs_law_agent.specs.Standings.{Indexed as IsIn}
 use Rattle.hs_agent.proofs.Claimed.{all-others, all-noted, all-pins}
-use Rattle.hs_agent.proofs.Growing.{is_kept-front, has_page-front, pages-front, pinned_for-front, with_fate-last}
+use Rattle.hs_agent.proofs.Growing.{is_kept-front, has_page-front, pages-front, pinned_for-front, with_left-last}
+use Rattle.hs_agent.proofs.Parted.{hand-left, left-more, unoffered-more, unoffered-weaker}
 use Rattle.hs_agent.proofs.Indexing.{indexed-more, indexed-arrived, count-touched}
 
 -- ---- the chunks of an index where a trace was touched
@@ -64,11 +64,14 @@ module _ {L : Type 0} (old : Kept L) (point : Point L) (h : Holds old point) (bu
     paged_new : HasPage point.settings all placed
     paged_new = record { chunk = new; at = get_last taken new; page = page; size = size }
 
-    standings_live : old.standings ++ record { client = sheet.header.client; page = sheet.header.page; fate = fates.Live } ∷ [] ≡ map page_standing taken ++ record { client = sheet.header.client; page = sheet.header.page; fate = fates.Live } ∷ []
-    standings_live = ap (λ l. l ++ record { client = sheet.header.client; page = sheet.header.page; fate = fates.Live } ∷ []) h.standings
+    untouched_more : AllByRecursion (HasPage point.settings all) (unoffered old.offered old.again old.hand)
+    untouched_more = unoffered-weaker (HasPage point.settings taken) (HasPage point.settings all) paged_before old.offered old.again old.hand h.untouched
 
-    standings_new : map page_standing all ≡ map page_standing taken ++ page_standing new ∷ []
-    standings_new = map-append page_standing taken (new ∷ [])
+    standings_live : old.standings ++ record { client = sheet.header.client; page = sheet.header.page; left = None } ∷ [] ≡ map mark_of taken ++ record { client = sheet.header.client; page = sheet.header.page; left = None } ∷ []
+    standings_live = ap (λ l. l ++ record { client = sheet.header.client; page = sheet.header.page; left = None } ∷ []) h.standings
+
+    standings_new : map mark_of all ≡ map mark_of taken ++ mark_of new ∷ []
+    standings_new = map-append mark_of taken (new ∷ [])
 
     pages_same : old.pages ≡ filter_map (bytes_at all) point.state.reported
     pages_same = h.pages ∙ sym (pages-front taken (new ∷ []) point.state.reported h.reported)
@@ -92,6 +95,18 @@ module _ {L : Type 0} (old : Kept L) (point : Point L) (h : Holds old point) (bu
     groups_same =
         all_weaker (λ (pin : Pin ArrivalPlace). pinned_for taken (pinned_place pin) ≡ Some pin.group) (λ (pin : Pin ArrivalPlace). pinned_for all (pinned_place pin) ≡ Some pin.group)
         (λ pin e. pinned_for-front taken (new ∷ []) (pinned_place pin) pin.group e) h.memory.pinned h.pins.groups
+
+  abbrev new_mark : Mark
+  new_mark = record { client = sheet.header.client; page = sheet.header.page; left = None }
+
+  lefts_more : AreLeft (old.standings ++ new_mark ∷ []) (option_to_list old.offered ++ map place_of old.hand) old.lefts
+  lefts_more = left-more old.standings new_mark (option_to_list old.offered ++ map place_of old.hand) old.lefts h.lefts
+
+  lefts_dropped : (group : Group) → AreLeft (with_left (length taken) (Some (abandoned_for group)) (old.standings ++ new_mark ∷ [])) (option_to_list old.offered ++ map place_of (old.hand ++ placed ∷ [])) (old.lefts ++ abandoned_for group ∷ [])
+  lefts_dropped group =
+      let n = length-append old.standings (new_mark ∷ []) in
+      let long = ap length h.standings ∙ length-map taken mark_of in
+      hand-left (old.standings ++ new_mark ∷ []) old.offered old.hand old.lefts (record { buffer = placed; left = abandoned_for group } ∷ []) (omega (arith, n, long), tt) lefts_more
 
   abbrev pins_chunks : List Placed
   pins_chunks = map (λ (pin : Pin ArrivalPlace). pin.chunk) h.memory.pinned
@@ -132,6 +147,10 @@ module _ {L : Type 0} (old : Kept L) (point : Point L) (h : Holds old point) (bu
       sent = h.sent;
       offered = h.offered;
       hand = h.hand;
+      again = h.again;
+      keeps = h.keeps;
+      lefts = lefts_more;
+      untouched = untouched_more IsIn;
       standings = standings_live IsIn ∙ sym (standings_new IsIn);
       claims = h.claims;
       pages = pages_same IsIn;
@@ -201,6 +220,10 @@ module _ {L : Type 0} (old : Kept L) (point : Point L) (h : Holds old point) (bu
       sent = h.sent;
       offered = h.offered;
       hand = h.hand;
+      again = h.again;
+      keeps = h.keeps;
+      lefts = lefts_more;
+      untouched = untouched_more (Pinned group);
       standings = standings_live (Pinned group) ∙ sym (standings_new (Pinned group));
       claims = h.claims;
       pages = pages_same (Pinned group);
@@ -231,7 +254,7 @@ module _ {L : Type 0} (old : Kept L) (point : Point L) (h : Holds old point) (bu
     holds-pinned remembers = (pinned_now remembers, refl)
 
     -- what is kept is what the model says, where the chunk's group was abandoned
-    pub holds-dropped : Remembers pins h.memory → Holds (let_go left_pinned (record { buffer = placed; fate = abandoned_fate group })) (at (with_abandoned sheet group point.state))
+    pub holds-dropped : Remembers pins h.memory → Holds (let_go left_pinned (record { buffer = placed; left = abandoned_for group })) (at (with_abandoned sheet group point.state))
     holds-dropped remembers = record {
       node_is = h.node_is;
       memory = h.memory;
@@ -254,10 +277,14 @@ module _ {L : Type 0} (old : Kept L) (point : Point L) (h : Holds old point) (bu
           ap (λ l. option_to_list point.offered ++ l) (map-append place_of old.hand (placed ∷ []))
           ∙ sym (append_assoc (option_to_list point.offered) (map place_of old.hand) (length taken ∷ []))
           ∙ ap (λ l. l ++ length taken ∷ []) h.hand;
+      again = h.again;
+      keeps = h.keeps;
+      lefts = lefts_dropped group;
+      untouched = unoffered-more (HasPage point.settings (all (Abandoned group))) old.offered old.again old.hand (placed ∷ []) (untouched_more (Abandoned group)) (paged_new (Abandoned group), tt);
       standings =
-          ap (with_fate (length taken) (abandoned_fate group)) (standings_live (Abandoned group))
-          ∙ ap (λ n. with_fate n (abandoned_fate group) (map page_standing taken ++ record { client = sheet.header.client; page = sheet.header.page; fate = fates.Live } ∷ [])) (sym (length-map taken page_standing))
-          ∙ with_fate-last (abandoned_fate group) (map page_standing taken) (record { client = sheet.header.client; page = sheet.header.page; fate = fates.Live })
+          ap (with_left (length taken) (Some (abandoned_for group))) (standings_live (Abandoned group))
+          ∙ ap (λ n. with_left n (Some (abandoned_for group)) (map mark_of taken ++ record { client = sheet.header.client; page = sheet.header.page; left = None } ∷ [])) (sym (length-map taken mark_of))
+          ∙ with_left-last (Some (abandoned_for group)) (map mark_of taken) (record { client = sheet.header.client; page = sheet.header.page; left = None })
           ∙ sym (standings_new (Abandoned group));
       claims = h.claims;
       pages = pages_same (Abandoned group);

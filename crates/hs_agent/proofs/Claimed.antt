@@ -4,6 +4,7 @@ use Rattle.hs_agent.proofs.Prelude.{find, AllByRecursion, option_map_or, map-app
 use Rattle.hs_index.specs.Index as index
 use Rattle.hs_agent.proofs.Indexing.{indexed-claimed, count-others}
 use Rattle.hs_agent.proofs.Moved.{sheets, sheets-moved, length-same, pages-same, has_page-same}
+use Rattle.hs_agent.proofs.Parted.{unoffered-weaker}
 use Rattle.hs_agent.proofs.Moving.{pinned_for-leaving, pinned_for-taken, standings-taken}
 
 -- ---- whether a trace is claimed
@@ -126,6 +127,12 @@ module _ {L : Type 0} (old : Kept L) (point : Point L) (h : Holds old point) (as
           sent = h.sent;
           offered = h.offered;
           hand = h.hand;
+          again = h.again;
+          keeps = h.keeps;
+          lefts = h.lefts;
+          untouched =
+              unoffered-weaker (HasPage point.settings point.state.taken) (HasPage point.settings after.taken) (λ placed page. has_page-same point.state.taken after.taken same_sheets point.settings placed page) old.offered old.again
+              old.hand h.untouched;
           standings = h.standings ∙ sym (standings-taken trace ask.group point.state.taken);
           claims =
               ap (λ l. l ++ record { trace = trace; group = ask.group } ∷ []) h.claims

@@ -62,6 +62,10 @@ module _ {L : Type 0} (old : Kept L) (point : Point L) (h : Holds old point) (cr
     sent = h.sent;
     offered = h.offered;
     hand = h.hand;
+    again = h.again;
+    keeps = h.keeps;
+    lefts = h.lefts;
+    untouched = h.untouched;
     standings = h.standings;
     claims = h.claims;
     pages = h.pages;
@@ -210,6 +214,10 @@ module _ {L : Type 0} (old : Kept L) (point : Point L) (h : Holds old point) (cr
       sent = h.sent;
       offered = h.offered;
       hand = h.hand;
+      again = h.again;
+      keeps = h.keeps;
+      lefts = h.lefts;
+      untouched = h.untouched;
       standings = h.standings;
       claims = h.claims;
       pages = h.pages;

@@ -1,7 +1,6 @@
 -- That what the index lets go, and what it keeps, is what the model does.
 use Rattle.std.proofs.Common.{◌≡◌, ℕ, ◌+◌, ◌≤◌, Bool, true, false, cond, ◌||◌, List, [], ◌∷◌, ◌++◌, length, map, fold, Some, nat_lt, refl, sym, ap, subst, ◌∙◌, arith, append-nil}
-use Rattle.hs_agent.proofs.Prelude.{find, AllByRecursion, option_map_or, append_assoc, map-append, length-map, fold-append, sum_by-cons, map-map, all_append, all_front, all_back, TraceId, Group, Standing, PlainSettings, Indexed, Leaving, chunk_count, count_chunks, chunks_left, kept, evicted, is_of, nothing, Claim, indexed_places, indexed_count, pinned_for, Evicted, AgentState, page_standing, fate_of, same_trace-refl, ArrivalPlace, Placed, place_of, IsIndexed, with_fate}
-use Rattle.hs_base.specs.declared.told.Fate.TheVariants as fates
+use Rattle.hs_agent.proofs.Prelude.{find, AllByRecursion, option_map_or, append_assoc, map-append, length-map, fold-append, sum_by-cons, map-map, all_append, all_front, all_back, TraceId, Group, Mark, PlainSettings, Indexed, Leaving, chunk_count, count_chunks, chunks_left, kept, evicted, is_of, nothing, Claim, indexed_places, indexed_count, pinned_for, Evicted, AgentState, evicted_of, mark_of, left_of, same_trace-refl, ArrivalPlace, Placed, place_of, IsIndexed, with_left}
 use Rattle.hs_index.specs.Index.{leaving, is_over}
 use Rattle.hs_law_agent.specs.Evicting as model
 use Rattle.hs_agent.proofs.Indexing.{indexed-evicted}
@@ -16,11 +15,11 @@ abbrev traces_of : List Traced → List TraceId
 traces_of ts = map (λ (t : Traced). t.trace) ts
 
 -- the fate of a chunk that leaves is noted
-abbrev pub note_leaving : List Standing → Leaving ArrivalPlace → List Standing
-note_leaving standings l = with_fate (place_of l.buffer) (fates.Evicted l.chunks l.traces) standings
+abbrev pub note_leaving : List Mark → Leaving ArrivalPlace → List Mark
+note_leaving standings l = with_left (place_of l.buffer) (Some (evicted_of l.chunks l.traces)) standings
 
-noted_of_trace : (chunks traces : ℕ) (standings : List Standing) (buffers : List Placed)
-    → fold note_leaving standings (map (leaving chunks traces) buffers) ≡ fold (λ ss place. with_fate place (fates.Evicted chunks traces) ss) standings (map place_of buffers)
+noted_of_trace : (chunks traces : ℕ) (standings : List Mark) (buffers : List Placed)
+    → fold note_leaving standings (map (leaving chunks traces) buffers) ≡ fold (λ ss place. with_left place (Some (evicted_of chunks traces)) ss) standings (map place_of buffers)
 noted_of_trace chunks traces standings [] = refl
 noted_of_trace chunks traces standings (b ∷ bs) = noted_of_trace chunks traces (note_leaving standings (leaving chunks traces b)) bs
 
@@ -38,7 +37,7 @@ module _ (settings : PlainSettings) (claims : List Claim) where
   pub record HasEvicted (old new : AgentState) (ts : List Traced) : Type 0 where
     pub indexed : IsIndexed claims new (stay ts)
     pub hand : new.hand ≡ old.hand ++ map (λ (l : Leaving ArrivalPlace). place_of l.buffer) (go ts)
-    pub noted : fold note_leaving (map page_standing old.taken) (go ts) ≡ map page_standing new.taken
+    pub noted : fold note_leaving (map mark_of old.taken) (go ts) ≡ map mark_of new.taken
     pub pages : sheets new.taken ≡ sheets old.taken
     pub pinned : (place : ℕ) (group : Group) → pinned_for old.taken place ≡ Some group → pinned_for new.taken place ≡ Some group
     pub others : new ≡ record old { taken = new.taken; touched = new.touched; crumbs = new.crumbs; hand = new.hand }
@@ -52,7 +51,7 @@ module _ (settings : PlainSettings) (claims : List Claim) where
   nobody ts state stays none i = record {
     indexed = subst (IsIndexed claims state) (sym stays) i;
     hand = sym (append-nil state.hand) ∙ ap (λ l. state.hand ++ map (λ (l' : Leaving ArrivalPlace). place_of l'.buffer) l) (sym none);
-    noted = ap (fold note_leaving (map page_standing state.taken)) none;
+    noted = ap (fold note_leaving (map mark_of state.taken)) none;
     pages = refl;
     pinned = λ place group e. e;
     others = refl;
@@ -68,9 +67,9 @@ module _ (settings : PlainSettings) (claims : List Claim) where
       let goes : go (t ∷ ts) ≡ map (leaving n m) t.noted.chunks ++ go ts = ap (λ b. cond b (map (leaving n m) t.noted.chunks ++ go ts) []) o in
       let own : map place_of t.noted.chunks ≡ indexed_places state.taken t.trace =
       ap (λ b. map place_of (option_map_or (λ (u : Traced). u.noted) (cond b (Some t) (find (is_of t.trace) ts)) nothing).chunks) (sym (same_trace-refl t.trace)) ∙ i.places t.trace in
-      let counts : (λ (a b : ℕ). fold (λ ss place. with_fate place (fates.Evicted a b) ss) (map page_standing state.taken) (indexed_places state.taken t.trace)) n m
-      ≡ fold (λ ss place. with_fate place (fate_of (Evicted (indexed_count state.taken) (length state.touched))) ss) (map page_standing state.taken) (indexed_places state.taken t.trace) =
-      λ k. fold (λ ss place. with_fate place (fates.Evicted (sym i.count k) (sym (ap length i.traces ∙ length-map (t ∷ ts) (λ (u : Traced). u.trace)) k)) ss) (map page_standing state.taken) (indexed_places state.taken t.trace) in
+      let counts : (λ (a b : ℕ). fold (λ ss place. with_left place (Some (evicted_of a b)) ss) (map mark_of state.taken) (indexed_places state.taken t.trace)) n m
+      ≡ fold (λ ss place. with_left place (left_of (Evicted (indexed_count state.taken) (length state.touched))) ss) (map mark_of state.taken) (indexed_places state.taken t.trace) =
+      λ k. fold (λ ss place. with_left place (Some (evicted_of (sym i.count k) (sym (ap length i.traces ∙ length-map (t ∷ ts) (λ (u : Traced). u.trace)) k))) ss) (map mark_of state.taken) (indexed_places state.taken t.trace) in
       record {
         indexed = subst (IsIndexed claims new) (sym stays) more.indexed;
         hand =
@@ -82,11 +81,11 @@ module _ (settings : PlainSettings) (claims : List Claim) where
             ∙ map-append (λ (l' : Leaving ArrivalPlace). place_of l'.buffer) (map (leaving n m) t.noted.chunks) (go ts)
             ∙ ap (λ l. l ++ map (λ (l' : Leaving ArrivalPlace). place_of l'.buffer) (go ts)) (map-map (λ (l' : Leaving ArrivalPlace). place_of l'.buffer) (leaving n m) t.noted.chunks)));
         noted =
-            ap (fold note_leaving (map page_standing state.taken)) goes
-            ∙ fold-append note_leaving (map page_standing state.taken) (map (leaving n m) t.noted.chunks) (go ts)
+            ap (fold note_leaving (map mark_of state.taken)) goes
+            ∙ fold-append note_leaving (map mark_of state.taken) (map (leaving n m) t.noted.chunks) (go ts)
             ∙ ap (λ ss. fold note_leaving ss (go ts))
-            (noted_of_trace n m (map page_standing state.taken) t.noted.chunks
-            ∙ ap (fold (λ ss place. with_fate place (fates.Evicted n m) ss) (map page_standing state.taken)) own
+            (noted_of_trace n m (map mark_of state.taken) t.noted.chunks
+            ∙ ap (fold (λ ss place. with_left place (Some (evicted_of n m)) ss) (map mark_of state.taken)) own
             ∙ counts
             ∙ fates-moved (Evicted (indexed_count state.taken) (length state.touched)) (indexed_places state.taken t.trace) state.taken)
             ∙ more.noted;

@@ -156,6 +156,10 @@ module _ {L : Type 0} (kept : Kept L) (point : Point L) (h : Holds kept point) (
         sent = h.sent;
         offered = h.offered;
         hand = h.hand;
+        again = h.again;
+        keeps = h.keeps;
+        lefts = h.lefts;
+        untouched = h.untouched;
         standings = h.standings;
         claims =
             claims

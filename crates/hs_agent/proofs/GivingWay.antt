@@ -1,6 +1,6 @@
 -- That the groups which give way are the model's.
 use Rattle.std.proofs.Common.{◌≡◌, ℕ, Bool, true, false, cond, not, List, [], ◌∷◌, ◌++◌, length, map, filter, Option, Some, None, slice_get, refl, sym, ap, ◌∙◌, true≢false, ◌||◌, fold, ◌+◌, suc, zero, nat_eq, subst, nat_lt, append-nil, arith}
-use Rattle.hs_agent.proofs.Prelude.{filter_map, AllByRecursion, cons_option, option_and_then, option_map_or, Group, Pin, pins_for, without_group, is_for, same_group-true, eqb-true, append_assoc, map-append, length-map, PlainSettings, AgentState, moved_from, moved, is_among, Taken, ChunkStanding, Pinned, Reported, Evicted, Abandoned, pinning_group, pinned_for, indexed_places, indexed_count, is_indexed, page_standing, fate_of, Standing, TraceId, fold-append, with_fate, abandoned_fate}
+use Rattle.hs_agent.proofs.Prelude.{filter_map, AllByRecursion, cons_option, option_and_then, option_map_or, Group, Pin, pins_for, without_group, is_for, same_group-true, eqb-true, append_assoc, map-append, length-map, PlainSettings, AgentState, moved_from, moved, is_among, Taken, ChunkStanding, Pinned, Reported, Evicted, Abandoned, pinning_group, pinned_for, indexed_places, indexed_count, is_indexed, mark_of, left_of, Mark, TraceId, fold-append, with_left, abandoned_for}
 use Rattle.hs_pins.specs.Abandoning.{groups_of}
 use Rattle.hs_pins.specs.Abandoning as pins
 use Rattle.hs_law_agent.specs.Standings.{Indexed, is_pinned_for, is_pinned_to, same_group}
@@ -119,20 +119,20 @@ module _ (group : Group) (taken : List Taken) (pinned : List ℕ) where
 
 module _ {L : Type 0} (place_of : Pin L → ℕ) where
   -- the fates of pinned chunks are noted, one after another
-  abbrev pub note_abandoned : List Standing → Pin L → List Standing
-  note_abandoned standings pin = with_fate (place_of pin) (abandoned_fate pin.group) standings
+  abbrev pub note_abandoned : List Mark → Pin L → List Mark
+  note_abandoned standings pin = with_left (place_of pin) (Some (abandoned_for pin.group)) standings
 
-  noted_for : (group : Group) (standings : List Standing) (pinned : List (Pin L))
-      → fold note_abandoned standings (pins_for group pinned) ≡ fold (λ ss place. with_fate place (fate_of (Abandoned group)) ss) standings (map place_of (pins_for group pinned))
+  noted_for : (group : Group) (standings : List Mark) (pinned : List (Pin L))
+      → fold note_abandoned standings (pins_for group pinned) ≡ fold (λ ss place. with_left place (left_of (Abandoned group)) ss) standings (map place_of (pins_for group pinned))
   noted_for group standings [] = refl
   noted_for group standings (pin ∷ pinned) = by (is_for group pin) refl (λ ss. noted_for group ss pinned)
     where
       by : (b : Bool) → is_for group pin ≡ b
-          → ((ss : List Standing) → fold note_abandoned ss (pins_for group pinned) ≡ fold (λ ss place. with_fate place (fate_of (Abandoned group)) ss) ss (map place_of (pins_for group pinned)))
-          → fold note_abandoned standings (cond b (pin ∷ pins_for group pinned) (pins_for group pinned)) ≡ fold (λ ss place. with_fate place (fate_of (Abandoned group)) ss) standings (map place_of (cond b (pin ∷ pins_for group pinned) (pins_for group pinned)))
+          → ((ss : List Mark) → fold note_abandoned ss (pins_for group pinned) ≡ fold (λ ss place. with_left place (left_of (Abandoned group)) ss) ss (map place_of (pins_for group pinned)))
+          → fold note_abandoned standings (cond b (pin ∷ pins_for group pinned) (pins_for group pinned)) ≡ fold (λ ss place. with_left place (left_of (Abandoned group)) ss) standings (map place_of (cond b (pin ∷ pins_for group pinned) (pins_for group pinned)))
       by true e rest =
-          ap (λ g. fold note_abandoned (with_fate (place_of pin) (abandoned_fate g) standings) (pins_for group pinned)) (sym (same_group-true group pin.group e))
-          ∙ rest (with_fate (place_of pin) (abandoned_fate group) standings)
+          ap (λ g. fold note_abandoned (with_left (place_of pin) (Some (abandoned_for g)) standings) (pins_for group pinned)) (sym (same_group-true group pin.group e))
+          ∙ rest (with_left (place_of pin) (Some (abandoned_for group)) standings)
       by false e rest = rest standings
 
 -- ---- groups go
@@ -148,7 +148,7 @@ module _ {L : Type 0} (place_of : Pin L → ℕ) (settings : PlainSettings) wher
     pub pages : sheets new.taken ≡ sheets old.taken
     pub indexed : (trace : TraceId) → indexed_places new.taken trace ≡ indexed_places old.taken trace
     pub count : indexed_count new.taken ≡ indexed_count old.taken
-    pub noted : fold (note_abandoned place_of) (map page_standing old.taken) (pins.going groups pinned) ≡ map page_standing new.taken
+    pub noted : fold (note_abandoned place_of) (map mark_of old.taken) (pins.going groups pinned) ≡ map mark_of new.taken
 
   nobody : (state : AgentState) (pinned : List (Pin L)) → state.pinned ≡ map place_of pinned → ArePinned place_of state.taken pinned → HasAbandoned state state pinned []
   nobody state pinned is are = record {
@@ -183,10 +183,10 @@ module _ {L : Type 0} (place_of : Pin L → ℕ) (settings : PlainSettings) wher
         indexed = λ trace. more.indexed trace ∙ indexed-moved gone (λ _. Abandoned group) state.taken (goes_unindexed group state.taken state.pinned) trace;
         count = more.count ∙ count-moved gone (λ _. Abandoned group) state.taken (goes_unindexed group state.taken state.pinned);
         noted =
-            fold-append (note_abandoned place_of) (map page_standing state.taken) (pins_for group pinned) (pins.going groups (without_group group pinned))
+            fold-append (note_abandoned place_of) (map mark_of state.taken) (pins_for group pinned) (pins.going groups (without_group group pinned))
             ∙ ap (λ ss. fold (note_abandoned place_of) ss (pins.going groups (without_group group pinned)))
-            (noted_for place_of group (map page_standing state.taken) pinned
-            ∙ ap (fold (λ ss place. with_fate place (fate_of (Abandoned group)) ss) (map page_standing state.taken)) (sym places)
+            (noted_for place_of group (map mark_of state.taken) pinned
+            ∙ ap (fold (λ ss place. with_left place (left_of (Abandoned group)) ss) (map mark_of state.taken)) (sym places)
             ∙ fates-moved (Abandoned group) gone state.taken)
             ∙ more.noted;
       }

@@ -1,8 +1,8 @@
 -- What stays where a chunk more was taken.
 use Rattle.std.proofs.Common.{◌≡◌, ℕ, ◌<◌, List, [], ◌∷◌, ◌++◌, length, Option, Some, None, slice_get, refl, ap, ◌∙◌}
-use Rattle.hs_agent.proofs.Prelude.{filter_map, AllByRecursion, cons_option, option_map, option_and_then, Fate, Group, Standing, PlainSettings, page_bytes, Buffer, Taken, pinning_group, pinned_for, bytes_at, Placed, Pledged, place_of, IsKept, HasPage, with_fate}
+use Rattle.hs_agent.proofs.Prelude.{filter_map, AllByRecursion, cons_option, option_map, option_and_then, Left, Group, Mark, PlainSettings, page_bytes, Buffer, Taken, pinning_group, pinned_for, bytes_at, Placed, Pledged, place_of, IsKept, HasPage, with_left}
 use Rattle.hs_lists.proofs.Places.{get_front, get_front_same}
-use Rattle.hs_agent.proofs.NotedFates.{with_fate-later}
+use Rattle.hs_agent.proofs.NotedFates.{with_left-later}
 
 module _ {L : Type 0} where
   pub is_kept-front : (leases more : List (Option (Pledged L))) (buffers others : List (Buffer L)) (placed : Placed) → IsKept leases buffers placed → IsKept (leases ++ more) (buffers ++ others) placed
@@ -29,6 +29,6 @@ pinned_for-front taken more place group e = by (slice_get taken place) refl e
     by (Some t) at f = ap (option_and_then (λ (t : Taken). pinning_group t.standing)) (get_front taken more place t at) ∙ f
 
 -- the fate of the last one is noted
-pub with_fate-last : (fate : Fate) (standings : List Standing) (last : Standing) → with_fate (length standings) fate (standings ++ last ∷ []) ≡ standings ++ record last { fate = fate } ∷ []
-with_fate-last fate [] last = refl
-with_fate-last fate (first ∷ standings) last = with_fate-later (length standings) fate first (standings ++ last ∷ []) ∙ ap (λ l. first ∷ l) (with_fate-last fate standings last)
+pub with_left-last : (left : Option Left) (standings : List Mark) (last : Mark) → with_left (length standings) left (standings ++ last ∷ []) ≡ standings ++ record last { left = left } ∷ []
+with_left-last left [] last = refl
+with_left-last left (first ∷ standings) last = with_left-later (length standings) left first (standings ++ last ∷ []) ∙ ap (λ l. first ∷ l) (with_left-last left standings last)

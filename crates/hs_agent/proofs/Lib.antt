@@ -8,6 +8,8 @@ pub mod Indexing
 pub mod Going
 pub mod GivingWay
 pub mod NotedFates
+pub mod Parted
+pub mod Fates
 pub mod Orders
 pub mod Evictions
 pub mod Relieving
@@ -23,9 +25,10 @@ pub mod CrumbSets
 pub mod OwnPlaces
 pub mod Offered
 pub mod Following
+pub mod Leading
 pub mod Unchanged
 pub mod Leasing
-pub mod Left
+pub mod LeftOver
 pub mod NextPins
 pub mod Reported
 pub mod Sends

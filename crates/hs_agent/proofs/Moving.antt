@@ -1,8 +1,7 @@
 -- Which chunks stand anew where those at some places do, and what is indexed and pinned then.
 use Rattle.std.proofs.Common.{◌≡◌, ℕ, ◌+◌, ◌<◌, zero, suc, Bool, true, false, cond, ◌||◌, ◌&&◌, List, [], ◌∷◌, length, map, filter, Option, Some, None, slice_get, nat_eq, eq-eqb, refl, sym, ap, ◌∙◌, arith}
-use Rattle.hs_agent.proofs.Prelude.{AllByRecursion, option_map, option_map_or, option_and_then, eqb-true, true≢false, ne_eqb, by_answer, all_weaker, TraceId, moved_from, moved, is_among, places_from, indexed_places, indexed_count, is_indexed, is_indexed_of, trace_of, pinned_for, pinning_group, Taken, ChunkStanding, Pinned, Reported, Evicted, Abandoned, Group, same_trace, page_standing, fate_of}
+use Rattle.hs_agent.proofs.Prelude.{AllByRecursion, option_map, option_map_or, option_and_then, eqb-true, true≢false, ne_eqb, by_answer, all_weaker, TraceId, moved_from, moved, is_among, places_from, indexed_places, indexed_count, is_indexed, is_indexed_of, trace_of, pinned_for, pinning_group, Taken, ChunkStanding, Pinned, Reported, Evicted, Abandoned, Group, same_trace, mark_of, left_of}
 use Rattle.hs_law_agent.specs.Standings.{Indexed}
-use Rattle.hs_base.specs.declared.told.Fate.TheVariants as fates
 use Rattle.hs_agent.proofs.GivingWay.{unmoved}
 
 -- a chunk that stands anew where it passes a test
@@ -192,22 +191,22 @@ pinned_for-taken trace group taken =
     here place e (Some t) h = ap (λ b. pinning_group (cond b (record t { standing = Pinned group }) t).standing) e
 
 -- a chunk that is pinned in the place of indexed has no other fate
-indexed_live : (standing : ChunkStanding) (b : Bool) → (is_indexed standing && b) ≡ true → fate_of standing ≡ fates.Live
+indexed_live : (standing : ChunkStanding) (b : Bool) → (is_indexed standing && b) ≡ true → left_of standing ≡ None
 indexed_live Indexed b e = refl
 indexed_live (Pinned g) b e = refl
 indexed_live (Reported g) b e = absurd (true≢false (sym e))
 indexed_live (Evicted chunks traces) b e = absurd (true≢false (sym e))
 indexed_live (Abandoned g) b e = absurd (true≢false (sym e))
 
-pub standings-taken : (trace : TraceId) (group : Group) (taken : List Taken) → map page_standing (moved (indexed_places taken trace) (λ _. Pinned group) taken) ≡ map page_standing taken
-standings-taken trace group taken = ap (map page_standing) (moved_where (is_indexed_of trace) (λ _. Pinned group) taken) ∙ by taken
+pub standings-taken : (trace : TraceId) (group : Group) (taken : List Taken) → map mark_of (moved (indexed_places taken trace) (λ _. Pinned group) taken) ≡ map mark_of taken
+standings-taken trace group taken = ap (map mark_of) (moved_where (is_indexed_of trace) (λ _. Pinned group) taken) ∙ by taken
   where
-    here : (t : Taken) → page_standing (stood (is_indexed_of trace) (λ _. Pinned group) t) ≡ page_standing t
+    here : (t : Taken) → mark_of (stood (is_indexed_of trace) (λ _. Pinned group) t) ≡ mark_of t
     here t = by_answer (is_indexed_of trace t)
-        (λ y. ap (λ b. page_standing (cond b (record t { standing = Pinned group }) t)) y
-        ∙ (λ i. record { client = t.sheet.header.client; page = t.sheet.header.page; fate = sym (indexed_live t.standing (same_trace trace (trace_of t)) y) i }))
-        (λ n. ap (λ b. page_standing (cond b (record t { standing = Pinned group }) t)) n)
+        (λ y. ap (λ b. mark_of (cond b (record t { standing = Pinned group }) t)) y
+        ∙ (λ i. record { client = t.sheet.header.client; page = t.sheet.header.page; left = sym (indexed_live t.standing (same_trace trace (trace_of t)) y) i }))
+        (λ n. ap (λ b. mark_of (cond b (record t { standing = Pinned group }) t)) n)
 
-    by : (ts : List Taken) → map page_standing (map (stood (is_indexed_of trace) (λ _. Pinned group)) ts) ≡ map page_standing ts
+    by : (ts : List Taken) → map mark_of (map (stood (is_indexed_of trace) (λ _. Pinned group)) ts) ≡ map mark_of ts
     by [] = refl
-    by (t ∷ ts) = ap (λ s. s ∷ map page_standing (map (stood (is_indexed_of trace) (λ _. Pinned group)) ts)) (here t) ∙ ap (λ l. page_standing t ∷ l) (by ts)
+    by (t ∷ ts) = ap (λ s. s ∷ map mark_of (map (stood (is_indexed_of trace) (λ _. Pinned group)) ts)) (here t) ∙ ap (λ l. mark_of t ∷ l) (by ts)

@@ -1,11 +1,12 @@
 -- What is kept when the first of the hand was offered, and when the pool answered, is what the model says then.
-use Rattle.std.proofs.Common.{◌≡◌, ◌≢◌, ℕ, ◌+◌, ◌<◌, suc, zero, eq-eqb, true, false, List, [], ◌∷◌, ◌++◌, length, map, Option, Some, None, slice_get, slice_set, refl, sym, ap, subst, ◌∙◌, arith}
-use Rattle.hs_agent.proofs.Prelude.{AllByRecursion, option_map_or, option_and_then, option_to_list, length-map, slice_get_within, Told, Step, Result, Ok, Err, IfOk, OnOk, IfSome, all_weaker, all_append, all_front, all_back, all_and, one_if, Buffer, buffer_of, buffer_in, Share, AgentState, Taken, count_of, IsInOnePlace, Given, note, step_of_answer, give_back, after_gave, Placed, Pledged, place_of, placed_at, leased, Kept, Holds, Point, IsKept, with_state, waiting_chunks, back_at, answered}
+use Rattle.std.proofs.Common.{◌≡◌, ◌≢◌, ℕ, ◌+◌, ◌<◌, suc, zero, eq-eqb, Bool, true, false, List, [], ◌∷◌, ◌++◌, length, map, Option, Some, None, slice_get, slice_set, refl, sym, ap, subst, ◌∙◌, arith}
+use Rattle.hs_agent.proofs.Prelude.{AllByRecursion, option_map_or, option_and_then, option_to_list, length-map, slice_get_within, Told, Step, Result, Ok, Err, IfOk, OnOk, IfSome, all_weaker, all_append, all_front, all_back, all_and, one_if, Buffer, buffer_of, buffer_in, Share, AgentState, Taken, count_of, IsInOnePlace, Given, note, step_of_answer, give_back, after_gave, Placed, Pledged, place_of, placed_at, leased, Kept, Holds, Point, IsKept, with_state, waiting_chunks, HasPage, AreLeft, Left, Mark, behind, unoffered, back_at, answered}
 use Rattle.std.proofs.lemmas.List.{length-set}
 use Rattle.std.specs.Prelude.{IfNone}
 use Rattle.hs_words.specs.declared.token.Held.{Held}
 use Rattle.hs_law_agent.specs.State.{GivenPlace}
-use Rattle.hs_agent.specs.Offering.{Offers}
+use Rattle.hs_agent.specs.Offering.{Offers, gone}
+use Rattle.hs_agent.proofs.Parted.{unoffered-out}
 use Rattle.hs_agent.proofs.OwnPlaces.{apart_from_offered, apart_from_first}
 
 -- ---- a write in a list
@@ -67,6 +68,10 @@ module _ {L : Type 0} where
     sent = h.sent;
     offered = h.offered;
     hand = h.hand;
+    again = h.again;
+    keeps = h.keeps;
+    lefts = h.lefts;
+    untouched = h.untouched;
     standings = h.standings;
     claims = h.claims;
     pages = h.pages;
@@ -80,11 +85,13 @@ module _ {L : Type 0} where
   }
 
   -- the same with another hand, other leases and buffers, and another chunk offered
-  rehanded : (kept : Kept L) (point : Point L) (h : Holds kept point) (hand : List Placed) (leases : List (Option (Pledged L))) (offered : Option ℕ) (buffers : List (Buffer L)) (places : List ℕ)
+  rehanded : (kept : Kept L) (point : Point L) (h : Holds kept point) (hand : List Placed) (leases : List (Option (Pledged L))) (offered : Option ℕ) (again : Bool) (lefts : List Left) (buffers : List (Buffer L)) (places : List ℕ)
       → option_to_list offered ++ map place_of hand ≡ places → length leases ≡ length kept.leases → length buffers ≡ length point.buffers
       → AllByRecursion (IsKept leases buffers) (waiting_chunks kept h.memory.pinned ++ hand)
-      → Holds (record kept { hand = hand; leases = leases; offered = offered }) (record point { state = record point.state { hand = places }; buffers = buffers; offered = offered })
-  rehanded kept point h hand leases offered buffers places is many came each = record {
+      → AreLeft kept.standings (option_to_list offered ++ map place_of hand) lefts
+      → AllByRecursion (HasPage point.settings point.state.taken) (unoffered offered again hand)
+      → Holds (record kept { hand = hand; leases = leases; offered = offered; again = again; lefts = lefts }) (record point { state = record point.state { hand = places }; buffers = buffers; offered = offered; again = again })
+  rehanded kept point h hand leases offered again lefts buffers places is many came each left untouched = record {
     node_is = h.node_is;
     memory = h.memory;
     remembers = h.remembers;
@@ -109,6 +116,10 @@ module _ {L : Type 0} where
     sent = h.sent;
     offered = refl;
     hand = is;
+    again = refl;
+    keeps = h.keeps;
+    lefts = left;
+    untouched = untouched;
     standings = h.standings;
     claims = h.claims;
     pages = h.pages;
@@ -127,7 +138,7 @@ module _ {L : Type 0} where
     abbrev pub first_of : Option ℕ
     first_of = slice_get point.state.hand 0
 
-    in_hand : map place_of kept.hand ≡ point.state.hand
+    pub in_hand : map place_of kept.hand ≡ point.state.hand
     in_hand = ap (λ o. option_to_list o ++ map place_of kept.hand) (sym none) ∙ h.hand
 
     -- the hand is empty
@@ -163,13 +174,21 @@ module _ {L : Type 0} where
           all_weaker (λ (placed : Placed). IsKept kept.leases point.buffers placed × (p ≢ place_of placed)) (IsKept (slice_set kept.leases p None) point.buffers)
           (kept-other kept.leases point.buffers p None) (wait ++ new.hand)
           (all_and (IsKept kept.leases point.buffers) (λ (placed : Placed). p ≢ place_of placed) (wait ++ new.hand) others apart) in
-          let made : Holds (record kept { hand = new.hand; leases = new.leases; offered = new.offered }) (record point { offered = new.offered }) =
-          rehanded kept point h new.hand new.leases new.offered point.buffers point.state.hand
+          let places : option_to_list new.offered ++ map place_of new.hand ≡ option_to_list kept.offered ++ map place_of kept.hand =
+          ap (λ o. option_to_list o ++ map place_of new.hand) offers.offered ∙ sym (ap (map place_of) offers.was) ∙ sym (ap (λ o. option_to_list o ++ map place_of kept.hand) (h.offered ∙ none)) in
+          let never : AllByRecursion (HasPage point.settings point.state.taken) new.hand =
+          unoffered-out (HasPage point.settings point.state.taken) p kept.again offers.first new.hand
+          (subst (λ (hand : List Placed). AllByRecursion (HasPage point.settings point.state.taken) (unoffered None kept.again hand)) offers.was
+          (subst (λ o. AllByRecursion (HasPage point.settings point.state.taken) (unoffered o kept.again kept.hand)) (h.offered ∙ none) h.untouched)) in
+          let made : Holds (record kept { hand = new.hand; leases = new.leases; offered = new.offered; again = kept.again; lefts = kept.lefts }) (record point { offered = new.offered; again = kept.again }) =
+          rehanded kept point h new.hand new.leases new.offered kept.again kept.lefts point.buffers point.state.hand
           (ap (λ o. option_to_list o ++ map place_of new.hand) offers.offered ∙ sym (ap (map place_of) offers.was) ∙ in_hand)
           (ap length leases ∙ length-set kept.leases p None) refl
-          (subst (λ ls. AllByRecursion (IsKept ls point.buffers) (wait ++ new.hand)) (sym leases) still) in
+          (subst (λ ls. AllByRecursion (IsKept ls point.buffers) (wait ++ new.hand)) (sym leases) still)
+          (subst (λ ps. AreLeft kept.standings ps kept.lefts) (sym places) h.lefts)
+          (subst (λ o. AllByRecursion (HasPage point.settings point.state.taken) (unoffered o kept.again new.hand)) (sym offers.offered) never) in
           subst (λ o. Holds new (record point { offered = o })) (offers.offered ∙ sym is_first)
-          (subst (λ k. Holds k (record point { offered = new.offered })) (sym offers.others) made)
+          (subst (λ k. Holds k (record point { offered = new.offered })) (sym offers.others) (subst (λ a. Holds (record kept { hand = new.hand; leases = new.leases; offered = new.offered }) (record point { offered = new.offered; again = a })) h.again made))
 
   -- ---- an answer
 
@@ -191,19 +210,31 @@ module _ {L : Type 0} where
 
     -- the first of the hand was given
     abbrev pub after_given : ℕ → Point L
-    after_given stamp = record point { state = after_gave point.state (Given stamp); offered = None }
+    after_given stamp = record point { state = after_gave point.state (Given stamp); offered = None; again = false }
+
+    -- what is left behind it
+    behind_it : AreLeft kept.standings (place ∷ map place_of kept.hand) kept.lefts
+    behind_it = subst (λ o. AreLeft kept.standings (option_to_list o ++ map place_of kept.hand) kept.lefts) (h.offered ∙ out) h.lefts
+
+    others_left : (marks : List Mark) (p : ℕ) (places : List ℕ) (lefts : List Left) → AreLeft marks (p ∷ places) lefts → AreLeft marks places (behind lefts)
+    others_left marks p places [] all = absurd all
+    others_left marks p places (left ∷ lefts) all = all.2
+
+    never : AllByRecursion (HasPage point.settings point.state.taken) kept.hand
+    never = subst (λ o. AllByRecursion (HasPage point.settings point.state.taken) (unoffered o kept.again kept.hand)) (h.offered ∙ out) h.untouched
 
     pub holds-given : (stamp : ℕ) → Holds (answered None kept) (after_given stamp)
     holds-given stamp =
-        let made : Holds (record kept { offered = None }) (record point { state = record point.state { hand = map place_of kept.hand }; offered = None }) =
-        rehanded kept point h kept.hand kept.leases None point.buffers (map place_of kept.hand) refl refl refl h.each in
-        subst (λ hand. Holds (record kept { offered = None }) (record point { state = note (step_of_answer (Given stamp)) (give_back stamp hand point.state); offered = None })) in_front
-        (holds-rest (record kept { offered = None }) (record point { state = record point.state { hand = map place_of kept.hand }; offered = None }) point.state.said
+        let made : Holds (gone kept) (record point { state = record point.state { hand = map place_of kept.hand }; offered = None; again = false }) =
+        rehanded kept point h kept.hand kept.leases None false (behind kept.lefts) point.buffers (map place_of kept.hand) refl refl refl h.each
+        (others_left kept.standings place (map place_of kept.hand) kept.lefts behind_it) never in
+        subst (λ hand. Holds (gone kept) (record point { state = note (step_of_answer (Given stamp)) (give_back stamp hand point.state); offered = None; again = false })) in_front
+        (holds-rest (gone kept) (record point { state = record point.state { hand = map place_of kept.hand }; offered = None; again = false }) point.state.said
         (point.state.given ++ record { place = place; stamp = stamp } ∷ []) (point.state.log ++ step_of_answer (Given stamp) ∷ []) point.state.shares made)
 
     -- it came back
     pub holds-back : (buffer : Buffer L) (step : Step)
-        → Holds (answered (Some buffer) kept) (record point { state = note step point.state; buffers = slice_set point.buffers place buffer; offered = None })
+        → Holds (answered (Some buffer) kept) (record point { state = note step point.state; buffers = slice_set point.buffers place buffer; offered = None; again = true })
     holds-back buffer step =
         let wait : List Placed = waiting_chunks kept h.memory.pinned in
         let back : Placed = placed_at place buffer in
@@ -219,13 +250,13 @@ module _ {L : Type 0} where
           came = get-in point.buffers place buffer (subst (λ n. place < n) (sym h.buffers) below);
         } in
         let each : AllByRecursion Q (wait ++ back ∷ kept.hand) = all_append Q wait (back ∷ kept.hand) (all_front Q wait kept.hand still) (here, all_back Q wait kept.hand still) in
-        let made : Holds (back_at kept place buffer) (record point { state = record point.state { hand = place ∷ map place_of kept.hand }; buffers = slice_set point.buffers place buffer; offered = None }) =
-        rehanded kept point h (back ∷ kept.hand) (slice_set kept.leases place slot) None (slice_set point.buffers place buffer) (place ∷ map place_of kept.hand) refl
-        (length-set kept.leases place slot) (length-set point.buffers place buffer) each in
-        let noted : Holds (back_at kept place buffer) (record point { state = note step (record point.state { hand = place ∷ map place_of kept.hand }); buffers = slice_set point.buffers place buffer; offered = None }) =
+        let made : Holds (back_at kept place buffer) (record point { state = record point.state { hand = place ∷ map place_of kept.hand }; buffers = slice_set point.buffers place buffer; offered = None; again = true }) =
+        rehanded kept point h (back ∷ kept.hand) (slice_set kept.leases place slot) None true kept.lefts (slice_set point.buffers place buffer) (place ∷ map place_of kept.hand) refl
+        (length-set kept.leases place slot) (length-set point.buffers place buffer) each behind_it never in
+        let noted : Holds (back_at kept place buffer) (record point { state = note step (record point.state { hand = place ∷ map place_of kept.hand }); buffers = slice_set point.buffers place buffer; offered = None; again = true }) =
         holds-rest (back_at kept place buffer) _ point.state.said point.state.given (point.state.log ++ step ∷ []) point.state.shares made in
-        subst (λ o. Holds (option_map_or (λ p. back_at kept p buffer) o kept) (record point { state = note step point.state; buffers = slice_set point.buffers place buffer; offered = None })) (sym (h.offered ∙ out))
-        (subst (λ hand. Holds (back_at kept place buffer) (record point { state = note step (record point.state { hand = hand }); buffers = slice_set point.buffers place buffer; offered = None })) in_front noted)
+        subst (λ o. Holds (option_map_or (λ p. back_at kept p buffer) o kept) (record point { state = note step point.state; buffers = slice_set point.buffers place buffer; offered = None; again = true })) (sym (h.offered ∙ out))
+        (subst (λ hand. Holds (back_at kept place buffer) (record point { state = note step (record point.state { hand = hand }); buffers = slice_set point.buffers place buffer; offered = None; again = true })) in_front noted)
 
 -- ---- both outcomes of an offer
 

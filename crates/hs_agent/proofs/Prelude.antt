@@ -1,14 +1,19 @@
 -- What several proofs of this crate take from other crates and from its own specs: each imports it from here.
 pub use Rattle.hs_agent.specs.Arriving.{indexed, noted}
-pub use Rattle.hs_agent.specs.Keeping.{all_held, AreApart, crumbs_known, HasPage, Holds, IsIndexed, IsKept, Kept, pinned_place, plain_claim, PlainAgent, Point, RemembersAs, waiting_chunks, with_state}
+pub use Rattle.hs_agent.specs.Keeping.{all_held, AreApart, behind, first_point, crumbs_known, HasPage, Holds, IsIndexed, IsKept, Kept, pinned_place, plain_claim, PlainAgent, Point, RemembersAs, unoffered, waiting_chunks, with_state}
 pub use Rattle.hs_agent.specs.KeptLayout.{kept_in}
-pub use Rattle.hs_agent.specs.LettingGo.{abandoned_fate, abandoned_going, evicted_going, Going, let_go, let_go_all, page_in, reported, reported_going, with_fate}
+pub use Rattle.hs_agent.specs.Leaving.{abandoned_for, AreLeft, back_after, came_back, evicted_of, left_at, left_of, mark_of, reported_for, standing_by, standing_of, with_left}
+pub use Rattle.hs_agent.specs.LettingGo.{abandoned_going, evicted_going, let_go, let_go_all, page_in, reported, reported_going}
 pub use Rattle.hs_agent.specs.Offering.{answered, back_at}
+pub use Rattle.hs_agent.specs.Parting.{Going, going_buffer, going_left, going_of, hand_of}
 pub use Rattle.hs_agent.specs.Placing.{HandsOut, HaveOwnPlaces, IsPledged, leased, lent, place_of, Placed, placed_at, Pledged, pledged_of, pledges_in}
 pub use Rattle.hs_agent.specs.Points.{chunk_taken, claimed_for, crumb_taken, sheet_in}
 pub use Rattle.hs_agent.specs.Reporting.{costs_of, id_of, SendsNext}
 pub use Rattle.hs_agent.specs.Runs.{after_offer, Follows, input_of, IsTakable, point_of, Run, StandsAt, state_of, taken_in}
 pub use Rattle.hs_agent.specs.declared.input.Input.{Input}
+pub use Rattle.hs_agent.specs.declared.hand.Left.{Left}
+pub use Rattle.hs_agent.specs.declared.hand.Mark.{Mark}
+pub use Rattle.hs_agent.specs.declared.hand.Out.{Out}
 pub use Rattle.hs_agent.specs.declared.placed.ArrivalPlace.{ArrivalPlace}
 pub use Rattle.hs_base.specs.Ids.{same_trace}
 pub use Rattle.hs_base.specs.NodeSetLaws.{has-no_nodes, has-with_node}

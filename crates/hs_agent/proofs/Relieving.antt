@@ -1,27 +1,29 @@
 -- What is kept after an abandonment is what the model says then.
-use Rattle.std.proofs.Common.{◌≡◌, ℕ, ◌<◌, Bool, true, false, cond, not, List, [], ◌∷◌, ◌++◌, length, map, fold, refl, sym, ap, subst, ◌∙◌, arith, append-nil}
-use Rattle.hs_agent.proofs.Prelude.{filter_map, AllByRecursion, option_to_list, append_assoc, map-append, map-map, all_weaker, all_append, all_front, all_back, Group, Standing, Pin, pins_for, without_group, is_for, leaving, drops, relieved, Pinning, Remembers, staying_few, chunks_left, AgentState, page_standing, claim_note, bytes_at, has_crumb, ArrivalPlace, Placed, place_of, Kept, Holds, HasPage, IsKept, IsIndexed, RemembersAs, Point, with_state, pinned_place, waiting_chunks, all_held, Going, with_fate, let_go, let_go_all, abandoned_going}
+use Rattle.std.proofs.Common.{◌≡◌, ℕ, ◌<◌, Bool, true, false, cond, not, List, [], ◌∷◌, ◌++◌, length, map, fold, refl, sym, ap, subst, ◌∙◌, arith, append-nil, Some}
+use Rattle.hs_agent.proofs.Prelude.{AreLeft, unoffered, slice_get_within, length-map, going_buffer, going_left, filter_map, AllByRecursion, option_to_list, append_assoc, map-append, map-map, all_weaker, all_append, all_front, all_back, Group, Mark, Pin, pins_for, without_group, is_for, leaving, drops, relieved, Pinning, Remembers, staying_few, chunks_left, AgentState, mark_of, claim_note, bytes_at, has_crumb, ArrivalPlace, Placed, place_of, Kept, Holds, HasPage, IsKept, IsIndexed, RemembersAs, Point, with_state, pinned_place, waiting_chunks, all_held, Going, with_left, let_go, let_go_all, abandoned_going}
 use Rattle.hs_pins.specs.Abandoning.{staying, going}
 use Rattle.hs_law_agent.specs.Abandoning as model
 use Rattle.hs_agent.proofs.GivingWay.{HasAbandoned, same_go, note_abandoned}
+use Rattle.hs_agent.proofs.Parted.{hand-left, pins-within, unoffered-more, unoffered-weaker}
 use Rattle.hs_agent.proofs.Moved.{length-same, pages-same, has_page-same}
 
 -- ---- what is let go, all at once
 
-abbrev note_going : List Standing → Going → List Standing
-note_going standings g = with_fate (place_of g.buffer) g.fate standings
-
-abbrev pub going_buffer : Going → Placed
-going_buffer g = g.buffer
+abbrev note_going : List Mark → Going → List Mark
+note_going standings g = with_left (place_of g.buffer) (Some g.left) standings
 
 -- the fates are noted, the chunks stand last in the hand, and nothing else changes
-pub let_go_all-is : {L : Type 0} (kept : Kept L) (goings : List Going) → let_go_all kept goings ≡ record kept { standings = fold note_going kept.standings goings; hand = kept.hand ++ map going_buffer goings }
-let_go_all-is kept [] = λ i. record kept { hand = sym (append-nil kept.hand) i }
+pub let_go_all-is : {L : Type 0} (kept : Kept L) (goings : List Going) → let_go_all kept goings ≡ record kept { standings = fold note_going kept.standings goings; hand = kept.hand ++ map going_buffer goings; lefts = kept.lefts ++ map going_left goings }
+let_go_all-is kept [] = λ i. record kept { hand = sym (append-nil kept.hand) i; lefts = sym (append-nil kept.lefts) i }
 let_go_all-is kept (g ∷ goings) =
     let_go_all-is (let_go kept g) goings
-    ∙ ap (λ hand. record kept { standings = fold note_going (note_going kept.standings g) goings; hand = hand }) (append_assoc kept.hand (g.buffer ∷ []) (map going_buffer goings))
+    ∙ (λ i. record kept {
+      standings = fold note_going (note_going kept.standings g) goings;
+      hand = append_assoc kept.hand (g.buffer ∷ []) (map going_buffer goings) i;
+      lefts = append_assoc kept.lefts (g.left ∷ []) (map going_left goings) i;
+    })
 
-pub fold-goings : {A : Type 0} (f : A → Going) (standings : List Standing) (items : List A) → fold note_going standings (map f items) ≡ fold (λ ss item. note_going ss (f item)) standings items
+pub fold-goings : {A : Type 0} (f : A → Going) (standings : List Mark) (items : List A) → fold note_going standings (map f items) ≡ fold (λ ss item. note_going ss (f item)) standings items
 fold-goings f standings [] = refl
 fold-goings f standings (item ∷ items) = fold-goings f (note_going standings (f item)) items
 
@@ -82,12 +84,25 @@ module _ {L : Type 0} (kept : Kept L) (pins : Pinning ArrivalPlace) (point : Poi
 
   -- what is kept then
   abbrev left : Kept L
-  left = record kept { pins = pins; standings = fold note_going kept.standings (map abandoned_going (going groups pinned)); hand = kept.hand ++ map chunk_of (going groups pinned) }
+  left = record kept {
+    pins = pins;
+    standings = fold note_going kept.standings (map abandoned_going (going groups pinned));
+    hand = kept.hand ++ map chunk_of (going groups pinned);
+    lefts = kept.lefts ++ map going_left (map abandoned_going (going groups pinned));
+  }
+
+  same_chunks : map going_buffer (map abandoned_going (going groups pinned)) ≡ map chunk_of (going groups pinned)
+  same_chunks = map-map going_buffer abandoned_going (going groups pinned)
 
   is_left : let_go_all (record kept { pins = pins }) (map abandoned_going (drops h.memory)) ≡ left
   is_left =
       let_go_all-is (record kept { pins = pins }) (map abandoned_going (going groups pinned))
-      ∙ ap (λ hand. record kept { pins = pins; standings = fold note_going kept.standings (map abandoned_going (going groups pinned)); hand = kept.hand ++ hand }) (map-map going_buffer abandoned_going (going groups pinned))
+      ∙ ap (λ hand. record kept {
+        pins = pins;
+        standings = fold note_going kept.standings (map abandoned_going (going groups pinned));
+        hand = kept.hand ++ hand;
+        lefts = kept.lefts ++ map going_left (map abandoned_going (going groups pinned));
+      }) same_chunks
 
   stands_for : RemembersAs point.settings point.node new (relieved h.memory)
   stands_for = record {
@@ -114,7 +129,7 @@ module _ {L : Type 0} (kept : Kept L) (pins : Pinning ArrivalPlace) (point : Poi
         crumbs = λ trace n. ap (λ (s : AgentState). has_crumb s.crumbs (record { trace = trace; node = record { 0 = n } })) gone.others ∙ was.crumbs trace n;
       }
 
-  fates_noted : fold note_going kept.standings (map abandoned_going (going groups pinned)) ≡ map page_standing new.taken
+  fates_noted : fold note_going kept.standings (map abandoned_going (going groups pinned)) ≡ map mark_of new.taken
   fates_noted =
       fold-goings abandoned_going kept.standings (going groups pinned)
       ∙ ap (λ ss. fold (note_abandoned pinned_place) ss (going groups pinned)) h.standings
@@ -151,6 +166,23 @@ module _ {L : Type 0} (kept : Kept L) (pins : Pinning ArrivalPlace) (point : Poi
       (index_chunks ++ map chunk_of (staying groups pinned))
       (all_append P index_chunks (map chunk_of (staying groups pinned)) indexed (all-staying P groups pinned pins_paged))
 
+  -- they have their pages, so they are among what is noted
+  going_paged : AllByRecursion (HasPage point.settings old.taken) (map chunk_of (going groups pinned))
+  going_paged = all-going (HasPage point.settings old.taken) groups pinned (all_back (HasPage point.settings old.taken) index_chunks (map chunk_of pinned) h.paged)
+
+  lefts_now : AreLeft left.standings (option_to_list kept.offered ++ map place_of left.hand) left.lefts
+  lefts_now =
+      let long : length kept.standings ≡ length old.taken = ap length h.standings ∙ length-map old.taken mark_of in
+      let within = pins-within (length kept.standings) abandoned_going (λ pin. refl) (going groups pinned)
+      (all_weaker (HasPage point.settings old.taken) (λ (placed : Placed). place_of placed < length kept.standings) (λ placed page. let below = slice_get_within old.taken (place_of placed) page.chunk page.at in omega (arith, below, long)) (map chunk_of (going groups pinned)) going_paged) in
+      subst (λ hand. AreLeft left.standings (option_to_list kept.offered ++ map place_of (kept.hand ++ hand)) left.lefts) same_chunks
+      (hand-left kept.standings kept.offered kept.hand kept.lefts (map abandoned_going (going groups pinned)) within h.lefts)
+
+  untouched_now : AllByRecursion (HasPage point.settings new.taken) (unoffered kept.offered kept.again left.hand)
+  untouched_now =
+      unoffered-weaker (HasPage point.settings old.taken) (HasPage point.settings new.taken) (λ placed page. has_page-same old.taken new.taken gone.pages point.settings placed page) kept.offered kept.again left.hand
+      (unoffered-more (HasPage point.settings old.taken) kept.offered kept.again kept.hand (map chunk_of (going groups pinned)) h.untouched going_paged)
+
   holds_left : Holds left (with_state new point)
   holds_left =
       let long = length-same old.taken new.taken gone.pages in
@@ -163,6 +195,10 @@ module _ {L : Type 0} (kept : Kept L) (pins : Pinning ArrivalPlace) (point : Poi
         sent = h.sent;
         offered = h.offered;
         hand = hand_grew;
+        again = h.again;
+        keeps = h.keeps;
+        lefts = lefts_now;
+        untouched = untouched_now;
         standings = fates_noted;
         claims = h.claims ∙ sym (ap (λ (s : AgentState). map claim_note s.claims) gone.others);
         pages =

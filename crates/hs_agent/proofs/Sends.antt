@@ -1,6 +1,6 @@
 -- What is kept while a turn sends: the model has reported what was sent so far.
 use Rattle.std.proofs.Common.{◌≡◌, ℕ, ◌≤◌, zero, suc, false, not, List, [], ◌∷◌, ◌++◌, length, map, filter, fold, take, Option, Some, None, slice_get, refl, sym, ap, subst, ◌∙◌, arith, append-nil}
-use Rattle.hs_agent.proofs.Prelude.{flat_map, ◌≢◌, AllByRecursion, option_map_or, option_and_then, append_assoc, map-append, length-append, fold-append, all_weaker, all_append, all_front, all_back, all_map, all_unmap, all_and, TraceId, Standing, used_in, used_of, chunks_left, Pin, Remembered, Remembers, waiting, used_bytes, Share, SendsEach, Taken, ChunkStanding, Pinned, Reported, Evicted, Abandoned, indexed_places, indexed_count, pinned_for, pinning_group, is_among, moved, AgentState, page_standing, reported_standing, visit, report, ArrivalPlace, Placed, place_of, Kept, Point, Holds, IsKept, HasPage, pinned_place, waiting_chunks, with_fate, SendsNext, costs_of, id_of}
+use Rattle.hs_agent.proofs.Prelude.{reported_for, flat_map, ◌≢◌, AllByRecursion, option_map_or, option_and_then, append_assoc, map-append, length-append, fold-append, all_weaker, all_append, all_front, all_back, all_map, all_unmap, all_and, TraceId, Mark, used_in, used_of, chunks_left, Pin, Remembered, Remembers, waiting, used_bytes, Share, SendsEach, Taken, ChunkStanding, Pinned, Reported, Evicted, Abandoned, indexed_places, indexed_count, pinned_for, pinning_group, is_among, moved, AgentState, mark_of, reported_standing, visit, report, ArrivalPlace, Placed, place_of, Kept, Point, Holds, IsKept, HasPage, pinned_place, waiting_chunks, with_left, SendsNext, costs_of, id_of}
 use Rattle.std.specs.Prelude.{replicate}
 use Rattle.hs_pins.specs.Waiting.{taken}
 use Rattle.hs_pins.specs.Waiting as pins
@@ -8,7 +8,6 @@ use Rattle.hs_sched.specs.Visits.{count_sent}
 use Rattle.hs_law_agent.specs.Standings.{Indexed}
 use Rattle.hs_law_agent.specs.Turning.{order_of, used_at}
 use Rattle.hs_law_agent.specs.Turning as model
-use Rattle.hs_agent.specs.LettingGo.{reported_fate}
 use Rattle.hs_agent.proofs.GivingWay.{ArePinned, unmoved}
 use Rattle.hs_agent.proofs.Moved.{sheets, sheets-moved, has_page-same, indexed-moved, count-moved}
 use Rattle.hs_agent.proofs.NextPins.{AreDistinct, FirstFor, first-waiting, without-next, all-waiting, differ-from, distinct-without, filter-others}
@@ -20,8 +19,8 @@ abbrev pub chunk_of : Pin ArrivalPlace → Placed
 chunk_of pin = pin.chunk
 
 -- the fate of a chunk that was sent is noted
-abbrev pub note_reported : List Standing → Pin ArrivalPlace → List Standing
-note_reported standings pin = with_fate (pinned_place pin) (reported_fate pin.group) standings
+abbrev pub note_reported : List Mark → Pin ArrivalPlace → List Mark
+note_reported standings pin = with_left (pinned_place pin) (Some (reported_for pin.group)) standings
 
 -- sends, and then others
 pub sends-split : {Q : Type 0} (sends : Q → ℕ → Q → Type 0) (xs ys : List ℕ) (old new : Q) → SendsEach sends old (xs ++ ys) new → (mid : Q) × SendsEach sends old xs mid × SendsEach sends mid ys new
@@ -45,7 +44,7 @@ module _ {L : Type 0} (first : Kept L) (point : Point L) (h : Holds first point)
     pub hand : state.hand ≡ point.state.hand ++ map pinned_place kept.sent
     pub reported : state.reported ≡ point.state.reported ++ map pinned_place kept.sent
     pub pages : sheets state.taken ≡ sheets point.state.taken
-    pub noted : fold note_reported (map page_standing point.state.taken) kept.sent ≡ map page_standing state.taken
+    pub noted : fold note_reported (map mark_of point.state.taken) kept.sent ≡ map mark_of state.taken
     pub places : (trace : TraceId) → indexed_places state.taken trace ≡ indexed_places point.state.taken trace
     pub count : indexed_count state.taken ≡ indexed_count point.state.taken
     pub others : state ≡ record point.state { taken = state.taken; pinned = state.pinned; hand = state.hand; reported = state.reported }
@@ -69,7 +68,7 @@ module _ {L : Type 0} (first : Kept L) (point : Point L) (h : Holds first point)
         hand = sym (ap (λ l. point.state.hand ++ map pinned_place l) h.sent ∙ append-nil point.state.hand);
         reported = sym (ap (λ l. point.state.reported ++ map pinned_place l) h.sent ∙ append-nil point.state.reported);
         pages = refl;
-        noted = ap (fold note_reported (map page_standing point.state.taken)) h.sent;
+        noted = ap (fold note_reported (map mark_of point.state.taken)) h.sent;
         places = λ trace. refl;
         count = refl;
         others = refl;
@@ -149,7 +148,7 @@ module _ {L : Type 0} (first : Kept L) (point : Point L) (h : Holds first point)
     its_group : pinned_for state.taken place ≡ Some item.group
     its_group = own (λ (pin : Pin ArrivalPlace). pinned_for state.taken (pinned_place pin) ≡ Some pin.group) m.groups
 
-    its_fate : with_fate place (reported_fate item.group) (map page_standing state.taken) ≡ map page_standing after.taken
+    its_fate : with_left place (Some (reported_for item.group)) (map mark_of state.taken) ≡ map mark_of after.taken
     its_fate = by (slice_get state.taken place) refl its_group
       where
         stands : (standing : ChunkStanding) → pinning_group standing ≡ Some item.group → reported_standing standing ≡ Reported item.group
@@ -160,11 +159,11 @@ module _ {L : Type 0} (first : Kept L) (point : Point L) (h : Holds first point)
         stands (Abandoned g) e = cc
 
         by : (o : Option Taken) → slice_get state.taken place ≡ o → option_and_then (λ (t : Taken). pinning_group t.standing) o ≡ Some item.group
-            → with_fate place (reported_fate item.group) (map page_standing state.taken) ≡ map page_standing (moved (place ∷ []) reported_standing state.taken)
+            → with_left place (Some (reported_for item.group)) (map mark_of state.taken) ≡ map mark_of (moved (place ∷ []) reported_standing state.taken)
         by None at e = cc
         by (Some t) at e =
             sym (moved_one (Reported item.group) place state.taken)
-            ∙ ap (map page_standing) (sym (moved_one-alike reported_standing (Reported item.group) place state.taken t at (stands t.standing e)))
+            ∙ ap (map mark_of) (sym (moved_one-alike reported_standing (Reported item.group) place state.taken t at (stands t.standing e)))
 
     groups_now : ArePinned pinned_place after.taken left
     groups_now =
@@ -198,9 +197,9 @@ module _ {L : Type 0} (first : Kept L) (point : Point L) (h : Holds first point)
               ∙ ap (λ l. point.state.reported ++ l) (sym (ap (map pinned_place) s.moves.put ∙ map-append pinned_place kept.sent (item ∷ [])));
           pages = sheets-moved (place ∷ []) reported_standing state.taken ∙ m.pages;
           noted =
-              ap (fold note_reported (map page_standing point.state.taken)) s.moves.put
-              ∙ fold-append note_reported (map page_standing point.state.taken) kept.sent (item ∷ [])
-              ∙ ap (with_fate place (reported_fate item.group)) m.noted
+              ap (fold note_reported (map mark_of point.state.taken)) s.moves.put
+              ∙ fold-append note_reported (map mark_of point.state.taken) kept.sent (item ∷ [])
+              ∙ ap (with_left place (Some (reported_for item.group))) m.noted
               ∙ its_fate;
           places = λ trace. indexed-moved (place ∷ []) reported_standing state.taken (reports_unindexed (place ∷ []) state.taken) trace ∙ m.places trace;
           count = count-moved (place ∷ []) reported_standing state.taken (reports_unindexed (place ∷ []) state.taken) ∙ m.count;

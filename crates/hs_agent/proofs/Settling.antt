@@ -1,10 +1,12 @@
 -- What is kept after an eviction is what the model says then.
-use Rattle.std.proofs.Common.{◌≡◌, ℕ, ◌<◌, List, ◌++◌, length, map, fold, sym, ap, subst, ◌∙◌, arith}
-use Rattle.hs_agent.proofs.Prelude.{filter_map, AllByRecursion, option_to_list, append_assoc, map-append, map-map, all_weaker, all_append, all_front, all_back, Pin, Indexed, Leaving, chunks_left, kept, evicted, settled, going, AgentState, claim_note, bytes_at, evict, ArrivalPlace, Placed, place_of, Kept, Holds, HasPage, IsKept, RemembersAs, Point, with_state, pinned_place, waiting_chunks, all_held, let_go_all, evicted_going}
+use Rattle.std.proofs.Common.{◌≡◌, ℕ, ◌<◌, List, ◌++◌, length, map, fold, sym, ap, subst, ◌∙◌, arith, [], ◌∷◌}
+use Rattle.hs_agent.proofs.Prelude.{AreLeft, unoffered, length-map, slice_get_within, mark_of, going_buffer, going_left, filter_map, AllByRecursion, option_to_list, append_assoc, map-append, map-map, all_weaker, all_append, all_front, all_back, Pin, Indexed, Leaving, chunks_left, kept, evicted, settled, going, AgentState, claim_note, bytes_at, evict, ArrivalPlace, Placed, place_of, Kept, Holds, HasPage, IsKept, RemembersAs, Point, with_state, pinned_place, waiting_chunks, all_held, let_go_all, evicted_going}
 use Rattle.hs_index.specs.Index.{with_touched}
+use Rattle.hs_agent.specs.Trying.{lefts_noted}
 use Rattle.hs_agent.proofs.Evictions.{HasEvicted, same_evicted, note_leaving, all-kept, all-evicted, count-kept}
 use Rattle.hs_agent.proofs.Moved.{length-same, pages-same, has_page-same}
-use Rattle.hs_agent.proofs.Relieving.{let_go_all-is, fold-goings, going_buffer}
+use Rattle.hs_agent.proofs.Parted.{GoWithin, hand-left, unoffered-more, unoffered-weaker}
+use Rattle.hs_agent.proofs.Relieving.{let_go_all-is, fold-goings}
 
 module _ {L : Type 0} (old : Kept L) (point : Point L) (h : Holds old point) where
   abbrev touched : List (Indexed ArrivalPlace)
@@ -28,12 +30,17 @@ module _ {L : Type 0} (old : Kept L) (point : Point L) (h : Holds old point) whe
 
     -- what is kept then
     abbrev left : Kept L
-    left = record old { index = with_touched old.index stay; standings = fold note_leaving old.standings leave; hand = old.hand ++ map buffer_in leave }
+    left = record old {
+      index = with_touched old.index stay;
+      standings = fold note_leaving old.standings leave;
+      hand = old.hand ++ map buffer_in leave;
+      lefts = old.lefts ++ map going_left (map evicted_going leave);
+    }
 
     is_left : let_go_all (record old { index = with_touched old.index stay }) (map evicted_going leave) ≡ left
     is_left =
         let_go_all-is (record old { index = with_touched old.index stay }) (map evicted_going leave)
-        ∙ (λ i. record old { index = with_touched old.index stay; standings = fold-goings evicted_going old.standings leave i; hand = old.hand ++ map-map going_buffer evicted_going leave i })
+        ∙ (λ i. record old { index = with_touched old.index stay; standings = fold-goings evicted_going old.standings leave i; hand = old.hand ++ map-map going_buffer evicted_going leave i; lefts = old.lefts ++ map going_left (map evicted_going leave) })
 
     each_kept : AllByRecursion (IsKept old.leases point.buffers) (all_held left h.memory.pinned)
     each_kept =
@@ -53,6 +60,29 @@ module _ {L : Type 0} (old : Kept L) (point : Point L) (h : Holds old point) whe
         let pins = map (λ (pin : Pin ArrivalPlace). pin.chunk) h.memory.pinned in
         all_weaker P (HasPage point.settings after.taken) (λ placed page. has_page-same point.state.taken after.taken gone.pages point.settings placed page) (chunks_left stay ++ pins)
         (all_append P (chunks_left stay) pins (all-kept P threshold most touched (all_front P (chunks_left touched) pins h.paged)) (all_back P (chunks_left touched) pins h.paged))
+
+    leave_paged : AllByRecursion (HasPage point.settings point.state.taken) (map buffer_in leave)
+    leave_paged =
+        let P = HasPage point.settings point.state.taken in
+        let pins = map (λ (pin : Pin ArrivalPlace). pin.chunk) h.memory.pinned in
+        all-evicted P threshold most touched (all_front P (chunks_left touched) pins h.paged)
+
+    lefts_now : AreLeft left.standings (option_to_list old.offered ++ map place_of left.hand) left.lefts
+    lefts_now =
+        let count : length old.standings ≡ length point.state.taken = ap length h.standings ∙ length-map point.state.taken mark_of in
+        subst (λ standings. AreLeft standings (option_to_list old.offered ++ map place_of left.hand) left.lefts) (fold-goings evicted_going old.standings leave)
+        (subst (λ hand. AreLeft (lefts_noted old.standings (map evicted_going leave)) (option_to_list old.offered ++ map place_of (old.hand ++ hand)) left.lefts) (map-map going_buffer evicted_going leave)
+        (hand-left old.standings old.offered old.hand old.lefts (map evicted_going leave) (within leave leave_paged count) h.lefts))
+      where
+        within : (ls : List (Leaving ArrivalPlace)) → AllByRecursion (HasPage point.settings point.state.taken) (map buffer_in ls) → length old.standings ≡ length point.state.taken
+            → GoWithin (length old.standings) (map evicted_going ls)
+        within [] pages count = tt
+        within (l ∷ ls) pages count = (let below = slice_get_within point.state.taken (place_of l.buffer) pages.0.chunk pages.0.at in omega (arith, below, count), within ls pages.1 count)
+
+    untouched_now : AllByRecursion (HasPage point.settings after.taken) (unoffered old.offered old.again left.hand)
+    untouched_now =
+        unoffered-weaker (HasPage point.settings point.state.taken) (HasPage point.settings after.taken) (λ placed page. has_page-same point.state.taken after.taken gone.pages point.settings placed page) old.offered old.again left.hand
+        (unoffered-more (HasPage point.settings point.state.taken) old.offered old.again old.hand (map buffer_in leave) h.untouched leave_paged)
 
   abbrev threshold : ℕ
   threshold = point.settings.threshold
@@ -92,6 +122,10 @@ module _ {L : Type 0} (old : Kept L) (point : Point L) (h : Holds old point) whe
         sent = h.sent;
         offered = h.offered;
         hand = hand_grew;
+        again = h.again;
+        keeps = h.keeps;
+        lefts = lefts_now threshold most;
+        untouched = untouched_now threshold most;
         standings = ap (λ ss. fold note_leaving ss (leave threshold most)) h.standings ∙ gone.noted;
         claims = h.claims ∙ sym (ap (λ (s : AgentState). map claim_note s.claims) gone.others);
         pages =

@@ -1,11 +1,11 @@
 -- What is kept at the beginning.
-use Rattle.std.proofs.Common.{ℕ, [], None, refl, arith}
-use Rattle.hs_agent.proofs.Prelude.{PlainSettings, Pinning, Remembers, start, ArrivalPlace, Kept, Point, Holds}
+use Rattle.std.proofs.Common.{ℕ, Bool, false, [], None, refl, arith}
+use Rattle.hs_agent.proofs.Prelude.{PlainSettings, Pinning, Remembers, ArrivalPlace, Kept, first_point, Holds}
 use Rattle.hs_pins.specs.Remembered.{fresh}
 use Rattle.hs_index.specs.Index.{new_index}
 use Rattle.hs_agent.proofs.Indexing.{indexed-start}
 
-module _ {L : Type 0} (settings : PlainSettings) (node : ℕ) (pins : Pinning ArrivalPlace) where
+module _ {L : Type 0} (settings : PlainSettings) (node : ℕ) (keeps : Bool) (pins : Pinning ArrivalPlace) where
   -- nothing was taken
   abbrev pub nothing_kept : Kept L
   nothing_kept =
@@ -16,16 +16,16 @@ module _ {L : Type 0} (settings : PlainSettings) (node : ℕ) (pins : Pinning Ar
         sent = [];
         hand = [];
         offered = None;
+        lefts = [];
+        again = false;
         standings = [];
         claims = [];
         pages = [];
+        keeps = keeps;
         leases = [];
       }
 
-  abbrev pub first_point : Point L
-  first_point = record { settings = settings; node = node; state = start settings; buffers = []; offered = None }
-
-  pub holds-start : Remembers pins (fresh node settings.pins settings.triggers) → Holds nothing_kept first_point
+  pub holds-start : Remembers pins (fresh node settings.pins settings.triggers) → Holds nothing_kept (first_point settings node keeps)
   holds-start remembers = record {
     node_is = refl;
     memory = fresh node settings.pins settings.triggers;
@@ -35,6 +35,9 @@ module _ {L : Type 0} (settings : PlainSettings) (node : ℕ) (pins : Pinning Ar
     sent = refl;
     offered = refl;
     hand = refl;
+    again = refl;
+    keeps = refl;
+    lefts = refl;
     standings = refl;
     claims = refl;
     pages = refl;
@@ -43,6 +46,7 @@ module _ {L : Type 0} (settings : PlainSettings) (node : ℕ) (pins : Pinning Ar
     buffers = refl;
     each = tt;
     paged = tt;
+    untouched = tt;
     few = omega arith;
     fits = omega arith;
   }

@@ -1,6 +1,6 @@
 -- A chunk that was taken: what is kept then is what the model says.
 use Rattle.std.proofs.Common.{◌≡◌, ◌+◌, ◌≤◌, ◌<◌, ◌^◌, Bool, cond, [], ◌∷◌, ◌++◌, length, map, Some, None, sym, ap, subst, ◌∙◌}
-use Rattle.hs_agent.proofs.Prelude.{option_map, option_map_or, option_and_then, by_answer, TraceId, Header, Sheet, used_of, header_of, Buffer, Claim, claim_of, pin_for, arrived, with_pin, Remembers, drops, relieved, AgentState, ClaimedTrace, is_abandoned, abandon, evict, with_indexed, with_pinned, with_abandoned, pin_chunk, take_chunk, Placed, placed_at, Kept, Holds, Point, plain_claim, let_go_all, abandoned_going, abandoned_fate, noted, indexed, chunk_taken}
+use Rattle.hs_agent.proofs.Prelude.{option_map, option_map_or, option_and_then, by_answer, TraceId, Header, Sheet, used_of, header_of, Buffer, Claim, claim_of, pin_for, arrived, with_pin, Remembers, drops, relieved, AgentState, ClaimedTrace, is_abandoned, abandon, evict, with_indexed, with_pinned, with_abandoned, pin_chunk, take_chunk, Placed, placed_at, Kept, Holds, Point, plain_claim, let_go_all, abandoned_going, abandoned_for, noted, indexed, chunk_taken}
 use Rattle.hs_index.specs.Index as index
 use Rattle.hs_pins.specs.Remembered.{claim_for}
 use Rattle.hs_agent.specs.Trying.{ComesToPins}
@@ -58,7 +58,7 @@ module _ {L : Type 0} (old : Kept L) (point : Point L) (h : Holds old point) (bu
         let remembers : Remembers new.pins h.memory = subst (Remembers new.pins) (ap (λ b. cond b h.memory (relieved (arrived h.memory placed))) back) arrives.remembers in
         let gone = goes-for h.memory placed claim of_claim ∙ ap (λ b. cond b (pin_for claim.group placed ∷ []) (drops (arrived h.memory placed))) y in
         subst (λ k. Holds k (chunk_taken buffer point)) (sym (arrives.gone ∙ ap (λ ps. let_go_all (record came { pins = new.pins }) (map abandoned_going ps)) gone))
-        (subst (Holds (let_go_all (record came { pins = new.pins }) (record { buffer = placed; fate = abandoned_fate claim.group } ∷ []))) (sym (taken_now ∙ ap (λ b. at (taken b)) y))
+        (subst (Holds (let_go_all (record came { pins = new.pins }) (record { buffer = placed; left = abandoned_for claim.group } ∷ []))) (sym (taken_now ∙ ap (λ b. at (taken b)) y))
         (holds-dropped old point h buffer sheet page size room claim.group new.pins remembers)))
         (λ n.
         let stays = back-for h.memory placed claim of_claim ∙ n in

@@ -1,14 +1,16 @@
 -- What is kept after a turn, and the shares then, are what the model says.
 use Rattle.std.proofs.Common.{◌≡◌, ℕ, ◌<◌, ◌≤◌, Bool, true, false, cond, List, [], ◌∷◌, ◌++◌, length, map, fold, refl, sym, ap, subst, ◌∙◌, arith, All}
-use Rattle.hs_agent.proofs.Prelude.{filter_map, ◌≢◌, AllByRecursion, cons_option, option_map, option_map_or, option_to_list, is_some, IsSome, append_assoc, map-append, All-from_recursion, recursion_from_All, slice_get_within, map-map, all_weaker, all_append, all_front, all_back, all_map, all_unmap, all_and, used_in, used_of, page_bytes, chunks_left, Pin, Remembered, waiting, used_bytes, Share, SendsEach, visited, Taken, AgentState, has_crumb, claim_note, bytes_at, visit, turn, PlacesMatch, count_of, ArrivalPlace, place_of, Kept, Point, Holds, IsKept, HasPage, IsIndexed, RemembersAs, with_state, pinned_place, plain_claim, waiting_chunks, all_held, let_go_all, reported, reported_going, page_in, SendsNext, costs_of, id_of}
+use Rattle.hs_agent.proofs.Prelude.{AreLeft, unoffered, length-map, mark_of, going_buffer, going_left, Placed, filter_map, ◌≢◌, AllByRecursion, cons_option, option_map, option_map_or, option_to_list, is_some, IsSome, append_assoc, map-append, All-from_recursion, recursion_from_All, slice_get_within, map-map, all_weaker, all_append, all_front, all_back, all_map, all_unmap, all_and, used_in, used_of, page_bytes, chunks_left, Pin, Remembered, waiting, used_bytes, Share, SendsEach, visited, Taken, AgentState, has_crumb, claim_note, bytes_at, visit, turn, PlacesMatch, count_of, ArrivalPlace, place_of, Kept, Point, Holds, IsKept, HasPage, IsIndexed, RemembersAs, with_state, pinned_place, plain_claim, waiting_chunks, all_held, let_go_all, reported, reported_going, page_in, SendsNext, costs_of, id_of}
 use Rattle.std.specs.List.{AllPairs}
 use Rattle.std.proofs.lemmas.List.Elements.{filter_map-append}
 use Rattle.hs_lists.proofs.Alls.{pairs_head, pairs_tail}
 use Rattle.hs_law_agent.specs.Turning.{shares_after}
 use Rattle.hs_law_agent.specs.Turning as model
+use Rattle.hs_agent.specs.Trying.{lefts_noted}
 use Rattle.hs_agent.proofs.Moved.{length-same, pages-same, has_page-same}
 use Rattle.hs_agent.proofs.NextPins.{AreDistinct, distinct-counted, all-waiting}
-use Rattle.hs_agent.proofs.Relieving.{let_go_all-is, fold-goings, going_buffer}
+use Rattle.hs_agent.proofs.Parted.{hand-left, pins-within, unoffered-more, unoffered-weaker}
+use Rattle.hs_agent.proofs.Relieving.{let_go_all-is, fold-goings}
 use Rattle.hs_agent.proofs.Sends.{Midway, Good, begins, chunk_of, note_reported, costs-same, sends-all, sends_of, AreVisitedOnce}
 
 -- ---- shares
@@ -91,6 +93,7 @@ module _ {L : Type 0} (first : Kept L) (point : Point L) (h : Holds first point)
       pages = first.pages ++ map page_in sent;
       standings = fold note_reported first.standings sent;
       hand = first.hand ++ map chunk_of sent;
+      lefts = first.lefts ++ map going_left (map reported_going sent);
     }
 
     is_left : reported last ≡ left
@@ -103,6 +106,7 @@ module _ {L : Type 0} (first : Kept L) (point : Point L) (h : Holds first point)
           pages = first.pages ++ map page_in sent;
           standings = fold-goings reported_going first.standings sent i;
           hand = first.hand ++ map-map going_buffer reported_going sent i;
+          lefts = first.lefts ++ map going_left (map reported_going sent);
         })
 
     stands_for : RemembersAs point.settings point.node after m.memory
@@ -171,6 +175,24 @@ module _ {L : Type 0} (first : Kept L) (point : Point L) (h : Holds first point)
         (all_append Q (chunks_left first.index.touched) (map chunk_of m.memory.pinned) (all_front Q (chunks_left first.index.touched) (map chunk_of h.memory.pinned) h.paged)
         (all_weaker (Good first point h) Q (λ placed good. good.1) (map chunk_of m.memory.pinned) m.waits))
 
+    sent_pages : AllByRecursion (HasPage point.settings point.state.taken) (map chunk_of sent)
+    sent_pages = all_weaker (Good first point h) (HasPage point.settings point.state.taken) (λ placed good. good.1) (map chunk_of sent) m.went
+
+    lefts_now : AreLeft left.standings (option_to_list first.offered ++ map place_of left.hand) left.lefts
+    lefts_now =
+        let count : length first.standings ≡ length point.state.taken = ap length h.standings ∙ length-map point.state.taken mark_of in
+        let within = pins-within (length first.standings) reported_going (λ pin. refl) sent
+        (all_weaker (HasPage point.settings point.state.taken) (λ (placed : Placed). place_of placed < length first.standings)
+        (λ placed page. let below = slice_get_within point.state.taken (place_of placed) page.chunk page.at in omega (arith, below, count)) (map chunk_of sent) sent_pages) in
+        subst (λ standings. AreLeft standings (option_to_list first.offered ++ map place_of left.hand) left.lefts) (fold-goings reported_going first.standings sent)
+        (subst (λ hand. AreLeft (lefts_noted first.standings (map reported_going sent)) (option_to_list first.offered ++ map place_of (first.hand ++ hand)) left.lefts) (map-map going_buffer reported_going sent)
+        (hand-left first.standings first.offered first.hand first.lefts (map reported_going sent) within h.lefts))
+
+    untouched_now : AllByRecursion (HasPage point.settings after.taken) (unoffered first.offered first.again left.hand)
+    untouched_now =
+        unoffered-weaker (HasPage point.settings point.state.taken) (HasPage point.settings after.taken) (λ placed page. has_page-same point.state.taken after.taken m.pages point.settings placed page) first.offered first.again left.hand
+        (unoffered-more (HasPage point.settings point.state.taken) first.offered first.again first.hand (map chunk_of sent) h.untouched sent_pages)
+
     holds_left : Holds left (with_state after point)
     holds_left = record {
       node_is = h.node_is;
@@ -181,6 +203,10 @@ module _ {L : Type 0} (first : Kept L) (point : Point L) (h : Holds first point)
       sent = refl;
       offered = h.offered;
       hand = hand_grew;
+      again = h.again;
+      keeps = h.keeps;
+      lefts = lefts_now;
+      untouched = untouched_now;
       standings = ap (λ ss. fold note_reported ss sent) h.standings ∙ m.noted;
       claims = h.claims ∙ sym (ap (λ (s : AgentState). map claim_note s.claims) m.others);
       pages =

@@ -1,7 +1,6 @@
 -- What becomes of what is kept when a chunk comes. It is noted, and its lease with it. A chunk of a trace that nobody claimed
 -- is indexed, and then what is too much goes.
-use Rattle.std.specs.Prelude.{[], ◌∷◌, ◌++◌, map, Some}
-use Rattle.hs_base.specs.declared.told.Fate.TheVariants as fates
+use Rattle.std.specs.Prelude.{[], ◌∷◌, ◌++◌, map, Some, None}
 use Rattle.hs_words.specs.Buffers.{Buffer}
 use Rattle.hs_words.specs.declared.page.Header.{Header}
 use Rattle.hs_index.specs.Index as index
@@ -13,7 +12,7 @@ use Rattle.hs_agent.specs.LettingGo.{let_go_all, evicted_going}
 abbrev pub noted : {L : Type 0} → Header → Buffer L → Kept L → Kept L
 noted header buffer kept =
     record kept {
-      standings = kept.standings ++ record { client = header.client; page = header.page; fate = fates.Live } ∷ [];
+      standings = kept.standings ++ record { client = header.client; page = header.page; left = None } ∷ [];
       leases = kept.leases ++ Some (record { lease = buffer.lease; number = buffer.chunk.number }) ∷ [];
     }
 

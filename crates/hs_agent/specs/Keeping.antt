@@ -1,14 +1,13 @@
 -- What an agent keeps, and which run of the model that is. A chunk is where the model says: in the index under its trace,
 -- among the pinned, or in the hand; and what is noted of it is its standing there. Of a run contracts say the settings, the
 -- node, the events, and with which lease each chunk came last.
-use Rattle.std.specs.Prelude.{◌≡◌, ℕ, ◌+◌, ◌<◌, ◌≤◌, ◌^◌, Bool, false, List, [], ◌∷◌, ◌++◌, length, map, filter_map, Option, Some, None, slice_get}
+use Rattle.std.specs.Prelude.{◌≡◌, ℕ, ◌+◌, ◌<◌, ◌≤◌, ◌^◌, Bool, false, List, [], ◌∷◌, ◌++◌, length, map, filter_map, Option, Some, None, slice_get, if◌then◌else◌}
 use Rattle.std.specs.List.{AllByRecursion}
 use Rattle.std.specs.Option.{option_map_or, option_to_list}
 use Rattle.hs_base.specs.declared.ids.TraceId.{TraceId}
 use Rattle.hs_base.specs.declared.node_set.NodeSet.{NodeSet}
 use Rattle.hs_base.specs.NodeSets.{has_node}
 use Rattle.hs_base.specs.Ids.{same_trace}
-use Rattle.hs_records.specs.declared.books.Standing.{Standing}
 use Rattle.hs_records.specs.declared.books.Claim as noted
 use Rattle.hs_records.specs.declared.journal.Step.{Step}
 use Rattle.hs_records.specs.Plain.{PlainSettings}
@@ -19,11 +18,14 @@ use Rattle.hs_pins.specs.Remembered.{Claim, Pin, Remembered, claim_of}
 use Rattle.hs_pins.specs.PinsLayout.{Pinning, Remembers}
 use Rattle.hs_sched.specs.Turns.{Schedule}
 use Rattle.hs_law_agent.specs.Standings.{Taken, indexed_places, indexed_count, pinned_for}
-use Rattle.hs_law_agent.specs.State.{AgentState, ClaimedTrace}
+use Rattle.hs_law_agent.specs.State.{AgentState, ClaimedTrace, start}
 use Rattle.hs_law_agent.specs.Messages.{has_crumb}
-use Rattle.hs_law_agent.specs.Books.{page_standing, claim_note, bytes_at}
+use Rattle.hs_law_agent.specs.Books.{claim_note, bytes_at}
 use Rattle.hs_agent.specs.declared.placed.ArrivalPlace.{ArrivalPlace}
+use Rattle.hs_agent.specs.declared.hand.Left.{Left}
+use Rattle.hs_agent.specs.declared.hand.Mark.{Mark}
 use Rattle.hs_agent.specs.Placing.{Placed, Pledged, place_of, leased}
+use Rattle.hs_agent.specs.Leaving.{mark_of, AreLeft}
 
 -- what an agent keeps of its chunks
 pub record Kept (L : Type 0) : Type 0 where
@@ -35,9 +37,15 @@ pub record Kept (L : Type 0) : Type 0 where
   pub hand : List Placed
   -- the place of the chunk that was offered and not answered
   pub offered : Option ℕ
-  pub standings : List Standing
+  -- why these left, the one that was offered and not answered first
+  pub lefts : List Left
+  -- whether the first of the hand was offered before, and came back
+  pub again : Bool
+  -- what was noted, and whether it can be had at the end
+  pub standings : List Mark
   pub claims : List noted.Claim
   pub pages : List (List ℕ)
+  pub keeps : Bool
   -- the lease of each chunk that was taken, but of those that are out of the agent's hands
   pub leases : List (Option (Pledged L))
 
@@ -46,6 +54,8 @@ pub record PlainAgent (L : Type 0) : Type 0 where
   pub kept : Kept L
   pub schedule : Schedule
   pub log : List Step
+  -- whether the log is kept
+  pub keeps : Bool
   pub spent : Bool
 
 -- ---- where the chunks are
@@ -115,14 +125,30 @@ waiting_chunks kept pinned = chunks_left kept.index.touched ++ map (λ (pin : Pi
 abbrev pub all_held : {L : Type 0} → Kept L → List (Pin ArrivalPlace) → List Placed
 all_held kept pinned = waiting_chunks kept pinned ++ kept.hand
 
--- where a run of the model has come to: its state, the buffer of each taken chunk as it came last, and the place of the
--- chunk that was offered and not answered
+-- the others
+abbrev pub behind : {A : Type 0} → List A → List A
+behind [] = []
+behind (x ∷ xs) = xs
+
+-- the chunks of the hand that were never offered
+abbrev pub unoffered : {A : Type 0} → Option ℕ → Bool → List A → List A
+unoffered (Some place) again hand = hand
+unoffered None again hand = if again then behind hand else hand
+
+-- where a run of the model has come to: its state, the buffer of each taken chunk as it came last, the place of the chunk that
+-- was offered and not answered, and whether the first of the hand came back; and whether what is noted can be had at the end
 pub record Point (L : Type 0) : Type 0 where
   pub settings : PlainSettings
   pub node : ℕ
   pub state : AgentState
   pub buffers : List (Buffer L)
   pub offered : Option ℕ
+  pub again : Bool
+  pub keeps : Bool
+
+-- where nothing was taken
+abbrev pub first_point : {L : Type 0} → PlainSettings → ℕ → Bool → Point L
+first_point settings node keeps = record { settings = settings; node = node; state = start settings; buffers = []; offered = None; again = false; keeps = keeps }
 
 -- What is kept is what the model's state says, between two steps.
 pub record Holds {L : Type 0} (kept : Kept L) (point : Point L) : Type 0 where
@@ -134,7 +160,10 @@ pub record Holds {L : Type 0} (kept : Kept L) (point : Point L) : Type 0 where
   pub sent : kept.sent ≡ []
   pub offered : kept.offered ≡ point.offered
   pub hand : option_to_list point.offered ++ map place_of kept.hand ≡ point.state.hand
-  pub standings : kept.standings ≡ map page_standing point.state.taken
+  pub again : kept.again ≡ point.again
+  pub keeps : kept.keeps ≡ point.keeps
+  pub lefts : AreLeft kept.standings (option_to_list kept.offered ++ map place_of kept.hand) kept.lefts
+  pub standings : kept.standings ≡ map mark_of point.state.taken
   pub claims : kept.claims ≡ map claim_note point.state.claims
   pub pages : kept.pages ≡ filter_map (bytes_at point.state.taken) point.state.reported
   pub reported : AllByRecursion (λ (place : ℕ). place < length point.state.taken) point.state.reported
@@ -143,6 +172,7 @@ pub record Holds {L : Type 0} (kept : Kept L) (point : Point L) : Type 0 where
   pub buffers : length point.buffers ≡ length point.state.taken
   pub each : AllByRecursion (IsKept kept.leases point.buffers) (all_held kept memory.pinned)
   pub paged : AllByRecursion (HasPage point.settings point.state.taken) (waiting_chunks kept memory.pinned)
+  pub untouched : AllByRecursion (HasPage point.settings point.state.taken) (unoffered kept.offered kept.again kept.hand)
   pub few : count_chunks kept.index.touched + length memory.pinned ≤ length point.state.taken
   pub fits : length point.state.taken < 2 ^ 32
 

@@ -1,4 +1,6 @@
 pub mod Placing
+pub mod Leaving
+pub mod Parting
 pub mod Keeping
 pub mod KeptLayout
 pub mod LettingGo
@@ -13,3 +15,5 @@ pub mod CallExamples
 pub mod Trying
 pub mod Tries
 pub mod Asking
+pub mod Noting
+pub mod Firsts

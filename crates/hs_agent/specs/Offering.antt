@@ -1,10 +1,12 @@
 -- What becomes of what is kept when the first of the hand is offered, and when the pool answered. The offered chunk is out
 -- of the agent's hands, with its lease; where it comes back it is the first of the hand again, with the lease that it has then.
-use Rattle.std.specs.Prelude.{◌≡◌, ℕ, ◌∷◌, Option, Some, None, slice_set}
+use Rattle.std.specs.Prelude.{◌≡◌, ℕ, Bool, true, false, List, ◌∷◌, Option, Some, None, slice_get, slice_set}
 use Rattle.std.specs.Option.{option_map_or}
 use Rattle.hs_words.specs.Buffers.{Buffer}
+use Rattle.hs_words.specs.Chunks.{Contents}
+use Rattle.hs_agent.specs.declared.hand.Left.{Left}
 use Rattle.hs_agent.specs.Placing.{Placed, HandsOut, placed_at, place_of}
-use Rattle.hs_agent.specs.Keeping.{Kept}
+use Rattle.hs_agent.specs.Keeping.{Kept, behind}
 
 pub record Offers {L : Type 0} (old : Kept L) (buffer : Buffer L) (new : Kept L) : Type 0 where
   pub first : Placed
@@ -13,6 +15,17 @@ pub record Offers {L : Type 0} (old : Kept L) (buffer : Buffer L) (new : Kept L)
   pub offered : new.offered ≡ Some (place_of first)
   pub others : new ≡ record old { hand = new.hand; leases = new.leases; offered = new.offered }
 
+-- So is the chunk that is first in the hand, while none is offered.
+pub record Leads {L : Type 0} (kept : Kept L) (chunk : Contents) (lease : L) (left : Left) (again : Bool) : Type 0 where
+  pub first : Placed
+  pub others : List Placed
+  pub is : kept.hand ≡ first ∷ others
+  pub chunk_is : chunk ≡ first.chunk
+  pub lease_is : slice_get kept.leases (place_of first) ≡ Some (Some (record { lease = lease; number = first.chunk.number }))
+  pub lefts : List Left
+  pub left_is : kept.offered ≡ None → kept.lefts ≡ left ∷ lefts
+  pub again_is : again ≡ kept.again
+
 -- a chunk at this place came back
 abbrev pub back_at : {L : Type 0} → Kept L → ℕ → Buffer L → Kept L
 back_at kept place buffer =
@@ -20,9 +33,14 @@ back_at kept place buffer =
       hand = placed_at place buffer ∷ kept.hand;
       leases = slice_set kept.leases place (Some (record { lease = buffer.lease; number = buffer.chunk.number }));
       offered = None;
+      again = true;
     }
+
+-- the chunk is gone for good
+abbrev pub gone : {L : Type 0} → Kept L → Kept L
+gone kept = record kept { lefts = behind kept.lefts; offered = None; again = false }
 
 -- the pool answered, and the chunk came back or did not
 abbrev pub answered : {L : Type 0} → Option (Buffer L) → Kept L → Kept L
-answered None kept = record kept { offered = None }
+answered None kept = gone kept
 answered (Some buffer) kept = option_map_or (λ place. back_at kept place buffer) kept.offered kept

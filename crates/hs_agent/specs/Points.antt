@@ -1,5 +1,5 @@
 -- Where a run of the model comes to by what an agent does with its chunks, without what it notes in its log.
-use Rattle.std.specs.Prelude.{ℕ, List, [], ◌∷◌, ◌++◌, filter_map, flat_map, slice_get}
+use Rattle.std.specs.Prelude.{ℕ, Bool, List, [], ◌∷◌, ◌++◌, map, filter_map, flat_map, slice_get, if◌then◌else◌}
 use Rattle.std.specs.Option.{option_map_or}
 use Rattle.hs_base.specs.declared.told.Ask.{Ask}
 use Rattle.hs_base.specs.declared.told.Crumb.{Crumb}
@@ -9,6 +9,8 @@ use Rattle.hs_words.specs.Pages.{Sheet}
 use Rattle.hs_law_agent.specs.Standings.{indexed_places}
 use Rattle.hs_law_agent.specs.State.{AgentState}
 use Rattle.hs_law_agent.specs.Stepping.{take_chunk, take_crumb, take_trigger, claim_for}
+use Rattle.hs_records.specs.Books.{PlainAgentBook}
+use Rattle.hs_law_agent.specs.Books.{page_standing, claim_note, bytes_at}
 use Rattle.hs_agent.specs.Keeping.{Point, with_state}
 
 -- the page that came in a chunk
@@ -34,6 +36,17 @@ abbrev pub claimed_for : {L : Type 0} → Ask → Point L → Point L
 claimed_for ask point = with_state (claim_for point.settings ask point.state) point
 
 -- ---- the end
+
+-- the book of a node's agent that came to this state, which is empty where no journal was kept
+abbrev pub book_kept : Bool → ℕ → AgentState → PlainAgentBook
+book_kept keeps node state =
+    record {
+      node = record { 0 = node };
+      log = if keeps then state.log else [];
+      standings = if keeps then map page_standing state.taken else [];
+      claims = if keeps then map claim_note state.claims else [];
+      sent = if keeps then filter_map (bytes_at state.taken) state.reported else [];
+    }
 
 -- the places of what is left: what is indexed, trace by trace from the one touched longest ago, and then the hand
 abbrev pub places_left : AgentState → List ℕ

@@ -1,11 +1,12 @@
 -- A run of an agent: its settings, its node, where it began, the events since, and of each chunk that it took the buffer as it came last,
 -- with its lease. An agent that memory failed follows no run any more.
-use Rattle.std.specs.Prelude.{◌≡◌, ℕ, ◌+◌, ◌<◌, ◌≤◌, ◌^◌, true, false, List, [], ◌∷◌, ◌++◌, slice_get, slice_set, Option, Some, None, IsSome}
+use Rattle.std.specs.Prelude.{◌≡◌, ℕ, ◌+◌, ◌<◌, ◌≤◌, ◌^◌, Bool, if◌then◌else◌, true, false, List, [], ◌∷◌, ◌++◌, slice_get, slice_set, Option, Some, None, IsSome}
 use Rattle.std.specs.Option.{option_map_or, option_and_then}
 use Rattle.hs_base.specs.Rules.{is_declared}
 use Rattle.hs_base.specs.declared.limits.TheConstants.{MOST_NODES}
 use Rattle.hs_base.specs.declared.told.Told.{Told}
 use Rattle.hs_records.specs.Plain.{PlainSettings}
+use Rattle.hs_records.specs.declared.journal.Step.{Step}
 use Rattle.hs_sched.specs.Turns.{Schedule, IsSchedule}
 use Rattle.hs_words.specs.declared.token.Given.{Given}
 use Rattle.hs_words.specs.declared.token.Given.TheVariants as given
@@ -18,6 +19,7 @@ use Rattle.hs_law_agent.specs.Stepping.{AgentEvent, Took, Gave, Answered, after_
 use Rattle.hs_law_agent.specs.Stepping as model
 use Rattle.hs_agent.specs.declared.input.Input.{Input}
 use Rattle.hs_agent.specs.declared.input.Input.TheVariants as inputs
+use Rattle.hs_agent.specs.Leaving.{came_back}
 use Rattle.hs_agent.specs.Keeping.{Kept, PlainAgent, Point, Holds}
 use Rattle.hs_agent.specs.Points.{sheet_in}
 
@@ -30,6 +32,8 @@ pub record Run (L : Type 0) : Type 0 where
   pub buffers : List (Buffer L)
   -- the place of the chunk that was offered and not answered yet
   pub offered : Option ℕ
+  -- whether the log and all that is noted can be had
+  pub keeps : Bool
 
 -- what the model comes to
 abbrev pub state_of : {L : Type 0} → Run L → AgentState
@@ -37,7 +41,11 @@ state_of run = after_from run.settings run.node run.start run.events
 
 -- an agent at its beginning
 abbrev pub new_run : {L : Type 0} → PlainSettings → ℕ → Run L
-new_run settings node = record { settings = settings; node = node; start = start settings; events = []; buffers = []; offered = None }
+new_run settings node = record { settings = settings; node = node; start = start settings; events = []; buffers = []; offered = None; keeps = true }
+
+-- one that keeps no journal
+abbrev pub bare_run : {L : Type 0} → PlainSettings → ℕ → Run L
+bare_run settings node = record (new_run settings node) { keeps = false }
 
 -- the place of the first of the hand
 abbrev pub first_place : AgentState → Option ℕ
@@ -45,7 +53,7 @@ first_place state = slice_get state.hand 0
 
 -- where the run has come to
 abbrev pub point_of : {L : Type 0} → Run L → Point L
-point_of run = record { settings = run.settings; node = run.node; state = state_of run; buffers = run.buffers; offered = run.offered }
+point_of run = record { settings = run.settings; node = run.node; state = state_of run; buffers = run.buffers; offered = run.offered; again = came_back (state_of run).log; keeps = run.keeps }
 
 -- the shares of the trigger ids, and the page size
 abbrev pub schedule_of : {L : Type 0} → Point L → Schedule
@@ -58,11 +66,20 @@ pub record StandsAt {L : Type 0} (kept : Kept L) (schedule : Schedule) (point : 
   pub is_schedule : IsSchedule schedule
   pub nodes : point.settings.nodes ≤ MOST_NODES
 
+-- the log, where it is kept
+abbrev pub log_of : {L : Type 0} → Run L → List Step
+log_of run = if run.keeps then (state_of run).log else []
+
+-- a log with a step more, where it is kept
+abbrev pub logged : Bool → List Step → Step → List Step
+logged keeps log step = if keeps then log ++ step ∷ [] else log
+
 -- Memory never failed the agent, and what it keeps is what this run says.
 pub record Follows {L : Type 0} (agent : PlainAgent L) (run : Run L) : Type 0 where
   pub working : agent.spent ≡ false
   pub stands : StandsAt agent.kept agent.schedule (point_of run)
-  pub log : agent.log ≡ (state_of run).log
+  pub keeps : agent.keeps ≡ run.keeps
+  pub log : agent.log ≡ log_of run
   pub good : PlacesMatch run.start
 
 -- the run that begins where the group was forgotten

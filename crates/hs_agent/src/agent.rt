@@ -1,22 +1,23 @@
 //! The agent.
 
 ghost use Rattle.hs_law_agent.specs.Lives.{is_settled};
-ghost use Rattle.std.specs.Prelude.{◌≡◌, ◌≤◌, [], length, map, true, false, None, IsSome, IfOk, IfNone, IsErr, OnOk, OnErr};
+ghost use Rattle.std.specs.Prelude.{◌≡◌, ◌+◌, ◌<◌, ◌≤◌, [], ◌∷◌, ◌++◌, length, map, true, false, None, IsSome, IsNone, IfOk, IfSome, IfNone, IsErr, OnOk, OnErr};
 ghost use Rattle.hs_base.specs.Rules.{AreRules};
 ghost use Rattle.hs_records.specs.Plain.{settings_of};
 ghost use Rattle.hs_words.specs.Buffers.{buffer_of, buffer_in};
 ghost use Rattle.hs_records.specs.Books.{agent_book_of};
 ghost use Rattle.hs_sched.specs.Turns.{IsSize};
-ghost use Rattle.hs_law_agent.specs.Books.{book_of};
 ghost use Rattle.hs_law_agent.specs.Laws.{PlacesMatch};
 ghost use Rattle.hs_law_agent.specs.Stepping.{step_of, step_of_answer, told_by};
 ghost use Rattle.hs_law_agent.specs.Turning as model;
 ghost use Rattle.hs_agent.specs.Keeping.{Point, Holds, HoldsThat, with_state};
-ghost use Rattle.hs_agent.specs.Runs.{Run, point_of, state_of, new_run, StandsAt, Follows, Knows, IsSpent, IsTakable, input_of, taken_in, after_input, after_chunk, after_turn, told_in, IsChunkFor, offered_next, after_offer, answer_of, back_in, after_answer, forgetting};
-ghost use Rattle.hs_agent.specs.Points.{buffers_left};
+ghost use Rattle.hs_agent.specs.Runs.{Run, point_of, state_of, new_run, bare_run, StandsAt, Follows, Knows, IsSpent, IsTakable, input_of, taken_in, after_input, after_chunk, after_turn, told_in, IsChunkFor, offered_next, after_offer, answer_of, back_in, after_answer, forgetting, logged};
+ghost use Rattle.hs_agent.specs.Points.{book_kept, buffers_left};
+ghost use Rattle.hs_agent.specs.Firsts.{IsFirst};
 
 mod trying;
 
+use crate::hand::First;
 use crate::holdings::Holdings;
 use crate::input::{Finished, Input};
 use hs_base::limits::MOST_NODES;
@@ -35,7 +36,9 @@ use std::marker::Model;
 pub struct Agent<L: Token> {
     holdings: Holdings<L>,
     scheduler: Scheduler,
+    /// Nothing stands here in a bare agent.
     log: List<Step>,
+    keeps: bool,
     spent: bool,
 }
 
@@ -65,6 +68,26 @@ impl<L: Token> Agent<L> {
             holdings,
             scheduler,
             log: List::new(alloc),
+            keeps: true,
+            spent: false,
+        })
+    }
+
+    /// An agent that has taken nothing, and keeps no journal: its log, and what it notes of chunks, claims and pages, take no
+    /// memory, now or later.
+    pub fn bare(alloc: Global, node: NodeId, settings: &Settings) -> Result<Agent<L>, Memory>
+        requires rules { AreRules settings.now.triggers.items }
+        requires size { IsSize settings.now.size }
+        requires nodes { settings.now.nodes ≤ MOST_NODES }
+        ensures { IfOk result (λ agent. Follows agent (bare_run (settings_of settings.now) node.0)) }
+    {
+        let scheduler = Scheduler::make(alloc, &settings.triggers, settings.size)?;
+        let holdings = Holdings::bare(alloc, node, settings)?;
+        Ok(Agent {
+            holdings,
+            scheduler,
+            log: List::new(alloc),
+            keeps: false,
             spent: false,
         })
     }
@@ -97,10 +120,10 @@ impl<L: Token> Agent<L> {
     {
         events_lead_on();
         lists_go_on();
-        self.log.reserve(2)?;
+        room_for(&mut self.log, self.keeps, 2)?;
         let step = step_of(&input);
         let told = take_input(&mut self.scheduler, &mut self.holdings, input)?;
-        self.log.push(step);
+        note(&mut self.log, self.keeps, step);
         Ok(told)
     }
 
@@ -146,9 +169,9 @@ impl<L: Token> Agent<L> {
     {
         events_lead_on();
         lists_go_on();
-        self.log.reserve(2)?;
+        room_for(&mut self.log, self.keeps, 2)?;
         turn(&mut self.scheduler, &mut self.holdings)?;
-        self.log.push(Step::Turn);
+        note(&mut self.log, self.keeps, Step::Turn);
         Ok(())
     }
 
@@ -164,7 +187,7 @@ impl<L: Token> Agent<L> {
         if self.spent {
             return Err(Memory);
         }
-        match self.first() {
+        match self.take_first() {
             Ok(first) => Ok(first),
             Err(_) => {
                 self.spent = true;
@@ -174,14 +197,14 @@ impl<L: Token> Agent<L> {
     }
 
     /// The first of the hand where memory was never wanting, with room to note the answer.
-    fn first(&mut self) -> Result<Option<Held<L>>, Memory>
+    fn take_first(&mut self) -> Result<Option<Held<L>>, Memory>
         requires { (run : Run L) × Follows self.old run × (run.offered ≡ None) }
         ensures first { (run : Run L) → Follows self.old run → IfOk result (λ first. buffer_in first ≡ offered_next run) }
         ensures empty { (run : Run L) → Follows self.old run → IfOk result (λ first. IfNone first ((state_of run).hand ≡ [])) }
         ensures after { (run : Run L) → Follows self.old run → OnOk result (Follows self.new (after_offer run)) }
     {
         lists_go_on();
-        self.log.reserve(1)?;
+        room_for(&mut self.log, self.keeps, 1)?;
         self.holdings.offer()
     }
 
@@ -200,7 +223,7 @@ impl<L: Token> Agent<L> {
         lists_go_on();
         let (step, back) = answer_in(given);
         self.holdings.answer(back);
-        self.log.push(step);
+        note(&mut self.log, self.keeps, step);
     }
 
     /// Forgets a group for which nothing is pinned: its claims, their crumbs, and that it was abandoned. Answers whether it
@@ -220,7 +243,31 @@ impl<L: Token> Agent<L> {
         self.holdings.forget(group)
     }
 
-    /// The steps that were noted so far, in order: one for each input, and one for each answer of the pool.
+    /// The first of the hand, which is offered next: its chunk, the lease with which it came last, why it left, and whether
+    /// it was offered before. `None` where the hand is empty, or the agent is spent. It takes no memory.
+    pub fn first(&self) -> Option<First<'_, L>>
+        requires { Knows self.now (λ run. run.offered ≡ None) }
+        ensures first { (run : Run L) → Follows self.now run → run.offered ≡ None
+            → IfSome result (λ first. IsFirst run first.chunk.now first.lease.now first.left first.again) }
+        ensures empty { (run : Run L) → Follows self.now run → run.offered ≡ None → IfNone result ((state_of run).hand ≡ []) }
+        ensures idle { IsSpent self.now → IsNone result }
+    {
+        if self.spent {
+            return None;
+        }
+        lists_go_on();
+        self.holdings.first()
+    }
+
+    /// How many triggers were admitted.
+    pub fn admitted(&self) -> u32
+        ensures { (run : Run L) → Follows self.now run → result ≡ (state_of run).admitted }
+    {
+        self.holdings.admitted()
+    }
+
+    /// The steps that were noted so far, in order: one for each input, and one for each answer of the pool. A bare agent notes
+    /// none.
     pub fn log(&self) -> &List<Step>
         ensures { result.now.items ≡ self.now.log }
     {
@@ -241,10 +288,11 @@ impl<L: Token> Agent<L> {
         self.holdings.in_hand()
     }
 
-    /// The book of the agent, and the chunks that it has left. An agent that found no memory once has neither.
+    /// The book of the agent, which is empty where no journal was kept, and the chunks that it has left. An agent that found no
+    /// memory once has neither.
     pub fn finish(self) -> Result<Finished<L>, Memory>
         requires { Knows self (λ run. ((state_of run).pinned ≡ []) × (run.offered ≡ None)) }
-        ensures book { (run : Run L) → Follows self run → IfOk result (λ finished. agent_book_of finished.book ≡ book_of run.node (state_of run)) }
+        ensures book { (run : Run L) → Follows self run → IfOk result (λ finished. agent_book_of finished.book ≡ book_kept run.keeps run.node (state_of run)) }
         ensures rest { (run : Run L) → Follows self run → IfOk result (λ finished. map buffer_of finished.rest.items ≡ buffers_left (point_of run)) }
         ensures stays { IsSpent self → IsErr result }
     {
@@ -257,10 +305,34 @@ impl<L: Token> Agent<L> {
             holdings,
             scheduler,
             log,
+            keeps: _,
             spent: _,
         } = self;
         drop(scheduler);
         holdings.finish(log)
+    }
+}
+
+/// Makes room in a log that is kept.
+fn room_for(log: &mut List<Step>, keeps: bool, more: usize) -> Result<(), Memory>
+    ensures items { log.new.items ≡ log.old.items }
+    ensures ok { OnOk result (keeps ≡ true → length log.new.items + more ≤ log.new.room) }
+    ensures err { OnErr result (log.new ≡ log.old) }
+{
+    if keeps {
+        return log.reserve(more);
+    }
+    Ok(())
+}
+
+/// Notes a step in a log that is kept, where there is room.
+fn note(log: &mut List<Step>, keeps: bool, step: Step)
+    requires { keeps ≡ true → length log.old.items < log.old.room }
+    ensures items { log.new.items ≡ logged keeps log.old.items step }
+    ensures room { log.old.room ≤ log.new.room }
+{
+    if keeps {
+        log.push(step);
     }
 }
 

@@ -1,17 +1,14 @@
 //! The chunks of an agent, wherever they are, and what it notes of them.
 
-ghost use Rattle.std.specs.Prelude.{◌≡◌, ◌+◌, ◌<◌, ◌^◌, ℕ, true, List, [], ◌∷◌, ◌++◌, length, None, Some, Option, IfOk, IfSome, IfNone, OnOk, OnErr, IsSome, All, Ok, map, filter_map, slice_get, slice_set, ◌≤◌};
+ghost use Rattle.std.specs.Prelude.{◌≡◌, ◌+◌, ◌<◌, ◌^◌, ℕ, Bool, true, List, [], ◌∷◌, ◌++◌, length, None, Some, Option, IfOk, IfSome, IfNone, OnOk, OnErr, IsSome, All, Ok, map, filter_map, slice_get, slice_set, ◌≤◌};
 ghost use Rattle.std.specs.List.{AllByRecursion};
 ghost use Rattle.hs_base.specs.Rules.{AreRules, is_declared};
 ghost use Rattle.hs_records.specs.Plain.{PlainSettings, settings_of};
-ghost use Rattle.std.specs.Option.{option_map_or};
-ghost use Rattle.hs_words.specs.Pages.{page_bytes};
 ghost use Rattle.hs_words.specs.Buffers.{Buffer, buffer_of, buffer_in};
 ghost use Rattle.hs_words.specs.Chunks.{used_in};
 ghost use Rattle.hs_law_agent.specs.State.{AgentState, start};
 ghost use Rattle.hs_law_agent.specs.Lives.{is_settled, forget_group};
-ghost use Rattle.hs_pins.specs.Priorities.{same_group};
-ghost use Rattle.std.specs.Prelude.{false, not, filter};
+ghost use Rattle.std.specs.Prelude.{false};
 ghost use Rattle.hs_pins.specs.Remembered.{Remembered, claim_of, claim_for, pin_of};
 ghost use Rattle.hs_pins.specs.Abandoning.{drops, relieved};
 ghost use Rattle.hs_pins.specs.PinsLayout.{Remembers, KnowsThat};
@@ -21,38 +18,41 @@ ghost use Rattle.hs_law_agent.specs.Claiming.{traces_of, claim_unclaimed};
 ghost use Rattle.hs_law_agent.specs.Stepping as model;
 ghost use Rattle.hs_agent.specs.declared.placed.ArrivalPlace.{ArrivalPlace};
 ghost use Rattle.hs_records.specs.Books.{agent_book_of};
-ghost use Rattle.hs_law_agent.specs.Books.{book_of};
 ghost use Rattle.hs_law_agent.specs.Laws.{IsInOnePlace};
 ghost use Rattle.hs_agent.specs.Placing.{place_of, placed_at, pledges_in, IsPledged, HandsOut, HaveOwnPlaces, lent};
-ghost use Rattle.hs_agent.specs.Keeping.{Point, Holds, HoldsThat, with_state};
-ghost use Rattle.hs_agent.specs.LettingGo.{let_go, let_go_all, with_fate, reported, abandoned_fate, evicted_going, abandoned_going, reported_going};
+ghost use Rattle.hs_agent.specs.Keeping.{Point, first_point, Holds, HoldsThat, with_state};
+ghost use Rattle.hs_agent.specs.Parting.{going_of, hand_of};
+ghost use Rattle.hs_agent.specs.LettingGo.{let_go, let_go_all, reported, evicted_going, abandoned_going, reported_going};
 ghost use Rattle.hs_agent.specs.Arriving.{noted, indexed};
-ghost use Rattle.hs_agent.specs.Offering.{Offers, answered};
-ghost use Rattle.hs_agent.specs.Points.{chunk_taken, crumb_taken, trigger_taken, claimed_for, ask_by, buffers_left};
+ghost use Rattle.hs_agent.specs.Offering.{Offers, answered, Leads};
+ghost use Rattle.hs_agent.specs.Points.{chunk_taken, crumb_taken, trigger_taken, claimed_for, ask_by, book_kept, buffers_left};
 
 mod claiming;
 mod trying;
 
+use crate::claim_notes::ClaimNotes;
+use crate::hand::{First, Leave, Left, Out, Parting};
 use crate::holdings::trying::evict_into;
 use crate::input::Finished;
+use crate::pages::Pages;
 use crate::placed::{ArrivalPlace, Pledge};
+use crate::standings::Standings;
 use hs_base::limits::MOST_NODES;
 use hs_base::{
-    Ask, Bytes, Crumb, Fate, Group, GroupId, List, Memory, NodeId, NodeSet, Settings, Told,
-    TraceId, Trigger, TriggerId, Why, rank_of,
+    Ask, Crumb, Group, GroupId, List, Memory, NodeId, NodeSet, Settings, Told, TraceId, Trigger,
+    TriggerId, Why,
 };
 use hs_index::TraceIndex;
-use hs_pins::{Admitted, Dropped, Pins, is_group};
-use hs_records::{AgentBook, Claim, Standing, Step};
+use hs_pins::{Admitted, Dropped, Pins};
+use hs_records::{AgentBook, Step};
 use hs_sched::Queues;
-use hs_words::{Chunk, Held, Token};
+use hs_words::{Held, Token};
 use std::alloc::Global;
 use std::collections::VecDeque;
 use std::marker::Model;
-use std::mem::replace;
 
-/// The chunks that an agent has, each in the index, pinned, or in the hand, and of each chunk that it took its fate so
-/// far. A chunk is named by its place in the order of arrival.
+/// The chunks that an agent has, each in the index, pinned, or in the hand, and what it notes of each chunk that it took. A
+/// chunk is named by its place in the order of arrival.
 #[derive(Drop)]
 pub struct Holdings<L: Token> {
     alloc: Global,
@@ -62,14 +62,14 @@ pub struct Holdings<L: Token> {
     /// What the turn that is under way has sent. There is room for all that is pinned.
     sent: VecDeque<Dropped<ArrivalPlace>>,
     /// The chunks whose buffers are to be given back, the next one first, but for the one that was offered.
-    hand: VecDeque<Held<ArrivalPlace>>,
+    hand: VecDeque<Parting>,
     /// The chunk that was offered to the pool and not answered yet. There is room in the hand for it to come back.
-    offered: Option<ArrivalPlace>,
-    /// Of each chunk that was taken.
-    standings: List<Standing>,
-    claims: List<Claim>,
-    /// The bytes of the reported pages.
-    pages: List<Bytes>,
+    offered: Option<Out>,
+    /// Whether the first of the hand was offered before, and came back.
+    again: bool,
+    standings: Standings,
+    claims: ClaimNotes,
+    pages: Pages,
     /// The lease of each chunk that was taken, but of the one that was offered and not answered, and of those that were given.
     leases: List<Option<Pledge<L>>>,
 }
@@ -87,10 +87,55 @@ impl<L: Token> Model for Holdings<L> {
 }
 
 impl<L: Token> Holdings<L> {
-    /// Nothing.
+    /// Nothing. What is noted can be had at the end.
     pub fn make(alloc: Global, node: NodeId, settings: &Settings) -> Result<Holdings<L>, Memory>
         requires { AreRules settings.now.triggers.items }
-        ensures { IfOk result (λ holdings. Holds holdings (record { settings = settings_of settings.now; node = node.0; state = start (settings_of settings.now); buffers = []; offered = None })) }
+        ensures { IfOk result (λ holdings. Holds holdings (first_point (settings_of settings.now) node.0 true)) }
+    {
+        let standings = Standings::new(alloc);
+        let claims = ClaimNotes::new(alloc);
+        let pages = Pages::new(alloc);
+        Holdings::empty(alloc, node, settings, standings, claims, pages)
+    }
+
+    /// Nothing. What is noted is for clauses alone. The hand has room for all buffers, and what a turn sends for all chunks.
+    pub fn bare(alloc: Global, node: NodeId, settings: &Settings) -> Result<Holdings<L>, Memory>
+        requires { AreRules settings.now.triggers.items }
+        ensures { IfOk result (λ holdings. Holds holdings (first_point (settings_of settings.now) node.0 false)) }
+    {
+        let standings = Standings::bare();
+        let claims = ClaimNotes::bare();
+        let pages = Pages::bare();
+        let mut holdings = Holdings::empty(alloc, node, settings, standings, claims, pages)?;
+        holdings.fill(settings)?;
+        Ok(holdings)
+    }
+
+    /// Takes the memory for all buffers in the hand, and for all chunks in what a turn sends.
+    fn fill(&mut self, settings: &Settings) -> Result<(), Memory>
+        ensures { self.new ≡ self.old }
+    {
+        self.hand
+            .reserve((settings.buffers as usize).saturating_add(2))?;
+        let waiting = (settings.pins as usize).saturating_add(settings.threshold as usize);
+        self.sent.reserve(waiting.saturating_add(2))?;
+        Ok(())
+    }
+
+    /// Nothing, with these notes, which are empty.
+    fn empty(
+        alloc: Global,
+        node: NodeId,
+        settings: &Settings,
+        standings: Standings,
+        claims: ClaimNotes,
+        pages: Pages,
+    ) -> Result<Holdings<L>, Memory>
+        requires rules { AreRules settings.now.triggers.items }
+        requires standings { standings.items ≡ [] }
+        requires claims { (claims.items ≡ []) × (claims.keeps ≡ standings.keeps) }
+        requires pages { (pages.items ≡ []) × (pages.keeps ≡ standings.keeps) }
+        ensures { IfOk result (λ holdings. Holds holdings (first_point (settings_of settings.now) node.0 standings.keeps)) }
     {
         Ok(Holdings {
             alloc,
@@ -100,9 +145,10 @@ impl<L: Token> Holdings<L> {
             sent: VecDeque::new(alloc),
             hand: VecDeque::new(alloc),
             offered: None,
-            standings: List::new(alloc),
-            claims: List::new(alloc),
-            pages: List::new(alloc),
+            again: false,
+            standings,
+            claims,
+            pages,
             leases: List::new(alloc),
         })
     }
@@ -157,7 +203,7 @@ impl<L: Token> Holdings<L> {
         if !did {
             return false;
         }
-        drop_notes(self.alloc, &mut self.claims, group);
+        self.claims.forget(self.alloc, group);
         true
     }
 
@@ -227,30 +273,30 @@ impl<L: Token> Holdings<L> {
         crumbs
     }
 
-    /// Notes a chunk's fate, and puts it last into the hand, where a place stays free for a chunk that comes back.
-    fn let_go(&mut self, held: Held<ArrivalPlace>, fate: Fate) -> Result<(), Memory>
-        ensures { OnOk result (self.new ≡ let_go self.old (record { buffer = buffer_of held; fate = fate })) }
+    /// Notes why a chunk left, and puts it last into the hand, where a place stays free for a chunk that comes back.
+    fn let_go(&mut self, parting: Parting) -> Result<(), Memory>
+        ensures { OnOk result (self.new ≡ let_go self.old (going_of parting)) }
     {
-        note_fate(&mut self.standings, held.lease, fate);
+        self.standings.leave(Leave {
+            place: parting.held.lease,
+            left: parting.left,
+        });
         self.hand.reserve(2)?;
-        self.hand.push_back_reserved(held);
+        self.hand.push_back_reserved(parting);
         Ok(())
     }
 
-    /// Reports what a turn sent: notes the fates, keeps the bytes of the pages, and puts the chunks last into the hand.
+    /// Reports what a turn sent: notes that the chunks were reported and the bytes of their pages, and puts them last into
+    /// the hand.
     pub fn report(&mut self) -> Result<(), Memory>
         requires { All (λ pin. IsSome pin.chunk.chunk.page) self.old.sent }
         ensures { OnOk result (self.new ≡ reported self.old) }
     {
         while let Some(dropped) = self.sent.pop_front() {
             let Dropped { held, group } = dropped;
-            let page = page_of(self.alloc, &held.chunk)?;
-            self.pages.append(page)?;
-            let fate = Fate::Reported {
-                trigger: group.trigger,
-                lead: group.lead,
-            };
-            self.let_go(held, fate)?;
+            self.pages.append(self.alloc, &held.chunk)?;
+            let left = Left::Reported(group);
+            self.let_go(Parting { held, left })?;
         }
         Ok(())
     }
@@ -264,10 +310,13 @@ impl<L: Token> Holdings<L> {
         ensures none { IfOk result (λ first. IfNone first ((self.old.hand ≡ []) × (self.new ≡ self.old))) }
     {
         self.hand.reserve(1)?;
-        let Some(held) = self.hand.pop_front() else {
+        let Some(Parting { held, left }) = self.hand.pop_front() else {
             return Ok(None);
         };
-        self.offered = Some(held.lease);
+        self.offered = Some(Out {
+            place: held.lease,
+            left,
+        });
         Ok(Some(with_lease(&mut self.leases, held)))
     }
 
@@ -276,14 +325,38 @@ impl<L: Token> Holdings<L> {
         requires { IfSome self.old.offered (λ place. place < length self.old.leases) × IsSome self.old.offered }
         ensures { self.new ≡ answered (buffer_in back) self.old }
     {
-        let Some(place) = self.offered.take() else {
+        let Some(Out { place, left }) = self.offered.take() else {
             unreachable!()
         };
         let Some(held) = back else {
+            self.again = false;
             return;
         };
+        self.again = true;
         let held = put_lease(&mut self.leases, place, held);
-        self.hand.push_front_reserved(held);
+        self.hand.push_front_reserved(Parting { held, left });
+    }
+
+    /// The first of the hand, with the lease with which it came last. `None` where the hand is empty.
+    pub fn first(&self) -> Option<First<'_, L>>
+        requires { AllByRecursion (IsPledged self.now.leases) self.now.hand }
+        ensures some { IfSome result (λ first. Leads self.now first.chunk.now first.lease.now first.left first.again) }
+        ensures none { IfNone result (self.now.hand ≡ []) }
+    {
+        let parting = self.hand.front()?;
+        Some(First {
+            chunk: &parting.held.chunk,
+            lease: lease_of(&self.leases, &parting.held),
+            left: parting.left,
+            again: self.again,
+        })
+    }
+
+    /// How many triggers were admitted.
+    pub fn admitted(&self) -> u32
+        ensures { (memory : Remembered ArrivalPlace) → Remembers self.now.pins memory → result ≡ memory.admitted }
+    {
+        self.pins.admitted()
     }
 
     /// How many chunks are pinned.
@@ -300,18 +373,18 @@ impl<L: Token> Holdings<L> {
         self.hand.len()
     }
 
-    /// What is left at the end, with these steps.
+    /// What is left at the end, with these steps. The book is empty where nothing was kept.
     pub fn finish(self, log: List<Step>) -> Result<Finished<L>, Memory>
         requires { HoldsThat self (λ point. (point.offered ≡ None) × ((place : ℕ) → IsInOnePlace point.state place)) }
-        ensures book { (point : Point L) → Holds self point → IfOk result (λ finished. agent_book_of finished.book ≡ record (book_of point.node point.state) { log = log.items }) }
+        ensures book { (point : Point L) → Holds self point → IfOk result (λ finished. agent_book_of finished.book ≡ record (book_kept point.keeps point.node point.state) { log = log.items }) }
         ensures rest { (point : Point L) → Holds self point → point.offered ≡ None → IfOk result (λ finished. map buffer_of finished.rest.items ≡ buffers_left point) }
     {
         let book = AgentBook {
             node: self.node,
             log,
-            standings: self.standings,
-            claims: self.claims,
-            sent: self.pages,
+            standings: self.standings.into_list(self.alloc),
+            claims: self.claims.into_list(self.alloc),
+            sent: self.pages.into_list(self.alloc),
         };
         let rest = rest_of(self.alloc, self.index, self.hand, self.leases);
         finished(book, rest)
@@ -337,48 +410,14 @@ impl<L: Token> Queues for Holdings<L> {
     }
 }
 
-/// Drops the notes of a group's claims.
-fn drop_notes(alloc: Global, claims: &mut List<Claim>, group: Group)
-    ensures { claims.new.items ≡ filter (λ (claim : _). not (same_group group claim.group)) claims.old.items }
+/// The lease with which a chunk came last.
+fn lease_of<'a, L: Token>(leases: &'a List<Option<Pledge<L>>>, held: &Held<ArrivalPlace>) -> &'a L
+    requires { IsPledged (pledges_in leases.now.items) (buffer_of held.now) }
+    ensures { slice_get (pledges_in leases.now.items) held.now.lease.0 ≡ Some (Some (record { lease = result.now; number = held.now.chunk.number })) }
 {
-    let mut kept = replace(claims, List::new(alloc)).into_vec();
-    kept.retain(
-        |claim: &Claim| -> bool
-            ensures { result ≡ not (same_group group claim.now.group) }
-        { !is_group(&group, &claim.group) },
-    );
-    *claims = List::from_vec(kept);
-}
-
-/// The fate of a chunk whose group is abandoned.
-fn abandoned(group: Group) -> Fate
-    ensures { result ≡ abandoned_fate group }
-{
-    Fate::Abandoned {
-        trigger: group.trigger,
-        lead: group.lead,
-        rank: rank_of(group.lead),
-    }
-}
-
-/// The bytes of a chunk's page.
-fn page_of(alloc: Global, chunk: &Chunk) -> Result<Bytes, Memory>
-    requires { IsSome chunk.now.page }
-    ensures { IfOk result (λ page. page.items ≡ option_map_or page_bytes chunk.now.page []) }
-{
-    let mut page = Bytes::new(alloc);
-    page.append_slice(chunk.bytes())?;
-    Ok(page)
-}
-
-/// Notes a chunk's fate, where it has a standing.
-fn note_fate(standings: &mut List<Standing>, place: ArrivalPlace, fate: Fate)
-    ensures { standings.new.items ≡ with_fate place.0 fate standings.old.items }
-{
-    let standings = standings.as_mut_slice();
-    let place = place.0 as usize;
-    if place < standings.len() {
-        standings[place].fate = fate;
+    match leases.get(held.lease.0 as usize) {
+        Some(Some(pledge)) => &pledge.lease,
+        _ => unreachable!(),
     }
 }
 
@@ -440,16 +479,31 @@ fn finished<L: Token>(
 fn rest_of<L: Token>(
     alloc: Global,
     index: TraceIndex<ArrivalPlace>,
-    hand: VecDeque<Held<ArrivalPlace>>,
+    hand: VecDeque<Parting>,
     leases: List<Option<Pledge<L>>>,
 ) -> Result<List<Held<L>>, Memory>
-    requires apart { HaveOwnPlaces (chunks_left index.touched ++ map buffer_of hand.items) }
-    requires pledged { AllByRecursion (IsPledged (pledges_in leases.items)) (chunks_left index.touched ++ map buffer_of hand.items) }
-    ensures { IfOk result (λ rest. map buffer_of rest.items ≡ filter_map (lent (pledges_in leases.items)) (chunks_left index.touched ++ map buffer_of hand.items)) }
+    requires apart { HaveOwnPlaces (chunks_left index.touched ++ hand_of hand.items) }
+    requires pledged { AllByRecursion (IsPledged (pledges_in leases.items)) (chunks_left index.touched ++ hand_of hand.items) }
+    ensures { IfOk result (λ rest. map buffer_of rest.items ≡ filter_map (lent (pledges_in leases.items)) (chunks_left index.touched ++ hand_of hand.items)) }
 {
     let indexed = index.finish()?;
+    let hand = chunks_of(alloc, hand)?;
     let all = put_before(indexed, hand)?;
     with_leases(alloc, leases, all)
+}
+
+/// The chunks of the hand.
+fn chunks_of(
+    alloc: Global,
+    mut hand: VecDeque<Parting>,
+) -> Result<VecDeque<Held<ArrivalPlace>>, Memory>
+    ensures { IfOk result (λ chunks. map buffer_of chunks.items ≡ hand_of hand.items) }
+{
+    let mut chunks = VecDeque::new(alloc);
+    while let Some(Parting { held, left: _ }) = hand.pop_front() {
+        chunks.push_back(held)?;
+    }
+    Ok(chunks)
 }
 
 /// Puts chunks before those of the hand.

@@ -3,11 +3,16 @@
 #![tactic(auto)]
 
 mod agent;
+mod claim_notes;
+mod hand;
 mod holdings;
 mod input;
 mod laws;
+mod pages;
 mod placed;
+mod standings;
 
 pub use agent::Agent;
+pub use hand::{First, Left};
 pub use input::{Finished, Input};
 pub use laws::{any_calls_meet_the_model, few_are_admitted};

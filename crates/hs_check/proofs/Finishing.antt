@@ -2,6 +2,7 @@
 use Rattle.std.proofs.Common.{◌≡◌, ℕ, ◌+◌, ◌<◌, List, [], ◌∷◌, ◌++◌, length, map, drop, get_or, None, refl, sym, ap, ◌∙◌, arith, append-nil, append_assoc}
 use Rattle.hs_check.proofs.Prelude.{map-append, drop_all, found_at, found_as_many, agent_book_of, AgentBook, NodeRun, AgentState, PlainSettings, IsAgentOf, AreAgentsOf, book_at}
 use Rattle.hs_agent.specs.Keeping.{PlainAgent}
+use Rattle.hs_agent.specs.Points.{book_kept}
 use Rattle.hs_agent.specs.Runs as agents
 use Rattle.hs_check_follow.specs.Nodes.{agent_run}
 use Rattle.hs_records.specs.Books.{PlainAgentBook}
@@ -22,7 +23,7 @@ module _ (settings : PlainSettings) (runs : List NodeRun) (all : List (PlainAgen
 
   -- with its book there is one more
   pub one_more : (i : ℕ) (agent : PlainAgent (Unit {0})) (books : List AgentBook) (book : AgentBook) → i < length all → agent ≡ get_or all i agent
-      → ((run : agents.Run (Unit {0})) → agents.Follows agent run → agent_book_of book ≡ book_of run.node (agents.state_of run))
+      → ((run : agents.Run (Unit {0})) → agents.Follows agent run → agent_book_of book ≡ book_kept run.keeps run.node (agents.state_of run))
       → AreBooksSo runs i books → AreBooksSo runs (i + 1) (books ++ book ∷ [])
   one_more i agent books book low here noted so =
       let at = found_at (IsAgentOf settings) runs all i agent are low here in

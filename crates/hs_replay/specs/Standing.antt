@@ -51,7 +51,7 @@ pub record ReplayClientsStand (W : PlainWorkload) (m : Machine) (node : ℕ) (lo
 
 -- the run of the agent at a node's run, where the chunks came in these buffers
 abbrev pub run_of : PlainSettings → NodeRun → List (Buffer (Unit {0})) → Option ℕ → agents.Run (Unit {0})
-run_of settings run buffers offered = record { settings = settings; node = run.node; start = start settings; events = run.events; buffers = buffers; offered = offered }
+run_of settings run buffers offered = record { settings = settings; node = run.node; start = start settings; events = run.events; buffers = buffers; offered = offered; keeps = true }
 
 -- the buffer that the page of a chunk drew
 abbrev pub buffer_drawn : NodeRun → Buffer (Unit {0}) → Option ℕ

@@ -79,7 +79,7 @@ pub record IsPooled (W : PlainWorkload) (pool : PoolName) (buffer : Buffer Lease
 
 -- the run of the agent, where its chunks came last in these buffers
 abbrev pub run_at : PlainWorkload → NodeWork → List (Buffer Leased) → Option ℕ → Run Leased
-run_at W work buffers offered = record { settings = W.settings; node = work.node; start = start W.settings; events = work.events; buffers = buffers; offered = offered }
+run_at W work buffers offered = record { settings = W.settings; node = work.node; start = start W.settings; events = work.events; buffers = buffers; offered = offered; keeps = true }
 
 abbrev pub state_at : PlainWorkload → NodeWork → AgentState
 state_at W work = after W.settings work.node work.events

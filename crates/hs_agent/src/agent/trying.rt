@@ -7,7 +7,7 @@ ghost use Rattle.hs_law_agent.specs.Stepping.{Crumbed, Triggered, Asked, told_by
 ghost use Rattle.hs_agent.specs.Runs.{Run, state_of, Follows, Knows, IsSpent, IsChunkFor, after_chunk};
 ghost use Rattle.hs_agent.specs.Tries.{after_crumb, after_trigger, after_ask};
 
-use super::Agent;
+use super::{Agent, note, room_for};
 use hs_base::{Ask, Crumb, Memory, Told, Trigger, Why};
 use hs_law_agent::laws::events_lead_on;
 use hs_records::Step;
@@ -37,11 +37,11 @@ impl<L: Token> Agent<L> {
         ensures back { IfErr result (λ back. buffer_of back ≡ buffer_of held) }
     {
         events_lead_on();
-        let Ok(()) = self.log.reserve(2) else {
+        let Ok(()) = room_for(&mut self.log, self.keeps, 2) else {
             return Err(held);
         };
         self.holdings.try_chunk(held)?;
-        self.log.push(Step::Chunk { client });
+        note(&mut self.log, self.keeps, Step::Chunk { client });
         Ok(())
     }
 
@@ -68,9 +68,9 @@ impl<L: Token> Agent<L> {
         ensures same { OnErr result (self.new ≡ self.old) }
     {
         events_lead_on();
-        self.log.reserve(2)?;
+        room_for(&mut self.log, self.keeps, 2)?;
         let told = self.holdings.take_crumb(crumb)?;
-        self.log.push(Step::Crumb { client });
+        note(&mut self.log, self.keeps, Step::Crumb { client });
         Ok(told)
     }
 
@@ -97,9 +97,9 @@ impl<L: Token> Agent<L> {
         ensures same { OnErr result (self.new ≡ self.old) }
     {
         events_lead_on();
-        self.log.reserve(2)?;
+        room_for(&mut self.log, self.keeps, 2)?;
         let told = self.holdings.take_trigger(trigger)?;
-        self.log.push(Step::Trigger { client });
+        note(&mut self.log, self.keeps, Step::Trigger { client });
         Ok(told)
     }
 
@@ -126,9 +126,9 @@ impl<L: Token> Agent<L> {
         ensures same { OnErr result (self.new ≡ self.old) }
     {
         events_lead_on();
-        self.log.reserve(2)?;
+        room_for(&mut self.log, self.keeps, 2)?;
         let told = self.holdings.take_ask(ask, Why::Answer)?;
-        self.log.push(Step::Ask);
+        note(&mut self.log, self.keeps, Step::Ask);
         Ok(told)
     }
 }

@@ -10,8 +10,9 @@ ghost use Rattle.hs_agent.specs.Points.{claimed_for};
 
 use super::Holdings;
 use super::trying::drop_into;
+use crate::claim_notes::ClaimNotes;
 use crate::placed::ArrivalPlace;
-use hs_base::{Ask, List, Memory, TraceId};
+use hs_base::{Ask, Memory, TraceId};
 use hs_index::TraceIndex;
 use hs_pins::{Claiming, Taken2};
 use hs_records::Claim;
@@ -42,16 +43,17 @@ impl<L: Token> Holdings<L> {
 /// Claims the lead and the laterals that nobody claimed. There is room.
 fn claim_all<L: Token>(
     index: &mut TraceIndex<ArrivalPlace>,
-    notes: &mut List<Claim>,
+    notes: &mut ClaimNotes,
     claiming: &mut Claiming<ArrivalPlace>,
     ask: &Ask,
 )
     requires known { (kept : Kept L) × (pins : Pinning ArrivalPlace) × (point : Point L) × IsClaiming ask.now kept pins index.old notes.old.items claiming.old point }
     requires traces { length ask.now.laterals + 1 ≤ claiming.old.traces }
-    requires notes { length notes.old.items + (length ask.now.laterals + 1) ≤ notes.old.room }
+    requires notes { notes.old.keeps ≡ true → length notes.old.items + (length ask.now.laterals + 1) ≤ notes.old.room }
     ensures after { (kept : Kept L) (pins : Pinning ArrivalPlace) (point : Point L) → IsClaiming ask.now kept pins index.old notes.old.items claiming.old point
         → IsClaiming ask.now kept pins index.new notes.new.items claiming.new (with_state (claim_each ask.now point.state) point) }
     ensures ready { claiming.new.ready ≡ claiming.old.ready }
+    ensures keeps { notes.new.keeps ≡ notes.old.keeps }
 {
     claim_one::<L>(index, notes, claiming, ask, ask.group.lead);
     for place in 0..ask.laterals.len() {
@@ -65,20 +67,21 @@ fn claim_all<L: Token>(
 /// Claims a trace, unless it is claimed already. There is room.
 fn claim_one<L: Token>(
     index: &mut TraceIndex<ArrivalPlace>,
-    notes: &mut List<Claim>,
+    notes: &mut ClaimNotes,
     claiming: &mut Claiming<ArrivalPlace>,
     ask: &Ask,
     trace: TraceId,
 )
     requires known { (kept : Kept L) × (pins : Pinning ArrivalPlace) × (point : Point L) × IsClaiming ask.now kept pins index.old notes.old.items claiming.old point }
     requires traces { 1 ≤ claiming.old.traces }
-    requires notes { length notes.old.items < notes.old.room }
+    requires notes { notes.old.keeps ≡ true → length notes.old.items < notes.old.room }
     ensures after { (kept : Kept L) (pins : Pinning ArrivalPlace) (point : Point L) → IsClaiming ask.now kept pins index.old notes.old.items claiming.old point
         → IsClaiming ask.now kept pins index.new notes.new.items claiming.new (with_state (claim_unclaimed ask.now point.state trace) point) }
     ensures traces { claiming.old.traces ≤ claiming.new.traces + 1 }
     ensures notes { length notes.new.items ≤ length notes.old.items + 1 }
     ensures room { notes.old.room ≤ notes.new.room }
     ensures ready { claiming.new.ready ≡ claiming.old.ready }
+    ensures keeps { notes.new.keeps ≡ notes.old.keeps }
 {
     if claiming.has(trace) {
         return;

@@ -1,6 +1,6 @@
 //! Chunks that come to an agent, where all memory is asked for first.
 
-ghost use Rattle.std.specs.Prelude.{◌≡◌, ◌+◌, ◌<◌, ◌≤◌, ◌^◌, ◌++◌, length, map, OnOk, OnErr, OnSome, IfErr, IfSome, IsSome};
+ghost use Rattle.std.specs.Prelude.{◌≡◌, ◌+◌, ◌<◌, ◌≤◌, ◌^◌, ◌++◌, true, length, map, OnOk, OnErr, OnSome, IfErr, IfSome, IsSome};
 ghost use Rattle.std.specs.VecDeque.{deque_len, deque_capacity};
 ghost use Rattle.hs_words.specs.Buffers.{buffer_of};
 ghost use Rattle.hs_index.specs.Index.{leaving_of};
@@ -9,17 +9,19 @@ ghost use Rattle.hs_pins.specs.PinsLayout.{Remembers, KnowsThat};
 ghost use Rattle.hs_agent.specs.declared.placed.ArrivalPlace.{ArrivalPlace};
 ghost use Rattle.hs_agent.specs.Placing.{placed_at};
 ghost use Rattle.hs_agent.specs.Keeping.{Point, Holds, HoldsThat};
-ghost use Rattle.hs_agent.specs.LettingGo.{Going, evicted_going, abandoned_going};
+ghost use Rattle.hs_agent.specs.Parting.{going_of};
+ghost use Rattle.hs_agent.specs.LettingGo.{evicted_going, abandoned_going};
 ghost use Rattle.hs_agent.specs.Arriving.{noted, indexed};
-ghost use Rattle.hs_agent.specs.Trying.{fates_noted, ComesToPins};
+ghost use Rattle.hs_agent.specs.Trying.{lefts_noted, ComesToPins};
 ghost use Rattle.hs_agent.specs.Points.{chunk_taken};
 
-use super::{Holdings, abandoned, note_fate};
+use super::Holdings;
+use crate::hand::{Leave, Left, Mark, Parting};
 use crate::placed::{ArrivalPlace, Pledge};
-use hs_base::{Fate, List};
+use crate::standings::Standings;
+use hs_base::List;
 use hs_index::Gone;
 use hs_pins::Dropped;
-use hs_records::Standing;
 use hs_words::{Header, Held, Token};
 use std::collections::VecDeque;
 
@@ -67,10 +69,10 @@ impl<L: Token> Holdings<L> {
                 Err(Held { chunk, lease })
             }
             Ok(gone) => {
-                self.standings.push(Standing {
+                self.standings.push(Mark {
                     client: header.client,
                     page: header.page,
-                    fate: Fate::Live,
+                    left: None,
                 });
                 self.leases.push(Some(Pledge { lease, number }));
                 evict_into(&mut self.standings, &mut self.hand, gone);
@@ -109,10 +111,10 @@ impl<L: Token> Holdings<L> {
                 Err(Held { chunk, lease })
             }
             Ok(gone) => {
-                self.standings.push(Standing {
+                self.standings.push(Mark {
                     client: header.client,
                     page: header.page,
-                    fate: Fate::Live,
+                    left: None,
                 });
                 self.leases.push(Some(Pledge { lease, number }));
                 drop_into(&mut self.standings, &mut self.hand, gone);
@@ -122,15 +124,16 @@ impl<L: Token> Holdings<L> {
     }
 }
 
-/// Notes the fates of what the index evicted, and puts it last into the hand, which has room for it.
+/// Notes that the index evicted these, and puts them last into the hand, which has room for them.
 pub(super) fn evict_into(
-    standings: &mut List<Standing>,
-    hand: &mut VecDeque<Held<ArrivalPlace>>,
+    standings: &mut Standings,
+    hand: &mut VecDeque<Parting>,
     gone: List<Gone<ArrivalPlace>>,
 )
     requires { deque_len hand.old + length gone.items ≤ deque_capacity hand.old }
-    ensures fates { standings.new.items ≡ fates_noted standings.old.items (map evicted_going (map leaving_of gone.items)) }
-    ensures hand { map buffer_of hand.new.items ≡ map buffer_of hand.old.items ++ map (λ (going : Going). going.buffer) (map evicted_going (map leaving_of gone.items)) }
+    ensures lefts { standings.new.items ≡ lefts_noted standings.old.items (map evicted_going (map leaving_of gone.items)) }
+    ensures keeps { standings.new.keeps ≡ standings.old.keeps }
+    ensures hand { map going_of hand.new.items ≡ map going_of hand.old.items ++ map evicted_going (map leaving_of gone.items) }
     ensures len { deque_len hand.new ≡ deque_len hand.old + length gone.items }
     ensures capacity { deque_capacity hand.new ≡ deque_capacity hand.old }
 {
@@ -140,39 +143,45 @@ pub(super) fn evict_into(
             chunks,
             traces,
         } = leaving;
-        note_fate(standings, held.lease, Fate::Evicted { chunks, traces });
-        hand.push_back_reserved(held);
+        let place = held.lease;
+        let left = Left::Evicted { chunks, traces };
+        standings.leave(Leave { place, left });
+        hand.push_back_reserved(Parting { held, left });
     }
 }
 
-/// Notes the fates of chunks whose groups are abandoned, and puts them last into the hand, which has room for them.
+/// Notes that these were abandoned with their groups, and puts them last into the hand, which has room for them.
 pub(super) fn drop_into(
-    standings: &mut List<Standing>,
-    hand: &mut VecDeque<Held<ArrivalPlace>>,
+    standings: &mut Standings,
+    hand: &mut VecDeque<Parting>,
     gone: List<Dropped<ArrivalPlace>>,
 )
     requires { deque_len hand.old + length gone.items ≤ deque_capacity hand.old }
-    ensures fates { standings.new.items ≡ fates_noted standings.old.items (map abandoned_going (map pin_of gone.items)) }
-    ensures hand { map buffer_of hand.new.items ≡ map buffer_of hand.old.items ++ map (λ (going : Going). going.buffer) (map abandoned_going (map pin_of gone.items)) }
+    ensures lefts { standings.new.items ≡ lefts_noted standings.old.items (map abandoned_going (map pin_of gone.items)) }
+    ensures keeps { standings.new.keeps ≡ standings.old.keeps }
+    ensures hand { map going_of hand.new.items ≡ map going_of hand.old.items ++ map abandoned_going (map pin_of gone.items) }
     ensures len { deque_len hand.new ≡ deque_len hand.old + length gone.items }
     ensures capacity { deque_capacity hand.new ≡ deque_capacity hand.old }
 {
     for dropped in gone.into_vec() {
         let Dropped { held, group } = dropped;
-        note_fate(standings, held.lease, abandoned(group));
-        hand.push_back_reserved(held);
+        let place = held.lease;
+        let left = Left::Abandoned(group);
+        standings.leave(Leave { place, left });
+        hand.push_back_reserved(Parting { held, left });
     }
 }
 
 /// The place of the next chunk, with room to note the chunk, and in the hand for so many to go. `None` where memory is
 /// wanting, or there are no places any more.
 fn next_place<L: Token>(
-    standings: &mut List<Standing>,
+    standings: &mut Standings,
     leases: &mut List<Option<Pledge<L>>>,
-    hand: &mut VecDeque<Held<ArrivalPlace>>,
+    hand: &mut VecDeque<Parting>,
     going: usize,
 ) -> Option<ArrivalPlace>
     ensures standings { standings.new.items ≡ standings.old.items }
+    ensures keeps { standings.new.keeps ≡ standings.old.keeps }
     ensures leases { leases.new.items ≡ leases.old.items }
     ensures hand { hand.new.items ≡ hand.old.items }
     ensures len { deque_len hand.new ≡ deque_len hand.old }
@@ -180,12 +189,12 @@ fn next_place<L: Token>(
     ensures place { IfSome result (λ place. place.0 ≡ length standings.old.items) }
     ensures fits { OnSome result (length standings.old.items + 1 < 2 ^ 32) }
     ensures going { OnSome result (deque_len hand.new + going ≤ deque_capacity hand.new) }
-    ensures standing { OnSome result (length standings.new.items < standings.new.room) }
+    ensures standing { OnSome result (standings.new.keeps ≡ true → length standings.new.items < standings.new.room) }
     ensures lease { OnSome result (length leases.new.items < leases.new.room) }
 {
     let count = standings.len();
-    if count >= u32::MAX as usize
-        || standings.reserve(1).is_err()
+    if count >= u64::from(u32::MAX)
+        || standings.reserve().is_err()
         || leases.reserve(1).is_err()
         || hand.reserve(going).is_err()
     {

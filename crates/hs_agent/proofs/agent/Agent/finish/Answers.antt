@@ -1,5 +1,7 @@
 use Rattle.std.proofs.Common.{◌≡◌, List, None, sym, ap, subst, ◌∙◌}
-use Rattle.hs_agent.proofs.Prelude.{IfOk, agent_book_of, Step, book_of, PlainAgent, Holds, point_of, state_of}
+use Rattle.hs_agent.proofs.Prelude.{IfOk, agent_book_of, Step, PlainAgent, Holds, point_of, state_of}
+use Rattle.hs_agent.specs.Points.{book_kept}
+use Rattle.hs_agent.specs.Runs.{log_of}
 use Rattle.hs_agent.proofs.Following.{one_place}
 use Rattle.hs_agent.proofs.agent.Agent.finish.Goals as goal
 
@@ -13,8 +15,8 @@ finish-requires g c =
 pub returns-clause-book : goal.returns-clause-book
 returns-clause-book g c = λ run follows.
     let h : Holds c.self.inside.holdings (point_of run) = subst (λ (k : PlainAgent g.row.L.Denot). Holds k.kept (point_of run)) (sym c.self.view_is) follows.stands.chunks in
-    let log : c.self.inside.log.items ≡ (state_of run).log = ap (λ (k : PlainAgent g.row.L.Denot). k.log) c.self.view_is ∙ follows.log in
-    subst (λ (l : List Step). IfOk c.finish.result (λ finished. agent_book_of finished.book ≡ record (book_of run.node (state_of run)) { log = l })) log (c.finish.ensures.book (point_of run) h)
+    let log : c.self.inside.log.items ≡ log_of run = ap (λ (k : PlainAgent g.row.L.Denot). k.log) c.self.view_is ∙ follows.log in
+    subst (λ (l : List Step). IfOk c.finish.result (λ finished. agent_book_of finished.book ≡ record (book_kept run.keeps run.node (state_of run)) { log = l })) log (c.finish.ensures.book (point_of run) h)
 
 pub returns-clause-rest : goal.returns-clause-rest
 returns-clause-rest g c = λ run follows.

@@ -1,38 +1,32 @@
-use Rattle.std.proofs.Common.{◌≡◌, None, sym, ap, subst, ◌∙◌}
-use Rattle.hs_agent.proofs.Prelude.{AllByRecursion, on_ok_weaker, all_weaker, all_back, Placed, IsPledged, PlainAgent, Holds, IsKept, waiting_chunks, point_of}
-use Rattle.hs_agent.proofs.Offered.{offers-first, offers-empty, offers-holds}
-use Rattle.hs_agent.proofs.Following.{follows-offered, one_place}
+use Rattle.std.proofs.Common.{◌≡◌, Option, Some, None, sym, ap, subst, ◌∙◌}
+use Rattle.std.specs.Prelude.{IfNone}
+use Rattle.hs_agent.proofs.Prelude.{AllByRecursion, IfSome, IsPledged, PlainAgent, Holds, point_of}
+use Rattle.hs_agent.proofs.Following.{one_place}
+use Rattle.hs_agent.proofs.Leading.{pledged_hand, none_there, is_first}
 use Rattle.hs_agent.proofs.agent.Agent.first.Goals as goal
 
-pub offer-requires-clause-pledged : goal.offer-requires-clause-pledged
-offer-requires-clause-pledged g c =
-    let run = c.requires.0 in
-    let kept = c.args.self.now.kept in
-    let h : Holds kept (point_of run) = c.requires.1.stands.chunks in
-    let each = all_back (IsKept kept.leases run.buffers) (waiting_chunks kept h.memory.pinned) kept.hand h.each in
-    subst (λ (k : PlainAgent g.row.L.Denot). AllByRecursion (IsPledged k.kept.leases) k.kept.hand) (sym c.self.view_is)
-    (all_weaker (IsKept kept.leases run.buffers) (IsPledged kept.leases) (λ (placed : Placed) (k : IsKept kept.leases run.buffers placed). record { lease = k.lease; is = k.kept }) kept.hand each)
+if_some-then : {A : Type 0} {P Q : A → Type 0} (o : Option A) → ((x : A) → P x → Q x) → IfSome o P → IfSome o Q
+if_some-then None f p = tt
+if_some-then (Some x) f p = f x p
+
+if_none-then : {A : Type 0} {P Q : Type 0} (o : Option A) → (P → Q) → IfNone o P → IfNone o Q
+if_none-then None f p = f p
+if_none-then (Some x) f p = tt
+
+pub first-requires : goal.first-requires
+first-requires g c =
+    let known = c.requires (sym (ap (λ (k : PlainAgent g.row.L.Denot). k.spent) c.self.view_is) ∙ c.if-self.false) in
+    let one = one_place c.lists_go_on.ensures c.args.self.now known.0 known.1 in
+    subst (λ (k : PlainAgent g.row.L.Denot). AllByRecursion (IsPledged k.kept.leases) k.kept.hand) (sym c.self.view_is) (pledged_hand c.args.self.now.kept known.0 known.1.stands.chunks one known.2)
 
 pub returns-clause-first : goal.returns-clause-first
-returns-clause-first g c = λ run follows.
-    let kept = c.self.inside.holdings in
-    let h : Holds kept (point_of run) = subst (λ (k : PlainAgent g.row.L.Denot). Holds k.kept (point_of run)) (sym c.self.view_is) follows.stands.chunks in
-    let none : run.offered ≡ None = sym follows.stands.chunks.offered ∙ c.requires.1.stands.chunks.offered ∙ c.requires.2 in
-    offers-first kept c.offer.new.self (point_of run) h (one_place c.lists_go_on.ensures c.args.self.now run follows) none {g = g.L.Token} c.offer.result c.offer.ensures.some c.offer.ensures.none
+returns-clause-first g c = λ run follows none.
+    let h : Holds c.self.inside.holdings (point_of run) = subst (λ (k : PlainAgent g.row.L.Denot). Holds k.kept (point_of run)) (sym c.self.view_is) follows.stands.chunks in
+    let one = one_place c.lists_go_on.ensures c.args.self.now run follows in
+    if_some-then c.first.result (λ first leads. is_first c.self.inside.holdings run h one none first.chunk.now first.lease.now first.left first.again leads) c.first.ensures.some
 
 pub returns-clause-empty : goal.returns-clause-empty
-returns-clause-empty g c = λ run follows.
-    let kept = c.self.inside.holdings in
-    let h : Holds kept (point_of run) = subst (λ (k : PlainAgent g.row.L.Denot). Holds k.kept (point_of run)) (sym c.self.view_is) follows.stands.chunks in
-    let none : run.offered ≡ None = sym follows.stands.chunks.offered ∙ c.requires.1.stands.chunks.offered ∙ c.requires.2 in
-    offers-empty kept c.offer.new.self (point_of run) h (one_place c.lists_go_on.ensures c.args.self.now run follows) none {g = g.L.Token} c.offer.result c.offer.ensures.none
-
-pub returns-clause-after : goal.returns-clause-after
-returns-clause-after g c = λ run follows.
-    let kept = c.self.inside.holdings in
-    let h : Holds kept (point_of run) = subst (λ (k : PlainAgent g.row.L.Denot). Holds k.kept (point_of run)) (sym c.self.view_is) follows.stands.chunks in
-    let none : run.offered ≡ None = sym follows.stands.chunks.offered ∙ c.requires.1.stands.chunks.offered ∙ c.requires.2 in
-    let next : PlainAgent g.row.L.Denot = record { kept = c.offer.new.self; schedule = c.self.inside.scheduler; log = c.reserve.new.self.items; spent = c.self.inside.spent } in
-    on_ok_weaker c.offer.result
-    (follows-offered c.args.self.now next run follows (ap (λ (k : PlainAgent g.row.L.Denot). k.schedule) c.self.view_is) (c.in_ok-reserve.ensures.items ∙ ap (λ (k : PlainAgent g.row.L.Denot). k.log) c.self.view_is) (ap (λ (k : PlainAgent g.row.L.Denot). k.spent) c.self.view_is))
-    (offers-holds kept c.offer.new.self (point_of run) h (one_place c.lists_go_on.ensures c.args.self.now run follows) none {g = g.L.Token} c.offer.result c.offer.ensures.some c.offer.ensures.none)
+returns-clause-empty g c = λ run follows none.
+    let h : Holds c.self.inside.holdings (point_of run) = subst (λ (k : PlainAgent g.row.L.Denot). Holds k.kept (point_of run)) (sym c.self.view_is) follows.stands.chunks in
+    let one = one_place c.lists_go_on.ensures c.args.self.now run follows in
+    if_none-then c.first.result (none_there c.self.inside.holdings run h one none) c.first.ensures.none

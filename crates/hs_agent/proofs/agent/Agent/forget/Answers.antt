@@ -17,6 +17,7 @@ returns-clause-after g c = λ run follows did.
     record {
       working = ap (λ (k : PlainAgent g.row.L.Denot). k.spent) c.self.view_is ∙ follows.working;
       stands = record { chunks = c.forget.ensures.after (point_of run) stands.chunks did; shares = stands.shares; is_schedule = stands.is_schedule; nodes = stands.nodes };
+      keeps = ap (λ (k : PlainAgent g.row.L.Denot). k.keeps) c.self.view_is ∙ follows.keeps;
       log = ap (λ (k : PlainAgent g.row.L.Denot). k.log) c.self.view_is ∙ follows.log;
       good = places_now c.lists_go_on.ensures c.args.self.now run follows;
     }

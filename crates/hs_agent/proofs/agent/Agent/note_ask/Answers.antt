@@ -7,6 +7,7 @@ use Rattle.hs_agent.specs.Tries.{after_ask}
 use Rattle.hs_agent.proofs.Following.{follows-taken, nothing-came, stands-then}
 use Rattle.hs_agent.proofs.Offered.{holds-rest}
 use Rattle.hs_agent.proofs.Unchanged.{claim-shares}
+use Rattle.hs_agent.specs.Runs.{logged}
 use Rattle.hs_agent.proofs.agent.Agent.note_ask.Goals as goal
 
 pub take_ask-requires : goal.take_ask-requires
@@ -24,7 +25,7 @@ pub returns-clause-after : goal.returns-clause-after
 returns-clause-after g c = λ run follows.
     let ask = c.args.ask.now in
     let stands : StandsAt c.self.inside.holdings c.self.inside.scheduler (point_of run) = subst (λ (k : PlainAgent g.row.L.Denot). StandsAt k.kept k.schedule (point_of run)) (sym c.self.view_is) follows.stands in
-    let after : PlainAgent g.row.L.Denot = record { kept = c.take_ask.new.self; schedule = c.self.inside.scheduler; log = c.push.new.self.items; spent = c.self.inside.spent } in
+    let after : PlainAgent g.row.L.Denot = record { kept = c.take_ask.new.self; schedule = c.self.inside.scheduler; log = c.note.new.log.items; keeps = c.self.inside.keeps; spent = c.self.inside.spent } in
     let input : Input g.row.L.Denot g.L.Token = inputs.Ask ask in
     let claimed : Point g.row.L.Denot = claimed_for ask (point_of run) in
     let said = claimed.state.said ++ told_of (state_of run).crumbs ask Answer ∷ [] in
@@ -34,5 +35,6 @@ returns-clause-after g c = λ run follows.
     (nothing-came c.take_ask.new.self c.self.inside.scheduler next
     (stands-then c.self.inside.holdings c.take_ask.new.self c.self.inside.scheduler (point_of run) next stands refl (claim-shares run.settings ask (state_of run))
     (holds-rest c.take_ask.new.self claimed said claimed.state.given claimed.state.log claimed.state.shares (c.in_ok-told.ensures.after (point_of run) stands.chunks))))
-    (c.push.ensures.items ∙ (λ i. (c.in_ok-reserve.ensures.items ∙ ap (λ (k : PlainAgent g.row.L.Denot). k.log) c.self.view_is) i ++ steps.Ask ∷ []))
+    (c.note.ensures.items ∙ (λ i. logged ((c.self.view_is i).keeps) ((c.in_ok-room_for.ensures.items ∙ ap (λ (k : PlainAgent g.row.L.Denot). k.log) c.self.view_is) i) (steps.Ask)))
+    (ap (λ (k : PlainAgent g.row.L.Denot). k.keeps) c.self.view_is)
     (ap (λ (k : PlainAgent g.row.L.Denot). k.spent) c.self.view_is))

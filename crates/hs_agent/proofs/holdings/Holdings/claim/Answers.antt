@@ -1,11 +1,11 @@
-use Rattle.std.proofs.Common.{◌≡◌, ◌≤◌, ◌++◌, true, length, map, sym, ap, subst, ◌∙◌, arith}
+use Rattle.std.proofs.Common.{◌≡◌, ◌≤◌, List, ◌++◌, true, length, map, sym, ap, subst, ◌∙◌, arith}
 use Rattle.hs_base.specs.Rules.{is_declared}
-use Rattle.hs_agent.proofs.Prelude.{buffer_of, pin_of, leaving, relieved, staying_few, drops, claim_each, ArrivalPlace, Kept, Holds, Point, with_state, kept_in, abandoned_going, claimed_for}
+use Rattle.hs_agent.proofs.Prelude.{option_map, option_to_list, Left, Out, Going, going_buffer, going_left, going_of, hand_of, pin_of, leaving, relieved, staying_few, drops, claim_each, Kept, Holds, Point, with_state, kept_in, abandoned_going, claimed_for}
 use Rattle.hs_pins.specs.Opens.{restored}
 use Rattle.hs_agent.specs.Asking.{IsClaiming}
-use Rattle.hs_agent.specs.Trying.{fates_noted}
+use Rattle.hs_agent.specs.Trying.{lefts_noted}
 use Rattle.hs_agent.proofs.Asking.{declared-too, asked-begun, asked-ends, pinned_few}
-use Rattle.hs_agent.proofs.Emptying.{buffers_in, let_go_parts}
+use Rattle.hs_agent.proofs.Emptying.{hand_more, lefts_more, let_go_parts}
 use Rattle.hs_agent.proofs.Relieving.{holds-abandoned}
 use Rattle.hs_agent.proofs.holdings.Holdings.claim.Goals as goal
 
@@ -25,6 +25,9 @@ claim_all-requires-clause-known g c =
     (asked-begun ask kept c.open.new.self c.in_ok-claiming.claiming c.requires.0 c.chunks-chunks.result h c.in_ok-claiming.ensures.back c.in_ok-claiming.ensures.group c.in_ok-claiming.ensures.laterals declared
     c.in_ok-claiming.ensures.most (c.in_ok-claiming.ensures.ready h.memory h.remembers) c.in_ok-claiming.ensures.chunks c.chunks-chunks.ensures.value) in
     (kept, c.open.new.self, c.requires.0, begun)
+
+pub claim_all-requires-clause-notes : goal.claim_all-requires-clause-notes
+claim_all-requires-clause-notes g c = λ keeps. let ok = c.in_ok-reserve.ensures.ok keeps in let len = c.len.ensures.value in omega (arith, ok, len)
 
 pub close-gone-requires : goal.close-gone-requires
 close-gone-requires g c =
@@ -89,6 +92,8 @@ invariant_of-self-2 g c =
     record {
       sent = (relieved memory, c.close-gone.ensures.after memory k.holds.remembers, omega (arith, fewer, pinned, same, ready, chunks, sent));
       hand = λ out. omega (arith, few, pinned, same, ready, chunks, room, len, capacity);
+      claims = c.claim_all.ensures.keeps ∙ c.reserve.ensures.keeps ∙ c.self.invariant.claims ∙ sym c.drop_into.ensures.keeps;
+      pages = c.self.invariant.pages ∙ sym c.drop_into.ensures.keeps;
     }
 
 pub returns-clause-after : goal.returns-clause-after
@@ -108,10 +113,13 @@ returns-clause-after g c = λ point known.
     let memory = k.holds.memory in
     let opened : Kept g.row.L.Denot = record kept { index = c.claim_all.new.index; claims = c.claim_all.new.notes.items; pins = restored c.open.new.self c.claim_all.new.claiming } in
     let goings : map abandoned_going (map pin_of c.close-gone.result.items) ≡ map abandoned_going (drops memory) = ap (map abandoned_going) (c.close-gone.ensures.gone memory k.holds.remembers) in
-    let standings : c.drop_into.new.standings.items ≡ fates_noted kept.standings (map abandoned_going (drops memory)) = c.drop_into.ensures.fates ∙ ap (fates_noted kept.standings) goings in
-    let hand : map (buffer_of {L = ArrivalPlace}) c.drop_into.new.hand.items ≡ kept.hand ++ buffers_in (map abandoned_going (drops memory)) =
-    c.drop_into.ensures.hand ∙ (λ i. map (buffer_of {L = ArrivalPlace}) (c.reserve-3.ensures.items i) ++ buffers_in (goings i)) in
+    let standings : c.drop_into.new.standings.items ≡ lefts_noted kept.standings (map abandoned_going (drops memory)) = c.drop_into.ensures.lefts ∙ ap (lefts_noted kept.standings) goings in
+    let goes : List Going = map abandoned_going (drops memory) in
+    let out : List Left = option_to_list (option_map (λ (o : Out). o.left) c.self.inside.offered) in
+    let now : map going_of c.drop_into.new.hand.items ≡ map going_of c.self.inside.hand.items ++ goes = c.drop_into.ensures.hand ∙ (λ i. map going_of (c.reserve-3.ensures.items i) ++ goings i) in
+    let hand : hand_of c.drop_into.new.hand.items ≡ kept.hand ++ map going_buffer goes = hand_more (map going_of c.drop_into.new.hand.items) (map going_of c.self.inside.hand.items) goes now in
+    let lefts : out ++ map going_left (map going_of c.drop_into.new.hand.items) ≡ kept.lefts ++ map going_left goes = lefts_more out (map going_of c.drop_into.new.hand.items) (map going_of c.self.inside.hand.items) goes now in
     subst (λ (kk : Kept g.row.L.Denot). Holds kk (claimed_for ask point))
     (let_go_parts (record opened { pins = c.close-gone.new.self }) (map abandoned_going (drops memory))
-    ∙ (λ i. record opened { pins = c.close-gone.new.self; sent = map pin_of (sym c.reserve-2.ensures.items i); standings = sym standings i; hand = sym hand i }))
+    ∙ (λ i. record opened { pins = c.close-gone.new.self; sent = map pin_of (sym c.reserve-2.ensures.items i); standings = sym standings i; hand = sym hand i; lefts = sym lefts i; keeps = sym c.drop_into.ensures.keeps i }))
     (holds-abandoned opened c.close-gone.new.self next k.holds (c.close-gone.ensures.after memory k.holds.remembers))

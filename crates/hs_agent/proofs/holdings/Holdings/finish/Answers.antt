@@ -1,7 +1,7 @@
-use Rattle.std.proofs.Common.{◌≡◌, ◌++◌, map, sym, ap, subst, ◌∙◌}
-use Rattle.hs_agent.proofs.Prelude.{Result, IfOk, filter_map, AllByRecursion, buffer_of, agent_book_of, chunks_left, IsPledged, HaveOwnPlaces, lent, Kept, kept_in}
+use Rattle.std.proofs.Common.{◌≡◌, cond, [], ◌++◌, map, sym, ap, subst, ◌∙◌}
+use Rattle.hs_agent.proofs.Prelude.{standing_by, Result, IfOk, filter_map, AllByRecursion, buffer_of, agent_book_of, chunks_left, IsPledged, HaveOwnPlaces, lent, Kept, kept_in}
 use Rattle.hs_agent.proofs.OwnPlaces.{own_left}
-use Rattle.hs_agent.proofs.Left.{if_ok-then, book_in, book_left, pledged_left, lent_left}
+use Rattle.hs_agent.proofs.LeftOver.{if_ok-then, book_in, book_left, pledged_left, lent_left}
 use Rattle.hs_agent.proofs.holdings.Holdings.finish.Goals as goal
 
 pub rest_of-rest-requires-clause-apart : goal.rest_of-rest-requires-clause-apart
@@ -15,7 +15,16 @@ rest_of-rest-requires-clause-pledged g c =
 pub returns-clause-book : goal.returns-clause-book
 returns-clause-book g c = λ point h.
     if_ok-then c.finished.result (λ finished e.
-    ap agent_book_of e ∙ ap (book_in {L = g.row.L.Denot} c.args.log.items) c.self.view_is ∙ book_left c.args.self point h c.args.log.items) c.finished.ensures.book
+    ap agent_book_of e
+    ∙ (λ i. record { node = c.self.inside.node; log = c.args.log.items; standings = c.into_list.ensures i; claims = c.into_list-2.ensures i; sent = c.into_list-3.ensures i })
+    ∙ (λ i. record {
+      node = c.self.inside.node;
+      log = c.args.log.items;
+      standings = cond c.self.inside.standings.keeps (map standing_by c.self.inside.standings.items) [];
+      claims = cond (c.self.invariant.claims i) c.self.inside.claims.items [];
+      sent = cond (c.self.invariant.pages i) c.self.inside.pages.items [];
+    })
+    ∙ ap (book_in {L = g.row.L.Denot} c.args.log.items) c.self.view_is ∙ book_left c.args.self point h c.args.log.items) c.finished.ensures.book
 
 pub returns-clause-rest : goal.returns-clause-rest
 returns-clause-rest g c = λ point h none.

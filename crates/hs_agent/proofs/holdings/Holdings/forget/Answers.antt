@@ -19,4 +19,4 @@ pub returns-clause-after : goal.returns-clause-after
 returns-clause-after g c = λ point known did.
     let kept = kept_in {L = g.row.L.Denot} {g = g.L.Token} c.self.inside in
     let h : Holds kept point = subst (λ k. Holds k point) (sym c.self.view_is) known in
-    holds_forgot kept point h c.args.group _ (c.forget-did.ensures.after h.memory h.remembers c.if-not-did.false) c.drop_notes.ensures refl
+    holds_forgot kept point h c.args.group _ (c.forget-did.ensures.after h.memory h.remembers c.if-not-did.false) c.forget.ensures.items refl

@@ -1,10 +1,9 @@
-use Rattle.std.proofs.Common.{◌≡◌, List, [], ◌∷◌, ◌++◌, length, map, Some, option_map, sym, ap, subst, ◌∙◌, arith}
-use Rattle.hs_agent.proofs.Prelude.{map-append, buffer_of, Standing, pin_of, arrived, Remembers, Kept, kept_in, Placed, placed_at, pledged_of, pledges_in, Going, abandoned_going, let_go_all, noted, ArrivalPlace}
-use Rattle.hs_base.specs.declared.told.Fate.TheVariants as fates
+use Rattle.std.proofs.Common.{◌≡◌, List, [], ◌∷◌, ◌++◌, length, map, Some, option_map, sym, ap, subst, ◌∙◌, arith, None}
+use Rattle.hs_agent.proofs.Prelude.{map-append, option_to_list, Left, Out, going_buffer, going_left, going_of, hand_of, buffer_of, Mark, pin_of, arrived, Remembers, Kept, kept_in, Placed, placed_at, pledged_of, pledges_in, Going, abandoned_going, let_go_all, noted, ArrivalPlace}
 use Rattle.hs_pins.specs.Receiving.{received, goes_with}
 use Rattle.hs_pins.proofs.Receiving.{length-received}
-use Rattle.hs_agent.specs.Trying.{fates_noted}
-use Rattle.hs_agent.proofs.Emptying.{buffers_in, let_go_parts}
+use Rattle.hs_agent.specs.Trying.{lefts_noted}
+use Rattle.hs_agent.proofs.Emptying.{hand_more, lefts_more, let_go_parts}
 use Rattle.hs_agent.proofs.holdings.Holdings.pin.Goals as goal
 
 pub receive-requires-clause-claimed : goal.receive-requires-clause-claimed
@@ -49,6 +48,8 @@ invariant_of-self-in-Ok-receive g c =
     record {
       sent = (received memory (placed_at c.in-Some.place.0 buffer), c.in-Ok-receive.ensures.after memory remembers, omega (arith, more, chunks, room, sent, pinned, fits, here));
       hand = λ out. omega (arith, few, chunks, room, reserved, len, capacity, pinned, fits, here);
+      claims = c.self.invariant.claims ∙ sym (c.drop_into.ensures.keeps ∙ c.push.ensures.keeps ∙ c.next_place.ensures.keeps);
+      pages = c.self.invariant.pages ∙ sym (c.drop_into.ensures.keeps ∙ c.push.ensures.keeps ∙ c.next_place.ensures.keeps);
     }
 
 pub returns-in-Ok-receive-clause-ok : goal.returns-in-Ok-receive-clause-ok
@@ -63,11 +64,14 @@ returns-in-Ok-receive-clause-ok g c = λ memory known.
     let goes : List Going = map abandoned_going (goes_with memory (placed_at (length kept.standings) buffer)) in
     let goings : map abandoned_going (map pin_of c.in-Ok-receive.gone.items) ≡ goes =
     ap (map abandoned_going) (c.in-Ok-receive.ensures.gone memory remembers ∙ ap (goes_with memory) placed) in
-    let new : Standing = record { client = c.args.header.client; page = c.args.header.page; fate = fates.Live } in
-    let standings : c.drop_into.new.standings.items ≡ fates_noted (kept.standings ++ new ∷ []) goes =
-    c.drop_into.ensures.fates ∙ (λ i. fates_noted ((c.push.ensures.items ∙ ap (λ (l : List Standing). l ++ new ∷ []) c.next_place.ensures.standings) i) (goings i)) in
-    let hand : map (buffer_of {L = ArrivalPlace}) c.drop_into.new.hand.items ≡ kept.hand ++ buffers_in goes =
-    c.drop_into.ensures.hand ∙ (λ i. map (buffer_of {L = ArrivalPlace}) (c.next_place.ensures.hand i) ++ buffers_in (goings i)) in
+    let new : Mark = record { client = c.args.header.client; page = c.args.header.page; left = None } in
+    let standings : c.drop_into.new.standings.items ≡ lefts_noted (kept.standings ++ new ∷ []) goes =
+    c.drop_into.ensures.lefts ∙ (λ i. lefts_noted ((c.push.ensures.items ∙ ap (λ (l : List Mark). l ++ new ∷ []) c.next_place.ensures.standings) i) (goings i)) in
+    let out : List Left = option_to_list (option_map (λ (o : Out). o.left) c.self.inside.offered) in
+    let went : map going_of c.drop_into.new.hand.items ≡ map going_of c.self.inside.hand.items ++ goes = c.drop_into.ensures.hand ∙ (λ i. map going_of (c.next_place.ensures.hand i) ++ goings i) in
+    let keeps : c.drop_into.new.standings.keeps ≡ kept.keeps = c.drop_into.ensures.keeps ∙ c.push.ensures.keeps ∙ c.next_place.ensures.keeps in
+    let hand : hand_of c.drop_into.new.hand.items ≡ kept.hand ++ map going_buffer goes = hand_more (map going_of c.drop_into.new.hand.items) (map going_of c.self.inside.hand.items) goes went in
+    let lefts : out ++ map going_left (map going_of c.drop_into.new.hand.items) ≡ kept.lefts ++ map going_left goes = lefts_more out (map going_of c.drop_into.new.hand.items) (map going_of c.self.inside.hand.items) goes went in
     let leases : pledges_in {L = g.row.L.Denot} {g = g.L.Token} c.push-in-Ok-receive.new.self.items ≡ kept.leases ++ Some (record { lease = buffer.lease; number = buffer.chunk.number }) ∷ [] =
     ap (pledges_in {L = g.row.L.Denot} {g = g.L.Token}) c.push-in-Ok-receive.ensures.items
     ∙ map-append (option_map (pledged_of {L = g.row.L.Denot} {g = g.L.Token})) c.next_place.new.leases.items _
@@ -78,7 +82,7 @@ returns-in-Ok-receive-clause-ok g c = λ memory known.
       arrives = subst (λ (p : Placed). Remembers between.0 (arrived memory p)) now between.1;
       remembers = subst (λ (p : Placed). Remembers c.receive.new.self (received memory p)) now (c.in-Ok-receive.ensures.after memory remembers);
       gone =
-          (λ i. record kept { pins = c.receive.new.self; sent = map pin_of (c.reserve.ensures.items i); standings = standings i; leases = leases i; hand = hand i })
+          (λ i. record kept { pins = c.receive.new.self; sent = map pin_of (c.reserve.ensures.items i); standings = standings i; leases = leases i; hand = hand i; lefts = lefts i; keeps = keeps i })
           ∙ sym (let_go_parts (record (noted c.args.header buffer kept) { pins = c.receive.new.self }) goes)
           ∙ ap (λ (k : Kept g.row.L.Denot). let_go_all (record (noted c.args.header buffer k) { pins = c.receive.new.self }) (map abandoned_going (goes_with memory (placed_at (length k.standings) buffer)))) c.self.view_is;
     }

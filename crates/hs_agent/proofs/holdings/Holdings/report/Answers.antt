@@ -12,8 +12,8 @@ none_reported kept none =
     ∙ ap (λ (pages : List (List ℕ)). record kept { sent = []; pages = pages }) (append-nil kept.pages)
     ∙ ap (λ (pins : List (Pin ArrivalPlace)). record kept { sent = pins }) (sym none)
 
-pub page_of-requires : goal.page_of-requires
-page_of-requires g c =
+pub append-requires : goal.append-requires
+append-requires g c =
     let sent : c.loop-dropped.self.sent ≡ pin_of c.in-Some.dropped ∷ map pin_of c.pop_front.new.self.items = sym (ap (λ (k : Kept g.row.L.Denot). k.sent) c.self.view_is) ∙ ap (map pin_of) c.in-Some.ensures.items in
     All-head (λ (pin : Pin ArrivalPlace). IsSome pin.chunk.chunk.page) (pin_of c.in-Some.dropped) (map pin_of c.pop_front.new.self.items)
     (subst (All (λ (pin : Pin ArrivalPlace). IsSome pin.chunk.chunk.page)) sent c.loop-dropped.invariant.1)
@@ -23,10 +23,7 @@ loop-dropped-preserved g c =
     let pin : Pin ArrivalPlace = pin_of c.in-Some.dropped in
     let rest : List (Pin ArrivalPlace) = map pin_of c.pop_front.new.self.items in
     let sent : c.loop-dropped.self.sent ≡ pin ∷ rest = sym (ap (λ (k : Kept g.row.L.Denot). k.sent) c.self.view_is) ∙ ap (map pin_of) c.in-Some.ensures.items in
-    let pages : map (λ page. page.items) c.append.new.self.items ≡ map (λ page. page.items) c.self.inside.pages.items ++ page_in pin ∷ [] =
-    ap (map (λ page. page.items)) c.in_ok-append.ensures.ok
-    ∙ map-append (λ page. page.items) c.self.inside.pages.items (c.in_ok-page.page ∷ [])
-    ∙ ap (λ bytes. map (λ page. page.items) c.self.inside.pages.items ++ bytes ∷ []) c.in_ok-page.ensures in
+    let pages : c.append.new.self.items ≡ c.self.inside.pages.items ++ page_in pin ∷ [] = c.in_ok-append.ensures.ok in
     let next : c.let_go.new.self ≡ let_go (record c.loop-dropped.self { sent = rest; pages = c.loop-dropped.self.pages ++ page_in pin ∷ [] }) (reported_going pin) =
     c.in_ok-let_go.ensures
     ∙ ap (λ (ps : List (List ℕ)). let_go (record (kept_in {L = g.row.L.Denot} {g = g.L.Token} c.self.inside) { sent = rest; pages = ps }) (reported_going pin)) pages

@@ -1,10 +1,10 @@
-use Rattle.std.proofs.Common.{◌≡◌, cond, Some, None, map, ◌++◌, sym, ap, subst, ◌∙◌}
-use Rattle.hs_agent.proofs.Prelude.{option_map, is_some, buffer_of, ArrivalPlace, Claim, claim_of, crumbed, leaving_of, settled, going, late_of, with_touched, Holds, with_state, plain_claim, kept_in, let_go_all, evicted_going, crumb_taken}
+use Rattle.std.proofs.Common.{◌≡◌, cond, List, Some, None, map, ◌++◌, sym, ap, subst, ◌∙◌}
+use Rattle.hs_agent.proofs.Prelude.{option_map, option_to_list, is_some, Left, Out, Going, going_left, going_of, hand_of, Claim, claim_of, crumbed, leaving_of, settled, going, late_of, with_touched, Holds, with_state, plain_claim, kept_in, let_go_all, evicted_going, crumb_taken}
 use Rattle.hs_base.specs.declared.told.Why.TheVariants.{Late}
 use Rattle.hs_pins.specs.Remembered.{has_crumb}
 use Rattle.hs_agent.proofs.Outcomes.{none_mapped, some_mapped, not_false, not_true}
 use Rattle.hs_agent.proofs.Crumbed.{left_touched, holds-touched, takes-touched, tells-nothing, holds-late, tells-late, with_one, claim-crumbed}
-use Rattle.hs_agent.proofs.Emptying.{buffers_in, let_go_from}
+use Rattle.hs_agent.proofs.Emptying.{hand_more, lefts_more, let_go_from}
 use Rattle.hs_agent.proofs.Settling.{holds-settled}
 use Rattle.hs_agent.proofs.holdings.Holdings.take_crumb.Goals as goal
 
@@ -21,9 +21,12 @@ returns-in_default-clause-after g c = λ point known.
     let h : Holds kept point = subst (λ k. Holds k point) (sym c.self.view_is) known in
     let free = none_mapped (λ (claim : Claim). claim.group) (claim_of h.memory.claims c.args.crumb.trace) c.owner.result (c.owner.ensures h.memory h.remembers) (ap is_some c.in_default.is) in
     let touched = with_state (with_touched c.args.crumb point.state) point in
+    let goes : List Going = map evicted_going (map leaving_of c.in_ok-gone.gone.items) in
+    let out : List Left = option_to_list (option_map (λ (o : Out). o.left) c.self.inside.offered) in
+    let now : map going_of c.evict_into.new.hand.items ≡ map going_of c.self.inside.hand.items ++ goes = c.evict_into.ensures.hand ∙ (λ i. map going_of (c.reserve.ensures.items i) ++ goes) in
     subst (λ k. Holds k (crumb_taken c.args.crumb point))
-    (sym (let_go_from kept c.crumb.new.self (map evicted_going (map leaving_of c.in_ok-gone.gone.items)) c.evict_into.new.standings.items (map (buffer_of {L = ArrivalPlace}) c.evict_into.new.hand.items) c.evict_into.ensures.fates
-    (c.evict_into.ensures.hand ∙ (λ i. map (buffer_of {L = ArrivalPlace}) (c.reserve.ensures.items i) ++ buffers_in (map evicted_going (map leaving_of c.in_ok-gone.gone.items))))
+    (sym (let_go_from kept c.crumb.new.self goes c.evict_into.new.standings.items (hand_of c.evict_into.new.hand.items) (out ++ map going_left (map going_of c.evict_into.new.hand.items)) c.evict_into.new.standings.keeps c.evict_into.ensures.lefts
+    (hand_more (map going_of c.evict_into.new.hand.items) (map going_of c.self.inside.hand.items) goes now) (lefts_more out (map going_of c.evict_into.new.hand.items) (map going_of c.self.inside.hand.items) goes now) c.evict_into.ensures.keeps
     ∙ (λ i. let_go_all (record kept { index = c.in_ok-gone.ensures.after i }) (map evicted_going (c.in_ok-gone.ensures.gone i)))))
     (subst (Holds (let_go_all (record kept { index = settled (left_touched kept point h c.args.crumb free).index }) (map evicted_going (going (left_touched kept point h c.args.crumb free).index))))
     (sym (takes-touched kept point h c.args.crumb free))

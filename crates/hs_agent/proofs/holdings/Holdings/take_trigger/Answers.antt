@@ -46,7 +46,7 @@ admit-requires-2-clause-few g c =
 pub invariant_of-self-2 : goal.invariant_of-self-2
 invariant_of-self-2 g c =
     let room = c.self-2.invariant.sent in
-    record { sent = (tried_at room.0 c.args.trigger.now.trigger c.args.trigger.now.moment, c.admit-2.ensures.after room.0 room.1, room.2); hand = c.self-2.invariant.hand }
+    record { sent = (tried_at room.0 c.args.trigger.now.trigger c.args.trigger.now.moment, c.admit-2.ensures.after room.0 room.1, room.2); hand = c.self-2.invariant.hand; claims = c.self-2.invariant.claims; pages = c.self-2.invariant.pages }
 
 pub returns-clause-told : goal.returns-clause-told
 returns-clause-told g c = λ point h0.

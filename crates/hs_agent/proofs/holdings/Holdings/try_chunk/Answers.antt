@@ -1,5 +1,5 @@
 use Rattle.std.proofs.Common.{◌≡◌, ◌+◌, ◌<◌, ◌≤◌, ◌^◌, Some, None, length, sym, ap, subst, ◌∙◌, arith}
-use Rattle.hs_agent.proofs.Prelude.{option_map, option_map_or, option_and_then, is_some, length-map, Header, Sheet, used_of, header_of, buffer_of, Claim, claim_of, Remembers, page_standing, placed_at, Kept, Holds, noted, indexed, chunk_taken}
+use Rattle.hs_agent.proofs.Prelude.{option_map, option_map_or, option_and_then, is_some, length-map, Header, Sheet, used_of, header_of, buffer_of, Claim, claim_of, Remembers, mark_of, placed_at, Kept, Holds, noted, indexed, chunk_taken}
 use Rattle.hs_agent.specs.Trying.{ComesToPins}
 use Rattle.hs_agent.proofs.Outcomes.{none_mapped, some_mapped, of_some, on_ok_both}
 use Rattle.hs_agent.proofs.TakingChunks.{holds-taken_free, holds-taken_claimed}
@@ -16,7 +16,7 @@ pin-requires g c =
     let found = some_mapped (λ (claim : Claim). claim.group) (claim_of h.memory.claims c.in-Some.header.trace) c.owner.result (c.owner.ensures h.memory remembers) (ap is_some c.in-Some-owner.is) in
     let few = h.few in
     let standings = ap length h.standings in
-    let long = length-map point.state.taken page_standing in (
+    let long = length-map point.state.taken mark_of in (
       h.memory,
       h.remembers,
       (
@@ -32,7 +32,7 @@ returns-in-Some-owner-clause-ok g c = λ point h sized.
     let sheet : Sheet = page.0 in
     let header : Some sheet.header ≡ Some c.in-Some.header = sym (ap (option_map header_of) page.1) ∙ sym c.header.ensures ∙ c.in-Some.is in
     let same : c.in-Some.header ≡ sheet.header = cc in
-    let standings : length c.args.self.now.standings ≡ length point.state.taken = ap length h.standings ∙ length-map point.state.taken page_standing in
+    let standings : length c.args.self.now.standings ≡ length point.state.taken = ap length h.standings ∙ length-map point.state.taken mark_of in
     let used = c.used-used.ensures.value in
     let bound = c.used-used.ensures.bound in
     let taken_up : option_map_or used_of c.args.held.chunk.page 0 ≡ used_of sheet = ap (λ p. option_map_or used_of p 0) page.1 in
@@ -54,7 +54,7 @@ returns-in-None-clause-ok g c = λ point h sized.
     let sheet : Sheet = page.0 in
     let header : Some sheet.header ≡ Some c.in-Some.header = sym (ap (option_map header_of) page.1) ∙ sym c.header.ensures ∙ c.in-Some.is in
     let same : c.in-Some.header ≡ sheet.header = cc in
-    let standings : length c.args.self.now.standings ≡ length point.state.taken = ap length h.standings ∙ length-map point.state.taken page_standing in
+    let standings : length c.args.self.now.standings ≡ length point.state.taken = ap length h.standings ∙ length-map point.state.taken mark_of in
     let used = c.used-used.ensures.value in
     let bound = c.used-used.ensures.bound in
     let taken_up : option_map_or used_of c.args.held.chunk.page 0 ≡ used_of sheet = ap (λ p. option_map_or used_of p 0) page.1 in

@@ -15,7 +15,6 @@ pub loop-place-preserved : goal.loop-place-preserved
 loop-place-preserved g c =
     let ask = c.args.ask.now in
     let traces = c.loop-place.invariant.1 in
-    let notes = c.loop-place.invariant.2 in
     let fewer = c.claim_one-in-loop-place.ensures.traces in
     let more_notes = c.claim_one-in-loop-place.ensures.notes in
     let room = c.claim_one-in-loop-place.ensures.room in (
@@ -27,8 +26,9 @@ loop-place-preserved g c =
           subst (λ s. IsClaiming ask kept pins c.claim_one-in-loop-place.new.index c.claim_one-in-loop-place.new.notes.items c.claim_one-in-loop-place.new.claiming (with_state s point)) (sym more)
           (c.claim_one-in-loop-place.ensures.after kept pins (with_state (fold (claim_unclaimed ask) begun (take c.loop-place.place ask.laterals)) point) (c.loop-place.invariant.0 kept pins point k))),
       omega (arith, traces, fewer),
-      omega (arith, notes, more_notes, room),
+      (λ keeps. let notes = c.loop-place.invariant.2 (sym c.claim_one-in-loop-place.ensures.keeps ∙ keeps) in omega (arith, notes, more_notes, room)),
       c.claim_one-in-loop-place.ensures.ready ∙ c.loop-place.invariant.3,
+      c.claim_one-in-loop-place.ensures.keeps ∙ c.loop-place.invariant.4,
     )
 
 pub returns-clause-after : goal.returns-clause-after

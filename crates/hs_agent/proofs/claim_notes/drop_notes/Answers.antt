@@ -3,7 +3,7 @@ use Rattle.std.proofs.lemmas.Fn.{filter_same}
 use Rattle.hs_base.specs.Listing.{Listing}
 use Rattle.hs_records.specs.declared.books.Claim.{Claim}
 use Rattle.hs_pins.specs.Priorities.{same_group}
-use Rattle.hs_agent.proofs.holdings.drop_notes.Goals as goal
+use Rattle.hs_agent.proofs.claim_notes.drop_notes.Goals as goal
 
 pub returns : goal.returns
 returns c =

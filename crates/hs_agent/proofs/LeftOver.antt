@@ -1,7 +1,9 @@
 -- What is left at the end, with the leases that are kept, is what the model has left, each chunk as it came last.
-use Rattle.std.proofs.Common.{◌≡◌, List, [], ◌∷◌, ◌++◌, map, Option, None, option_map, slice_get, refl, sym, ap, ◌∙◌}
-use Rattle.hs_agent.proofs.Prelude.{Result, Ok, Err, IfOk, filter_map, flat_map, AllByRecursion, cons_option, option_and_then, option_to_list, map-append, all_weaker, all_append, all_front, all_back, chunks_left, Buffer, PlainAgentBook, Step, book_of, Taken, indexed_places, Placed, Pledged, place_of, leased, lent, IsPledged, Kept, Holds, Point, IsKept, waiting_chunks}
-use Rattle.hs_agent.specs.Points.{buffers_left}
+use Rattle.std.proofs.Common.{◌≡◌, cond, List, [], ◌∷◌, ◌++◌, map, Option, None, option_map, slice_get, refl, sym, ap, ◌∙◌}
+use Rattle.hs_agent.proofs.Prelude.{ChunkStanding, Pinned, Reported, Evicted, Abandoned, standing_by, mark_of, left_of, fate_of, page_standing, Result, Ok, Err, IfOk, filter_map, flat_map, AllByRecursion, cons_option, option_and_then, option_to_list, map-append, all_weaker, all_append, all_front, all_back, chunks_left, Buffer, PlainAgentBook, Step, Taken, indexed_places, Placed, Pledged, place_of, leased, lent, IsPledged, Kept, Holds, Point, IsKept, waiting_chunks}
+use Rattle.hs_law_agent.specs.Standings.{Indexed}
+use Rattle.hs_agent.specs.Leaving.{fate_by}
+use Rattle.hs_agent.specs.Points.{book_kept, buffers_left}
 use Rattle.hs_agent.proofs.OwnPlaces.{Traced, HasPlaces, have_places}
 
 module _ {L : Type 0} (leases : List (Option (Pledged L))) (buffers : List (Buffer L)) where
@@ -24,11 +26,22 @@ if_ok-then (Err e) f p = tt
 
 -- the book of what is kept, with this log
 abbrev pub book_in : {L : Type 0} → List Step → Kept L → PlainAgentBook
-book_in log kept = record { node = record { 0 = kept.node }; log = log; standings = kept.standings; claims = kept.claims; sent = kept.pages }
+book_in log kept = record { node = record { 0 = kept.node }; log = log; standings = cond kept.keeps (map standing_by kept.standings) []; claims = cond kept.keeps kept.claims []; sent = cond kept.keeps kept.pages [] }
+
+same_fate : (standing : ChunkStanding) → fate_by (left_of standing) ≡ fate_of standing
+same_fate Indexed = refl
+same_fate (Pinned group) = refl
+same_fate (Reported group) = refl
+same_fate (Evicted chunks traces) = refl
+same_fate (Abandoned group) = refl
+
+standings-noted : (taken : List Taken) → map standing_by (map mark_of taken) ≡ map page_standing taken
+standings-noted [] = refl
+standings-noted (chunk ∷ taken) = (λ i. record { client = chunk.sheet.header.client; page = chunk.sheet.header.page; fate = same_fate chunk.standing i } ∷ standings-noted taken i)
 
 module _ {L : Type 0} (kept : Kept L) (point : Point L) (h : Holds kept point) where
-  pub book_left : (log : List Step) → book_in log kept ≡ record (book_of point.node point.state) { log = log }
-  book_left log i = record { node = record { 0 = h.node_is i }; log = log; standings = h.standings i; claims = h.claims i; sent = h.pages i }
+  pub book_left : (log : List Step) → book_in log kept ≡ record (book_kept point.keeps point.node point.state) { log = log }
+  book_left log i = record { node = record { 0 = h.node_is i }; log = log; standings = cond (h.keeps i) ((ap (map standing_by) h.standings ∙ standings-noted point.state.taken) i) []; claims = cond (h.keeps i) (h.claims i) []; sent = cond (h.keeps i) (h.pages i) [] }
 
   each_left : AllByRecursion (IsKept kept.leases point.buffers) (chunks_left kept.index.touched ++ kept.hand)
   each_left =

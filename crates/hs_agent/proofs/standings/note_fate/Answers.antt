@@ -1,7 +1,8 @@
 use Rattle.std.proofs.Common.{◌≡◌, ◌<◌, length, slice_index_or, slice_set, sym, ap, ◌∙◌, arith}
-use Rattle.hs_agent.proofs.Prelude.{option_map_or, slice_get-get_or, written_back, Standing}
+use Rattle.hs_agent.proofs.Prelude.{option_map_or, slice_get-get_or, written_back}
+use Rattle.hs_records.specs.declared.books.Standing.{Standing}
 use Rattle.hs_base.specs.declared.told.Fate.TheVariants.{Null}
-use Rattle.hs_agent.proofs.holdings.note_fate.Goals as goal
+use Rattle.hs_agent.proofs.standings.note_fate.Goals as goal
 
 abbrev none : Standing
 none = record { client = record { node = 0; number = 0 }; page = 0; fate = Null 0 }
