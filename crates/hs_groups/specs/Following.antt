@@ -1,6 +1,8 @@
--- One group, as it is followed: its first message's ask, the nodes that it reached, and those whose ask has no answer yet. A node
--- that a crumb reaches is asked once. An ask is settled by an answer of the latest life of its node that was heard, and by no other.
-use Rattle.std.specs.Prelude.{◌≡◌, ℕ, ◌+◌, Bool, true, false, ◌&&◌, ◌||◌, ◌==◌, List, [], nat_lt, nat_le, map, filter, Option, Some, None, if◌then◌else◌, refl}
+-- One group, as it is followed: its first message's ask, the nodes that it reached, those whose ask has no answer yet, and those whose
+-- ask is still to be sent. A node that a crumb reaches is asked once; once more where a newer life of it is heard before it answered,
+-- and so often as the limit says where it does not answer. An ask is settled by an answer of the latest life of its node that was
+-- heard, and by no other.
+use Rattle.std.specs.Prelude.{◌≡◌, ℕ, ◌+◌, ◌-◌, Bool, true, false, not, ◌&&◌, ◌||◌, ◌==◌, [], nat_lt, nat_le, slice_get, Option, Some, option_map, if◌then◌else◌, refl}
 use Rattle.hs_base.specs.declared.ids.NodeId.{NodeId}
 use Rattle.hs_base.specs.declared.ids.GroupId.{GroupId}
 use Rattle.hs_base.specs.declared.told.Ask.{Ask}
@@ -9,8 +11,7 @@ use Rattle.hs_base.specs.declared.told.Why.{Why}
 use Rattle.hs_base.specs.declared.told.Why.TheVariants.{Fired, Answer, Late}
 use Rattle.hs_base.specs.declared.node_set.NodeSet.{NodeSet}
 use Rattle.hs_base.specs.declared.limits.TheConstants.{MOST_NODES}
-use Rattle.hs_base.specs.NodeSets.{has_node, either, without, one_node, no_nodes}
-use Rattle.hs_groups.specs.declared.answers.Asks.{Asks}
+use Rattle.hs_base.specs.NodeSets.{has_node, nodes_of, either, without, one_node, no_nodes, with_node}
 use Rattle.hs_groups.specs.declared.followed.Followed.{Followed}
 
 -- whether two ids name one group
@@ -28,7 +29,14 @@ answer_of why latest epoch node = if is_answer why && nat_le latest epoch then o
 
 -- a group whose first message a node is about to tell
 abbrev pub begun : NodeId → Told → Followed
-begun node told = record { ask = record { group = told.group; laterals = told.laterals }; asked = one_node node; waiting = no_nodes; tries = 0 }
+begun node told = record {
+  ask = record { group = told.group; laterals = told.laterals };
+  asked = one_node node;
+  waiting = no_nodes;
+  unsent = no_nodes;
+  tries = 0;
+  since = 0;
+}
 
 -- the nodes that a message's crumbs reach first
 abbrev pub fresh_nodes : Followed → Told → NodeSet
@@ -39,26 +47,45 @@ abbrev pub taken : Followed → NodeSet → Told → Followed
 taken followed answered told = record followed {
   asked = either followed.asked told.crumbs;
   waiting = either (without followed.waiting answered) (fresh_nodes followed told);
+  unsent = either (without followed.unsent answered) (fresh_nodes followed told);
 }
 
 -- whether the ask of a node has no answer
 abbrev pub waits_for : Followed → NodeId → Bool
 waits_for followed node = nat_lt node.0 MOST_NODES && has_node followed.waiting node.0
 
--- the asks of these groups that a node has not answered
-abbrev pub asks_waiting : NodeId → List (GroupId × Followed) → List Ask
-asks_waiting node groups = map (λ entry. entry.1.ask) (filter (λ entry. waits_for entry.1 node) groups)
-
 -- whether each ask was answered, or those that were not were asked again as often as may be
 abbrev pub is_settled : Followed → ℕ → Bool
 is_settled followed tries = followed.waiting.0 == 0 || nat_le tries followed.tries
 
--- the asks that have no answer, once more
-abbrev pub asks_again : Followed → ℕ → Option Asks
-asks_again followed tries = if is_settled followed tries then None else Some (record { ask = followed.ask; to = followed.waiting })
+-- a newer life of a node is heard
+abbrev pub renewed : NodeId → Followed → Followed
+renewed node followed = if waits_for followed node then record followed { unsent = with_node followed.unsent node } else followed
 
-abbrev pub tried_again : Followed → ℕ → Followed
-tried_again followed tries = if is_settled followed tries then followed else record followed { tries = followed.tries + 1 }
+-- ---- asks are sent
+
+abbrev pub has_unsent : Followed → Bool
+has_unsent followed = not (followed.unsent.0 == 0)
+
+-- the first node whose ask is to be sent
+abbrev pub first_unsent : Followed → Option NodeId
+first_unsent followed = option_map (λ node. record { 0 = node }) (slice_get (nodes_of followed.unsent) 0)
+
+-- the ask that is to be sent first, with its node
+abbrev pub ask_of : Followed → Option (NodeId × Ask)
+ask_of followed = option_map (λ node. (node, followed.ask)) (first_unsent followed)
+
+-- the ask of a node was sent in this pass
+abbrev pub sent_to : NodeId → ℕ → Followed → Followed
+sent_to node now followed = if nat_lt node.0 MOST_NODES then record followed { unsent = without followed.unsent (one_node node); since = now } else followed
+
+-- whether those that have not answered are to be asked again: each ask was sent, the last one so many passes ago, and the group is not
+-- settled
+abbrev pub is_due : (now wait tries : ℕ) → Followed → Bool
+is_due now wait tries followed = not (has_unsent followed) && (not (is_settled followed tries) && nat_le wait (now - followed.since))
+
+abbrev pub asked_again : (now wait tries : ℕ) → Followed → Followed
+asked_again now wait tries followed = if is_due now wait tries followed then record followed { unsent = followed.waiting; tries = followed.tries + 1; since = now } else followed
 
 -- ---- worked examples: node 0 tells of its group 7
 
@@ -70,24 +97,38 @@ told_of number crumbs why = record {
   why = why;
 }
 
--- its crumb leads to node 1, whose ask waits
-abbrev first : Followed
-first = taken (begun (record { 0 = 0 }) (told_of 7 2 Fired)) no_nodes (told_of 7 2 Fired)
+abbrev pub n : ℕ → NodeId
+n node = record { 0 = node }
 
-node_1_waits : (first.asked ≡ record { 0 = 3 }) × (first.waiting ≡ record { 0 = 2 })
-node_1_waits = (refl, refl)
+-- its crumb leads to node 1, whose ask is to be sent, and waits
+abbrev first : Followed
+first = taken (begun (n 0) (told_of 7 2 Fired)) no_nodes (told_of 7 2 Fired)
+
+node_1_waits : (first.asked ≡ record { 0 = 3 }) × (first.waiting ≡ record { 0 = 2 }) × (first.unsent ≡ record { 0 = 2 })
+node_1_waits = (refl, refl, refl)
+
+node_1_is_next : first_unsent first ≡ Some (n 1)
+unfolding nodes_of
+node_1_is_next = refl
 
 -- a late crumb to it asks it no more, and one to node 2 asks that
 once_each : (fresh_nodes first (told_of 7 2 Late) ≡ no_nodes) × (fresh_nodes first (told_of 7 6 Late) ≡ record { 0 = 4 })
 once_each = (refl, refl)
 
 -- its answer of epoch 5 counts where no later epoch was heard
-by_the_latest_life : (answer_of Answer 5 5 (record { 0 = 1 }) ≡ record { 0 = 2 }) × (answer_of Answer 6 5 (record { 0 = 1 }) ≡ no_nodes) × (answer_of Late 5 5 (record { 0 = 1 }) ≡ no_nodes)
+by_the_latest_life : (answer_of Answer 5 5 (n 1) ≡ record { 0 = 2 }) × (answer_of Answer 6 5 (n 1) ≡ no_nodes) × (answer_of Late 5 5 (n 1) ≡ no_nodes)
 by_the_latest_life = (refl, refl, refl)
 
-answered : is_settled (taken first (answer_of Answer 5 5 (record { 0 = 1 })) (told_of 7 0 Answer)) 3 ≡ true
+answered : is_settled (taken first (answer_of Answer 5 5 (n 1)) (told_of 7 0 Answer)) 3 ≡ true
 answered = refl
 
--- it is asked again once, and then the group is settled without it
-asked_again : (asks_again first 1 ≡ Some (record { ask = first.ask; to = record { 0 = 2 } })) × (asks_again (tried_again first 1) 1 ≡ None)
-asked_again = (refl, refl)
+-- the ask is sent in pass 10, and nothing is to be sent then, until a newer life of node 1 is heard
+abbrev sent_in_10 : Followed
+sent_in_10 = sent_to (n 1) 10 first
+
+once_for_a_life : (has_unsent sent_in_10 ≡ false) × (has_unsent (renewed (n 1) sent_in_10) ≡ true) × (has_unsent (renewed (n 2) sent_in_10) ≡ false)
+once_for_a_life = (refl, refl, refl)
+
+-- after five passes it is asked again once, and then the group is settled without it
+asked_again_once : (is_due 14 5 1 sent_in_10 ≡ false) × (has_unsent (asked_again 15 5 1 sent_in_10) ≡ true) × (is_settled (asked_again 15 5 1 sent_in_10) 1 ≡ true)
+asked_again_once = (refl, refl, refl)

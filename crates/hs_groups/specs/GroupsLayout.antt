@@ -1,14 +1,16 @@
--- How the groups that are followed lie in a cache, whose latest entry stands first, with the epochs and the set of all nodes beside it.
-use Rattle.std.specs.Prelude.{◌≡◌, ◌≤◌, length}
+-- How the groups that are followed lie in places that are taken once, with the epochs and the set of all nodes beside them.
+use Rattle.std.specs.Prelude.{◌≡◌, ◌<◌, ◌≤◌, length, vec_capacity}
 use Rattle.hs_base.specs.declared.limits.TheConstants.{MOST_NODES}
 use Rattle.hs_groups.specs.declared.groups.Groups.TheInside.{Inside}
 use Rattle.hs_groups.specs.Groups.{PlainGroups, first_nodes}
 
 abbrev pub groups_in : Inside → PlainGroups
-groups_in a = record { limits = a.limits; epochs = a.epochs.items; groups = a.groups.entries }
+groups_in a = record { limits = a.limits; epochs = a.epochs.items; groups = a.groups.items }
 
 pub record IsKept (a : Inside) : Type 0 where
   pub nodes : a.limits.nodes ≤ MOST_NODES
   pub all : a.all ≡ first_nodes a.limits.nodes
   pub epochs : length a.epochs.items ≡ a.limits.nodes
-  pub most : a.groups.cap ≡ a.limits.groups
+  pub some : 0 < a.limits.groups
+  pub few : length a.groups.items ≤ a.limits.groups
+  pub room : a.limits.groups ≤ vec_capacity a.groups

@@ -1,6 +1,5 @@
 //! What the calls take and answer.
 
-use hs_base::{Ask, NodeSet};
 use thiserror::Error;
 
 /// How much is followed.
@@ -25,31 +24,24 @@ pub enum MakeFault {
     Memory,
 }
 
-/// An ask and the nodes that it goes to. There may be none.
-#[derive(Clone, Copy)]
-pub struct Asks {
-    pub ask: Ask,
-    pub to: NodeSet,
-}
-
-/// What became of a message of a group.
-#[derive(Clone, Copy)]
-pub enum Taken {
-    /// It was taken, and leads to these asks.
-    Asks(Asks),
-    /// It names a node that is not there.
-    Refused,
-    /// It begins a group, as many are followed as may be, and the oldest is not settled.
-    Full,
-}
-
 /// What is known of a life of a node.
 #[derive(Clone, Copy, Debug, PartialEq, Eq)]
 pub enum Heard {
     /// It is the latest, or an earlier one.
     Known,
-    /// It is later than all that were heard, so that the node is to be asked again for what it has not answered.
+    /// It is later than all that were heard, so that the node is asked again for what it has not answered.
     Newer,
     /// There is no such node.
     Refused,
+}
+
+/// What became of a message of a group.
+#[derive(Clone, Copy, Debug, PartialEq, Eq)]
+pub enum Taken {
+    /// It was taken, and its life was heard so.
+    Taken(Heard),
+    /// It names a node that is not there.
+    Refused,
+    /// It begins a group, as many are followed as may be, and the oldest is not settled.
+    Full,
 }

@@ -1,19 +1,17 @@
 //! All groups that are followed.
 
-ghost use Rattle.std.specs.Prelude.{◌≡◌, ◌≢◌, ◌<◌, ◌≤◌, ◌↔◌, length, Ok, Err, Some, None, IfOk, OnOk, OnErr, option_copied, option_map};
-ghost use Rattle.std.specs.Map.{lookup};
+ghost use Rattle.std.specs.Prelude.{◌≡◌, ◌≢◌, ◌<◌, ◌≤◌, ◌↔◌, length, map, find, position, Ok, Err, Some, None, IfOk, IfSome, IfNone, option_copied};
+ghost use Rattle.std.specs.Option.{option_map_or};
 ghost use Rattle.std.specs.NonZero.{non_zero_usize_get};
-ghost use Rattle.hs_groups.specs.Following.{answer_of, same_group, asks_waiting};
-ghost use Rattle.hs_groups.specs.Groups.{PlainGroups, AreOut, no_groups, first_nodes, latest_of, is_known, are_known, answer_of_hear, heard, answer_to, followed_by, after_told, answer_of_again, after_again, is_full};
+ghost use Rattle.hs_groups.specs.Following.{answer_of, has_unsent, renewed, asked_again};
+ghost use Rattle.hs_groups.specs.Groups.{PlainGroups, AreOut, no_groups, first_nodes, latest_of, is_known, is_of, group_of, answer_of_hear, heard, answer_to, followed_by, begins, after_told, is_full, next_ask, after_sent, after_pass};
 
-use crate::answers::{Asks, GroupLimits, Heard, MakeFault, Taken};
+use crate::answers::{GroupLimits, Heard, MakeFault, Taken};
 use crate::followed::Followed;
 use hs_base::limits::MOST_NODES;
-use hs_base::{Ask, GroupId, List, Memory, NodeId, NodeSet, Told, Why};
-use lru::LruCache;
+use hs_base::{Ask, GroupId, Memory, NodeId, NodeSet, Told, Why};
 use std::alloc::Global;
 use std::marker::Model;
-use std::num::NonZeroUsize;
 
 /// The nodes below this.
 fn first_nodes(nodes: u16) -> NodeSet
@@ -28,13 +26,13 @@ fn first_nodes(nodes: u16) -> NodeSet
 }
 
 /// The groups that nodes told of, with the nodes that were asked for each, and the latest epoch that was heard of each node.
-/// Contracts see the groups, the latest one first, and the epochs by node, 0 where none was heard.
+/// Contracts see the groups, the oldest one first, and the epochs by node, 0 where none was heard.
 #[derive(Drop)]
 pub struct Groups {
     limits: GroupLimits,
     all: NodeSet,
     epochs: Vec<u64>,
-    groups: LruCache<GroupId, Followed>,
+    groups: Vec<Followed>,
 }
 
 impl Model for Groups {
@@ -49,26 +47,23 @@ impl Model for Groups {
 }
 
 impl Groups {
-    /// No groups, within these limits.
+    /// No groups, within these limits. All memory is taken here.
     pub fn make(alloc: Global, limits: GroupLimits) -> Result<Groups, MakeFault>
         ensures made { IfOk result (λ groups. groups ≡ no_groups limits) }
         ensures limits { (result ≡ Err MakeFault.Limits) ↔ AreOut limits }
     {
-        let Some(most) = NonZeroUsize::new(limits.groups as usize) else {
-            return Err(MakeFault::Limits);
-        };
-        if limits.nodes > MOST_NODES {
+        if limits.groups == 0 || limits.nodes > MOST_NODES {
             return Err(MakeFault::Limits);
         }
-        match Groups::empty(alloc, limits, most) {
+        match Groups::empty(alloc, limits) {
             Ok(groups) => Ok(groups),
             Err(_) => Err(MakeFault::Memory),
         }
     }
 
     /// No groups, within these limits.
-    fn empty(alloc: Global, limits: GroupLimits, most: NonZeroUsize) -> Result<Groups, Memory>
-        requires most { non_zero_usize_get most ≡ limits.groups }
+    fn empty(alloc: Global, limits: GroupLimits) -> Result<Groups, Memory>
+        requires groups { 0 < limits.groups }
         requires nodes { limits.nodes ≤ MOST_NODES }
         ensures { IfOk result (λ groups. groups ≡ no_groups limits) }
     {
@@ -76,7 +71,7 @@ impl Groups {
             limits,
             all: first_nodes(limits.nodes),
             epochs: vec![in alloc; 0; limits.nodes as usize]?,
-            groups: LruCache::new(alloc, most)?,
+            groups: Vec::with_capacity(alloc, limits.groups as usize)?,
         })
     }
 
@@ -87,7 +82,8 @@ impl Groups {
         node.0 < self.limits.nodes && crumbs.without(self.all).is_empty()
     }
 
-    /// Hears an epoch of a node, and answers whether it is later than all that were heard of it. Takes no memory.
+    /// Hears an epoch of a node, and answers whether it is later than all that were heard of it. If so, each ask of it that has no
+    /// answer is to be sent again. Takes no memory.
     pub fn hear(&mut self, node: NodeId, epoch: u64) -> Heard
         ensures answer { result ≡ answer_of_hear self.old node epoch }
         ensures heard { self.new ≡ heard self.old node epoch }
@@ -95,31 +91,29 @@ impl Groups {
         if node.0 >= self.limits.nodes {
             return Heard::Refused;
         }
-        let latest = &mut self.epochs[node.0 as usize];
-        if epoch > *latest {
-            *latest = epoch;
+        if epoch > self.epochs[node.0 as usize] {
+            self.epochs[node.0 as usize] = epoch;
+            renew_each(&mut self.groups, node);
             return Heard::Newer;
         }
         Heard::Known
     }
 
-    /// Takes a message that a node told in a life, and answers which asks it leads to. The life is heard as by `hear`. After
-    /// `Refused` and `Full`, and after `Memory`, all is as it was.
-    pub fn told(&mut self, node: NodeId, epoch: u64, told: &Told) -> Result<Taken, Memory>
-        ensures answer { IfOk result (λ taken. taken ≡ answer_to self.old node told.now) }
-        ensures after { OnOk result (self.new ≡ after_told self.old node epoch told.now) }
-        ensures memory { OnErr result (self.new ≡ self.old) }
+    /// Takes a message that a node told in a life, and hears the life as by `hear`. After `Refused` and `Full` all is as it was.
+    /// Takes no memory.
+    pub fn told(&mut self, node: NodeId, epoch: u64, told: &Told) -> Taken
+        ensures answer { result ≡ answer_to self.old node epoch told.now }
+        ensures after { self.new ≡ after_told self.old node epoch told.now }
     {
         if !self.is_known(node, told.crumbs) {
-            return Ok(Taken::Refused);
+            return Taken::Refused;
         }
         if self.is_full(told.group.id) {
-            return Ok(Taken::Full);
+            return Taken::Full;
         }
         let answered = self.answered(node, epoch, told.why);
-        let asks = self.follow(node, answered, told)?;
-        self.hear(node, epoch);
-        Ok(Taken::Asks(asks))
+        self.follow(node, answered, told);
+        Taken::Taken(self.hear(node, epoch))
     }
 
     /// The nodes whose ask a message answers: its node, where it is an answer of the latest life.
@@ -139,75 +133,99 @@ impl Groups {
     fn is_full(&self, group: GroupId) -> bool
         ensures { result ≡ is_full self.now group }
     {
-        if self.groups.contains(&group) || self.groups.len() < self.limits.groups as usize {
+        if self.group(group).is_some() || self.groups.len() < self.limits.groups as usize {
             return false;
         }
-        match self.groups.peek_lru() {
-            Some((_, oldest)) => !oldest.is_settled(self.limits.tries),
+        match self.groups.first() {
+            Some(oldest) => !oldest.is_settled(self.limits.tries),
             None => false,
         }
     }
 
-    /// Takes a message into its group, which its first message begins.
-    fn follow(&mut self, node: NodeId, answered: NodeSet, told: &Told) -> Result<Asks, Memory>
-        requires node { node.0 < self.old.limits.nodes }
-        ensures asks { IfOk result (λ asks. asks ≡ (followed_by self.old node answered told.now).0) }
-        ensures groups { OnOk result (self.new ≡ (followed_by self.old node answered told.now).1) }
-        ensures memory { OnErr result (self.new ≡ self.old) }
+    /// Where a group stands.
+    fn place(&self, group: GroupId) -> Option<usize>
+        ensures { result ≡ position (is_of group) self.now.groups }
     {
-        match self.groups.peek_mut(&told.group.id) {
-            Some(followed) => Ok(followed.take(answered, told)),
+        self.groups
+            .iter()
+            .position(|followed| group == followed.ask.group.id)
+    }
+
+    /// Takes a message into its group, which its first message begins.
+    fn follow(&mut self, node: NodeId, answered: NodeSet, told: &Told)
+        requires node { node.0 < self.old.limits.nodes }
+        ensures { self.new ≡ followed_by self.old node answered told.now }
+    {
+        match self.place(told.group.id) {
+            Some(place) => self.groups[place].take(answered, told),
             None => self.begin(node, answered, told),
         }
     }
 
     /// Takes the first message of a group. Where as many are followed as may be, the oldest is forgotten.
-    fn begin(&mut self, node: NodeId, answered: NodeSet, told: &Told) -> Result<Asks, Memory>
+    fn begin(&mut self, node: NodeId, answered: NodeSet, told: &Told)
         requires node { node.0 < MOST_NODES }
-        requires new { lookup (same_group told.now.group.id) self.old.groups ≡ None }
-        ensures asks { IfOk result (λ asks. asks ≡ (followed_by self.old node answered told.now).0) }
-        ensures groups { OnOk result (self.new ≡ (followed_by self.old node answered told.now).1) }
-        ensures memory { OnErr result (self.new ≡ self.old) }
+        ensures { self.new ≡ begins self.old node answered told.now }
     {
         let mut followed = Followed::begin(node, told);
-        let asks = followed.take(answered, told);
-        match self.groups.put(told.group.id, followed) {
-            Ok(_) => Ok(asks),
-            Err(_) => Err(Memory),
+        followed.take(answered, told);
+        if self.groups.len() >= self.limits.groups as usize {
+            self.groups.remove(0);
         }
+        self.groups.push_reserved(followed);
     }
 
-    /// The asks of a group that have no answer, to be sent once more: unless the group is not followed, or is settled. Takes no
-    /// memory.
-    pub fn again(&mut self, group: GroupId) -> Option<Asks>
-        ensures asks { result ≡ answer_of_again self.old group }
-        ensures after { self.new ≡ after_again self.old group }
+    /// The ask that is to be sent next, with its node: the first of the oldest group that has one.
+    pub fn next_ask(&self) -> Option<(NodeId, Ask)>
+        ensures { result ≡ next_ask self.now }
     {
-        let tries = self.limits.tries;
-        match self.groups.peek_mut(&group) {
-            Some(followed) => followed.again(tries),
+        match first_unsent(&self.groups) {
+            Some(followed) => followed.next_ask(),
             None => None,
         }
     }
 
-    /// What is followed of a group, or `None` where it is not.
-    pub fn group(&self, group: GroupId) -> Option<&Followed>
-        ensures { option_copied result ≡ lookup (same_group group) self.now.groups }
+    /// Notes that a node's ask for a group was sent in this pass. Where the group is not followed nothing changes. Takes no memory.
+    pub fn sent(&mut self, node: NodeId, group: GroupId, now: u64)
+        ensures { self.new ≡ after_sent self.old node group now }
     {
-        self.groups.peek(&group)
+        if let Some(place) = self.place(group) {
+            self.groups[place].sent(node, now);
+        }
     }
 
-    /// The asks that a node has not answered, those of the latest group first.
-    pub fn waiting_for(&self, node: NodeId) -> Result<List<Ask>, Memory>
-        ensures { IfOk result (λ asks. asks.items ≡ asks_waiting node self.now.groups) }
+    /// A pass: each group whose asks were all sent, the last one `wait` passes ago or earlier, and that is not settled, is asked again
+    /// for those that have no answer. Takes no memory.
+    pub fn pass(&mut self, now: u64, wait: u64)
+        ensures { self.new ≡ after_pass self.old now wait }
     {
-        let mut asks = List::new(*self.groups.allocator());
-        for (_, followed) in self.groups.iter() {
-            if followed.waits_for(node) {
-                asks.append(followed.ask)?;
-            }
+        ask_each(&mut self.groups, now, wait, self.limits.tries);
+    }
+
+    /// What is followed of a group, or `None` where it is not.
+    pub fn group(&self, group: GroupId) -> Option<&Followed>
+        ensures { option_copied result ≡ group_of self.now group }
+    {
+        self.groups
+            .iter()
+            .find(|followed| group == followed.ask.group.id)
+    }
+
+    /// The latest epoch that was heard of a node, 0 where none was, or there is no such node.
+    pub fn latest(&self, node: NodeId) -> u64
+        ensures { result ≡ latest_of self.now node }
+    {
+        match self.epochs.get(node.0 as usize) {
+            Some(epoch) => *epoch,
+            None => 0,
         }
-        Ok(asks)
+    }
+
+    /// The groups that are followed, the oldest one first.
+    pub fn as_slice(&self) -> &[Followed]
+        ensures { result.now ≡ self.now.groups }
+    {
+        self.groups.as_slice()
     }
 
     /// How many groups are followed.
@@ -217,4 +235,29 @@ impl Groups {
     {
         self.groups.len()
     }
+}
+
+/// Has the ask of a node sent once more in each group where it has no answer.
+fn renew_each(groups: &mut [Followed], node: NodeId)
+    ensures { groups.new ≡ map (renewed node) groups.old }
+{
+    for followed in groups.iter_mut() {
+        followed.renew(node);
+    }
+}
+
+/// Has each group that is due in this pass asked again.
+fn ask_each(groups: &mut [Followed], now: u64, wait: u64, tries: u32)
+    ensures { groups.new ≡ map (asked_again now wait tries) groups.old }
+{
+    for followed in groups.iter_mut() {
+        followed.again(now, wait, tries);
+    }
+}
+
+/// The first group that has an ask to be sent.
+fn first_unsent(groups: &[Followed]) -> Option<&Followed>
+    ensures { option_copied result ≡ find has_unsent groups.now }
+{
+    groups.iter().find(|followed| followed.has_unsent())
 }

@@ -5,6 +5,6 @@ mod answers;
 mod followed;
 mod groups;
 
-pub use answers::{Asks, GroupLimits, Heard, MakeFault, Taken};
+pub use answers::{GroupLimits, Heard, MakeFault, Taken};
 pub use followed::Followed;
 pub use groups::Groups;
