@@ -1,0 +1,9 @@
+//! Which messages of nodes wait until the traces that they serve are saved, and which may be acknowledged (`docs/RULES.md`,
+//! "The hub").
+#![tactic(auto)]
+
+mod answers;
+mod receipts;
+
+pub use answers::{MessageId, Noted, ReceiptCounts, Waiting};
+pub use receipts::Receipts;
