@@ -1,6 +1,9 @@
 //! What the calls take and answer.
 
-use hs_wire::Standing;
+ghost use Rattle.std.specs.Prelude.{◌≡◌};
+ghost use Rattle.hs_standings.specs.Closing.{is_closed, says_whole};
+
+use hs_wire::{Standing, Wholeness};
 
 /// A life of a node: the node, and the epoch in which it speaks.
 #[derive(Clone, Copy, Debug, PartialEq, Eq, Hash)]
@@ -14,6 +17,29 @@ pub struct Life {
 pub struct Latest {
     pub number: u64,
     pub standing: Standing,
+}
+
+impl Latest {
+    /// Whether a life is closed to the trace: it says whole or unheard, and no segment is open.
+    pub fn is_closed(&self) -> bool
+        ensures { result ≡ is_closed self.now }
+    {
+        match self.standing.wholeness {
+            Wholeness::WholeSince | Wholeness::UnheardSince => self.standing.open_segments == 0,
+            Wholeness::Lost | Wholeness::Unknown | Wholeness::Open => false,
+        }
+    }
+
+    /// Whether a life says that its part of the trace is whole, and no segment is open.
+    pub fn says_whole(&self) -> bool
+        ensures { result ≡ says_whole self.now }
+    {
+        match self.standing.wholeness {
+            Wholeness::WholeSince => self.standing.open_segments == 0,
+            Wholeness::UnheardSince | Wholeness::Lost | Wholeness::Unknown | Wholeness::Open =>
+                false,
+        }
+    }
 }
 
 /// What became of a standing.

@@ -3,6 +3,7 @@
 ghost use Rattle.std.specs.Prelude.{◌≡◌, ◌≢◌, ◌+◌, [], length, None, OnOk, OnErr, option_copied};
 ghost use Rattle.std.specs.Map.{lookup};
 ghost use Rattle.hs_standings.specs.Standing.{same_life, with_latest};
+ghost use Rattle.hs_standings.specs.Closing.{all_closed};
 
 use crate::answers::{Latest, Life};
 use hs_base::Memory;
@@ -46,6 +47,18 @@ impl Book {
         ensures { option_copied result ≡ lookup (same_life life) self.now }
     {
         self.lives.get(&life)
+    }
+
+    /// Whether each life is closed to the trace.
+    pub fn are_closed(&self) -> bool
+        ensures { result ≡ all_closed self.now }
+    {
+        for (_, latest) in self.lives.iter() {
+            if !latest.is_closed() {
+                return false;
+            }
+        }
+        true
     }
 
     /// Notes a standing in place of the one of its life. After `Memory` the book is as it was.

@@ -3,6 +3,7 @@
 ghost use Rattle.std.specs.Prelude.{◌≡◌, ◌≢◌, ◌+◌, ◌<◌, ◌≤◌, [], length, None, Some, IfOk, OnOk, OnErr, option_copied, option_map};
 ghost use Rattle.std.specs.Map.{lookup};
 ghost use Rattle.hs_standings.specs.Standing.{same_id, PlainStandings, no_standings, latest_of, count_of, answer_to, with_standing, without_trace, latest_at};
+ghost use Rattle.hs_standings.specs.Closing.{are_closed};
 
 use crate::answers::{Latest, Life, Noted};
 use crate::book::Book;
@@ -126,6 +127,16 @@ impl Standings {
         match self.books.get(&trace) {
             Some(book) => book.get(life),
             None => None,
+        }
+    }
+
+    /// Whether each life that spoke of a trace is closed to it: it says whole or unheard, and no segment is open.
+    pub fn are_closed(&self, trace: TraceId) -> bool
+        ensures { result ≡ are_closed self.now trace }
+    {
+        match self.books.get(&trace) {
+            Some(book) => book.are_closed(),
+            None => true,
         }
     }
 
