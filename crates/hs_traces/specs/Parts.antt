@@ -1,5 +1,5 @@
 -- The pages of one trace that are given out together: each once, with its bytes, in the order of their keys.
-use Rattle.std.specs.Prelude.{◌≡◌, ℕ, Bool, List, [], ◌∷◌, length, sum_by, find, slice_get, Option, Some, None, is_some, refl}
+use Rattle.std.specs.Prelude.{◌≡◌, ℕ, Bool, List, [], ◌∷◌, length, map, sum_by, find, slice_get, Option, Some, None, is_some, refl}
 use Rattle.std.specs.Ordering.{is_lt}
 use Rattle.std.specs.Map.{lookup, values_of}
 use Rattle.std.specs.BTreeMap.{insert_entry}
@@ -12,6 +12,10 @@ Pages = List (PageKey × List ℕ)
 -- the bytes of all pages
 abbrev pub bytes_of : Pages → ℕ
 bytes_of pages = sum_by (λ bytes. length bytes) (values_of pages)
+
+-- the keys of all pages
+abbrev pub keys_of : Pages → List PageKey
+keys_of pages = map (λ page. page.0) pages
 
 -- whether a page has this key
 abbrev pub has_key : Pages → PageKey → Bool
@@ -37,6 +41,9 @@ between = refl
 
 three_bytes : bytes_of two_pages ≡ 3
 three_bytes = refl
+
+two_keys : keys_of two_pages ≡ key_at 0 7 0 0 3 ∷ key_at 2 5 0 0 0 ∷ []
+two_keys = refl
 
 one_by_one : (next_page None two_pages ≡ Some (key_at 0 7 0 0 3, 1 ∷ 2 ∷ [])) × (next_page (Some (key_at 0 7 0 0 3)) two_pages ≡ Some (key_at 2 5 0 0 0, 3 ∷ [])) × (next_page (Some (key_at 2 5 0 0 0)) two_pages ≡ None)
 one_by_one = (refl, refl, refl)

@@ -18,7 +18,7 @@ use Rattle.hs_traces.specs.declared.answers.Offered.TheVariants.{Given, Unknown,
 use Rattle.hs_traces.specs.declared.key.Sender.{Sender}
 use Rattle.hs_traces.specs.declared.key.PageKey.{PageKey}
 use Rattle.hs_traces.specs.Keys.{is_own, key_of, key_at}
-use Rattle.hs_traces.specs.Parts.{Pages, bytes_of, has_key, with_page, next_page}
+use Rattle.hs_traces.specs.Parts.{Pages, bytes_of, keys_of, has_key, with_page, next_page}
 
 abbrev pub Parts : Type 0
 Parts = List (TraceId × Pages)
@@ -52,6 +52,10 @@ held_bytes s = bytes_in s.waiting + bytes_in s.out
 -- whether these parts have a page of the trace with this key
 abbrev pub has_page_in : Parts → TraceId → PageKey → Bool
 has_page_in parts trace key = has_key (unwrap_or (part_of parts trace) []) key
+
+-- the keys of the trace's pages among these parts
+abbrev pub keys_in : Parts → TraceId → List PageKey
+keys_in parts trace = keys_of (unwrap_or (part_of parts trace) [])
 
 abbrev pub has_page : PlainTraces → TraceId → PageKey → Bool
 has_page s trace key = has_page_in s.waiting trace key || has_page_in s.out trace key

@@ -26,14 +26,14 @@ pub struct PageKey {
 }
 
 /// Whether a page names its sender's node and client.
-pub(crate) fn is_own(sender: &Sender, header: &Header) -> bool
+pub fn is_own(sender: &Sender, header: &Header) -> bool
     ensures { result ≡ is_own sender.now header.now }
 {
     header.client.node == sender.node && header.client.number == sender.client
 }
 
 /// The key of a sender's page.
-pub(crate) fn key_of(sender: &Sender, header: &Header) -> PageKey
+pub fn key_of(sender: &Sender, header: &Header) -> PageKey
     ensures { result ≡ key_of sender.now header.now }
 {
     PageKey {

@@ -3,7 +3,7 @@
 ghost use Rattle.std.specs.Prelude.{◌≡◌, ◌+◌, ◌<◌, ◌^◌, [], length, find, slice_get, false, IfOk, OnOk, OnErr, option_map};
 ghost use Rattle.std.specs.Ordering.{is_lt};
 ghost use Rattle.hs_traces.specs.Keys.{key_cmp};
-ghost use Rattle.hs_traces.specs.Parts.{bytes_of, has_key, with_page, next_page};
+ghost use Rattle.hs_traces.specs.Parts.{bytes_of, keys_of, has_key, with_page, next_page};
 
 use crate::key::PageKey;
 use hs_base::{Bytes, List, Memory};
@@ -86,6 +86,17 @@ impl Part {
         ensures { result ≡ has_key self.now key }
     {
         self.pages.contains_key(&key)
+    }
+
+    /// The keys of all pages, in their order.
+    pub fn keys(&self, alloc: Global) -> Result<List<PageKey>, Memory>
+        ensures { IfOk result (λ keys. keys.items ≡ keys_of self.now) }
+    {
+        let mut keys = List::new(alloc);
+        for (key, _) in self.pages.iter() {
+            keys.append(*key)?;
+        }
+        Ok(keys)
     }
 
     /// Adds a page. After `Memory` the part is as it was.

@@ -9,7 +9,7 @@ use hs_words::{Header, PageFault, read_page};
 use std::alloc::Global;
 
 /// The header of the page that the bytes are, or `None` where they are no page.
-pub(crate) fn read_header(alloc: Global, bytes: &[u8]) -> Result<Option<Header>, Memory>
+pub fn read_header(alloc: Global, bytes: &[u8]) -> Result<Option<Header>, Memory>
     ensures some { IfOk result (λ found. IfSome found (λ header. (sheet : Sheet) → Spells sheet bytes.now
         → header ≡ sheet.header)) }
     ensures none { IfOk result (λ found. IfNone found ((sheet : Sheet) → Spells sheet bytes.now → ⊥)) }

@@ -8,14 +8,14 @@ ghost use Rattle.hs_words.specs.Pages.{Sheet};
 ghost use Rattle.hs_words.specs.Reading.{Spells};
 ghost use Rattle.hs_traces.specs.Keys.{is_own, key_of};
 ghost use Rattle.hs_traces.specs.Parts.{Pages, bytes_of};
-ghost use Rattle.hs_traces.specs.Traces.{PlainTraces, AreSmall, no_traces, has_page, is_full, answer_to, answer_for, with_page_of, oldest_of, offered, answer_of_offer, after_saved, is_out, page_behind, counts_of, held_bytes};
+ghost use Rattle.hs_traces.specs.Traces.{PlainTraces, AreSmall, no_traces, has_page, has_page_in, keys_in, is_full, answer_to, answer_for, with_page_of, oldest_of, offered, answer_of_offer, after_saved, is_out, page_behind, counts_of, held_bytes};
 
 use crate::answers::{Added, LEAST_BYTES, MakeFault, Offered, TraceCounts, TraceLimits};
 use crate::key::{PageKey, Sender, is_own, key_of};
 use crate::part::{PageBytes, Part};
 use crate::reading::read_header;
 use crate::shelf::Shelf;
-use hs_base::{Memory, TraceId};
+use hs_base::{List, Memory, TraceId};
 use lru::LruCache;
 use std::alloc::Global;
 use std::marker::Model;
@@ -95,8 +95,8 @@ impl Traces {
         self.add_page(header.trace, key_of(&sender, &header), bytes)
     }
 
-    /// Adds a page of a trace, by its key.
-    fn add_page(&mut self, trace: TraceId, key: PageKey, bytes: &[u8]) -> Result<Added, Memory>
+    /// Adds a page of a trace, by its key. After each answer but `Added`, and after `Memory`, all is as it was.
+    pub fn add_page(&mut self, trace: TraceId, key: PageKey, bytes: &[u8]) -> Result<Added, Memory>
         ensures answer { IfOk result (λ added. added ≡ answer_to self.old trace key (length bytes.now)) }
         ensures added { IfOk result (λ added. added ≡ Added.Added → self.new ≡ with_page_of self.old trace key bytes.now) }
         ensures same { IfOk result (λ added. added ≢ Added.Added → self.new ≡ self.old) }
@@ -230,6 +230,26 @@ impl Traces {
     {
         let part = self.out.get(trace)?;
         part.next(after)
+    }
+
+    /// Whether a page with this key is among what is given out of a trace.
+    pub fn is_out_page(&self, trace: TraceId, key: PageKey) -> bool
+        ensures { result ≡ has_page_in self.now.out trace key }
+    {
+        match self.out.get(trace) {
+            Some(part) => part.has(key),
+            None => false,
+        }
+    }
+
+    /// The keys of what is given out of a trace, in their order.
+    pub fn page_keys(&self, trace: TraceId) -> Result<List<PageKey>, Memory>
+        ensures { IfOk result (λ keys. keys.items ≡ keys_in self.now.out trace) }
+    {
+        match self.out.get(trace) {
+            Some(part) => part.keys(self.alloc),
+            None => Ok(List::new(self.alloc)),
+        }
     }
 
     /// How much is held.
