@@ -1,0 +1,61 @@
+-- What holds where a trace is said to be whole.
+use Rattle.std.proofs.Common.{◌≡◌, ℕ, Bool, true, false, not, ◌&&◌, ◌||◌, eqb, List, Option, Some, None, refl, sym, ap, ◌∙◌}
+use Rattle.std.specs.Prelude.{slice_get}
+use Rattle.std.specs.List.{list_all, list_any}
+use Rattle.std.specs.Option.{option_map_or}
+use Rattle.hs_lists.proofs.Tests.{list_all_at}
+use Rattle.hs_base.specs.declared.ids.TraceId.{TraceId}
+use Rattle.hs_base.specs.NodeSets.{nodes_of}
+use Rattle.hs_groups.specs.declared.followed.Followed.{Followed}
+use Rattle.hs_groups.specs.Groups.{PlainGroups}
+use Rattle.hs_standings.specs.declared.answers.Latest.{Latest}
+use Rattle.hs_standings.specs.declared.answers.Life.{Life}
+use Rattle.hs_standings.specs.Standing.{PlainStandings, Lives, latest_of, lives_of}
+use Rattle.hs_standings.specs.Closing.{is_closed, says_whole, all_closed, are_closed}
+use Rattle.hs_traces.specs.declared.key.PageKey.{PageKey}
+use Rattle.hs_verdict.specs.Verdict.{claims, latest_life, life_of, is_node_closed, are_nodes_closed, is_answered, has_all, is_page_whole, is_whole}
+use Rattle.hs_verdict.specs.Whole.{IsWhole}
+use borrow.Author.Tests.{eqb-true}
+
+left : (a b : Bool) → (a && b) ≡ true → a ≡ true
+left true b e = refl
+left false b e = let never : false ≡ true = e in absurd cc
+
+right : (a b : Bool) → (a && b) ≡ true → b ≡ true
+right true b e = e
+right false b e = let never : false ≡ true = e in absurd cc
+
+second : (a b : Bool) → (not a || b) ≡ true → a ≡ true → b ≡ true
+second true b e y = e
+second false b e y = let never : false ≡ true = y in absurd cc
+
+said : (P : Latest → Bool) (o : Option Latest) → option_map_or P o false ≡ true → (latest : Latest) × (o ≡ Some latest) × (P latest ≡ true)
+said P (Some latest) e = (latest, refl, e)
+said P None e = let never : false ≡ true = e in absurd cc
+
+group_answered : (g : PlainGroups) (s : PlainStandings) (trace : TraceId) → has_all g s trace ≡ true → (place : ℕ) (followed : Followed) → slice_get g.groups place ≡ Some followed → claims trace followed ≡ true
+    → (eqb followed.waiting.0 0 && are_nodes_closed g s trace followed.asked) ≡ true
+group_answered g s trace all place followed there claimed =
+    second (claims trace followed) (eqb followed.waiting.0 0 && are_nodes_closed g s trace followed.asked)
+    (list_all_at (is_answered g s trace) g.groups place followed (right (list_any (claims trace) g.groups) (list_all (is_answered g s trace) g.groups) all) there) claimed
+
+lives_closed : (o : Option Lives) → option_map_or all_closed o true ≡ true → (lives : Lives) → o ≡ Some lives → (at : ℕ) (entry : Life × Latest) → slice_get lives at ≡ Some entry → is_closed entry.1 ≡ true
+lives_closed o e lives is at entry there =
+    list_all_at (λ (x : Life × Latest). is_closed x.1) lives at entry (sym (ap (λ (p : Option Lives). option_map_or all_closed p true) is) ∙ e) there
+
+pub whole_said : (g : PlainGroups) (s : PlainStandings) (trace : TraceId) (pages : List PageKey) → is_whole g s trace pages ≡ true → IsWhole g s trace pages
+whole_said g s trace pages e =
+    let whole_pages = list_all (is_page_whole s trace) pages in
+    let all : has_all g s trace ≡ true = left (has_all g s trace) (are_closed s trace && whole_pages) e in
+    let rest : (are_closed s trace && whole_pages) ≡ true = right (has_all g s trace) (are_closed s trace && whole_pages) e in
+    record {
+      claimed = left (list_any (claims trace) g.groups) (list_all (is_answered g s trace) g.groups) all;
+      answered = λ place followed there claimed.
+          eqb-true followed.waiting.0 0 (left (eqb followed.waiting.0 0) (are_nodes_closed g s trace followed.asked) (group_answered g s trace all place followed there claimed));
+      closed = λ place followed there claimed at node here.
+          said is_closed (latest_of s trace (latest_life g (record { 0 = node })))
+          (list_all_at (λ (n : ℕ). is_node_closed g s trace (record { 0 = n })) (nodes_of followed.asked) at node
+          (right (eqb followed.waiting.0 0) (are_nodes_closed g s trace followed.asked) (group_answered g s trace all place followed there claimed)) here);
+      lives = lives_closed (lives_of s.books trace) (left (are_closed s trace) whole_pages rest);
+      written = λ at page here. said says_whole (latest_of s trace (life_of page)) (list_all_at (is_page_whole s trace) pages at page (right (are_closed s trace) whole_pages rest) here);
+    }

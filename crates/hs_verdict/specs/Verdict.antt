@@ -1,0 +1,133 @@
+-- What a hub says of a trace: of each node whether it was asked and answered, of each life what it said last, and whether the trace is
+-- whole. Nothing more is to come of a trace where each node that was asked for it answered and the latest life of each is closed to it.
+-- It is whole where, besides, no earlier life is open, and each life that wrote a page of it says that its part is whole.
+use Rattle.std.specs.Prelude.{◌≡◌, ℕ, Bool, true, false, not, ◌&&◌, ◌||◌, ◌==◌, List, [], ◌∷◌, nat_lt, Option, Some, None, if◌then◌else◌, refl}
+use Rattle.std.specs.List.{list_all, list_any}
+use Rattle.std.specs.Option.{option_map_or}
+use Rattle.hs_base.specs.declared.ids.NodeId.{NodeId}
+use Rattle.hs_base.specs.declared.ids.TraceId.{TraceId}
+use Rattle.hs_base.specs.declared.node_set.NodeSet.{NodeSet}
+use Rattle.hs_base.specs.declared.limits.TheConstants.{MOST_NODES}
+use Rattle.hs_base.specs.declared.told.Why.TheVariants as why
+use Rattle.hs_base.specs.NodeSets.{has_node, nodes_of}
+use Rattle.hs_base.specs.Ids.{same_trace}
+use Rattle.hs_base.specs.Samples.{t}
+use Rattle.hs_wire.specs.declared.message.Wholeness.{Wholeness}
+use Rattle.hs_wire.specs.declared.message.Wholeness.TheVariants as wholeness
+use Rattle.hs_wire.specs.declared.message.Standing.{Standing}
+use Rattle.hs_groups.specs.declared.followed.Followed.{Followed}
+use Rattle.hs_groups.specs.Following.{told_of, n}
+use Rattle.hs_groups.specs.Groups as groups
+use Rattle.hs_groups.specs.Groups.{PlainGroups}
+use Rattle.hs_standings.specs.declared.answers.Life.{Life}
+use Rattle.hs_standings.specs.declared.answers.Latest.{Latest}
+use Rattle.hs_standings.specs.Standing.{PlainStandings, no_standings, latest_of, with_standing, whole_at, open_at}
+use Rattle.hs_standings.specs.Closing.{is_closed, says_whole, are_closed}
+use Rattle.hs_traces.specs.declared.key.PageKey.{PageKey}
+use Rattle.hs_traces.specs.Keys.{key_at}
+use Rattle.hs_verdict.specs.declared.words.NodeWord.{NodeWord}
+use Rattle.hs_verdict.specs.declared.words.NodeWord.TheVariants as of_node
+use Rattle.hs_verdict.specs.declared.words.LifeWord.{LifeWord}
+use Rattle.hs_verdict.specs.declared.words.LifeWord.TheVariants as of_life
+
+-- whether a group claims a trace: as its lead or as a lateral
+abbrev pub claims : TraceId → Followed → Bool
+claims trace followed = same_trace trace followed.ask.group.lead || list_any (same_trace trace) followed.ask.laterals
+
+-- ---- what is said of a node, and of a life
+
+-- whether a group claims the trace and reached the node
+abbrev pub asks : TraceId → NodeId → Followed → Bool
+asks trace node followed = nat_lt node.0 MOST_NODES && has_node followed.asked node.0 && claims trace followed
+
+-- whether it waits for the node's answer
+abbrev pub still_asks : TraceId → NodeId → Followed → Bool
+still_asks trace node followed = nat_lt node.0 MOST_NODES && has_node followed.waiting node.0 && claims trace followed
+
+abbrev pub node_word : PlainGroups → TraceId → NodeId → NodeWord
+node_word g trace node =
+    if list_any (still_asks trace node) g.groups then of_node.Silent
+    else if list_any (asks trace node) g.groups then of_node.Answered
+    else of_node.NotAsked
+
+-- what a standing without open segments says
+abbrev pub word_for : Wholeness → Standing → LifeWord
+word_for wholeness.WholeSince s = of_life.WholeSince s.horizon
+word_for wholeness.Lost s = of_life.Lost s.losses
+word_for wholeness.UnheardSince s = of_life.UnheardSince s.horizon
+word_for wholeness.Unknown s = of_life.Unknown
+word_for wholeness.Open s = of_life.Open 0
+
+-- what a life said last, if it spoke
+abbrev pub word_of : Option Latest → LifeWord
+word_of None = of_life.Silent
+word_of (Some latest) = if nat_lt 0 latest.standing.open_segments then of_life.Open latest.standing.open_segments else word_for latest.standing.wholeness latest.standing
+
+-- ---- whether nothing more is to come
+
+-- the latest life of a node that was heard
+abbrev pub latest_life : PlainGroups → NodeId → Life
+latest_life g node = record { node = node.0; epoch = groups.latest_of g node }
+
+-- whether it is closed to the trace
+abbrev pub is_node_closed : PlainGroups → PlainStandings → TraceId → NodeId → Bool
+is_node_closed g s trace node = option_map_or is_closed (latest_of s trace (latest_life g node)) false
+
+abbrev pub are_nodes_closed : PlainGroups → PlainStandings → TraceId → NodeSet → Bool
+are_nodes_closed g s trace nodes = list_all (λ node. is_node_closed g s trace (record { 0 = node })) (nodes_of nodes)
+
+-- whether a group does not claim the trace, or each node that it reached answered and is closed to it
+abbrev pub is_answered : PlainGroups → PlainStandings → TraceId → Followed → Bool
+is_answered g s trace followed = not (claims trace followed) || (followed.waiting.0 == 0 && are_nodes_closed g s trace followed.asked)
+
+-- whether a group claims the trace, and each that does is answered
+abbrev pub has_all : PlainGroups → PlainStandings → TraceId → Bool
+has_all g s trace = list_any (claims trace) g.groups && list_all (is_answered g s trace) g.groups
+
+-- ---- whether it is whole
+
+abbrev pub life_of : PageKey → Life
+life_of page = record { node = page.node; epoch = page.epoch }
+
+-- whether the life that wrote a page says that its part of the trace is whole
+abbrev pub is_page_whole : PlainStandings → TraceId → PageKey → Bool
+is_page_whole s trace page = option_map_or says_whole (latest_of s trace (life_of page)) false
+
+abbrev pub is_whole : PlainGroups → PlainStandings → TraceId → List PageKey → Bool
+is_whole g s trace pages = has_all g s trace && (are_closed s trace && list_all (is_page_whole s trace) pages)
+
+-- ---- worked examples: node 0, in life 5, tells of its group 7, whose lead is trace 107, with a crumb to node 1, whose life is 3
+
+abbrev lone : PlainGroups
+lone = groups.after_told (groups.no_groups (record { nodes = 4; groups = 1; tries = 2 })) (n 0) 5 (told_of 7 2 why.Fired)
+
+abbrev answered : PlainGroups
+answered = groups.after_told lone (n 1) 3 (told_of 7 0 why.Answer)
+
+nodes_speak : (node_word lone (t 107) (n 0) ≡ of_node.Answered) × (node_word lone (t 107) (n 1) ≡ of_node.Silent) × (node_word answered (t 107) (n 1) ≡ of_node.Answered) × (node_word answered (t 107) (n 2) ≡ of_node.NotAsked)
+nodes_speak = (refl, refl, refl, refl)
+
+abbrev life_at : (node epoch : ℕ) → Life
+life_at node epoch = record { node = node; epoch = epoch }
+
+-- both lives say whole
+abbrev both : PlainStandings
+both = with_standing (with_standing (no_standings 9) (t 107) (life_at 0 5) (whole_at 6)) (t 107) (life_at 1 3) (whole_at 2)
+
+abbrev pages : List PageKey
+pages = key_at 0 5 0 0 0 ∷ key_at 1 3 0 0 0 ∷ []
+
+whole_trace : is_whole answered both (t 107) pages ≡ true
+unfolding nodes_of
+whole_trace = refl
+
+-- not with a silent node, nor where nobody claims it
+silent_nodes : (is_whole lone both (t 107) pages ≡ false) × (is_whole answered both (t 108) [] ≡ false)
+unfolding nodes_of
+silent_nodes = (refl, refl)
+
+-- not with an open life, be it an earlier one, nor with a page of a life that said nothing, nor where a newer life was heard that
+-- has said nothing
+open_lives : (is_whole answered (with_standing both (t 107) (life_at 1 2) (open_at 1)) (t 107) pages ≡ false) × (is_whole answered both (t 107) (key_at 1 2 0 0 0 ∷ pages) ≡ false) × (is_whole (groups.heard answered (n 1) 4) both (t 107) pages ≡ false)
+unfolding nodes_of
+open_lives = (refl, refl, refl)

@@ -1,0 +1,31 @@
+-- What it means that a trace is whole, in words of its nodes and lives.
+use Rattle.std.specs.Prelude.{◌≡◌, ℕ, true, List, slice_get, Some}
+use Rattle.std.specs.List.{list_any}
+use Rattle.hs_base.specs.declared.ids.TraceId.{TraceId}
+use Rattle.hs_base.specs.NodeSets.{nodes_of}
+use Rattle.hs_groups.specs.declared.followed.Followed.{Followed}
+use Rattle.hs_groups.specs.Groups.{PlainGroups}
+use Rattle.hs_standings.specs.declared.answers.Latest.{Latest}
+use Rattle.hs_standings.specs.declared.answers.Life.{Life}
+use Rattle.hs_standings.specs.Standing.{PlainStandings, Lives, latest_of, lives_of}
+use Rattle.hs_standings.specs.Closing.{is_closed, says_whole}
+use Rattle.hs_traces.specs.declared.key.PageKey.{PageKey}
+use Rattle.hs_verdict.specs.Verdict.{claims, latest_life, life_of}
+
+-- a life has said so last
+abbrev pub HasSaid : PlainStandings → TraceId → Life → (Latest → Type 0) → Type 0
+HasSaid s trace life P = (latest : Latest) × (latest_of s trace life ≡ Some latest) × P latest
+
+pub record IsWhole (g : PlainGroups) (s : PlainStandings) (trace : TraceId) (pages : List PageKey) : Type 0 where
+  -- a group that is followed claims the trace
+  pub claimed : list_any (claims trace) g.groups ≡ true
+  -- each group that claims it waits for no answer
+  pub answered : (place : ℕ) (followed : Followed) → slice_get g.groups place ≡ Some followed → claims trace followed ≡ true → followed.waiting.0 ≡ 0
+  -- the latest life of each node that it reached says whole or unheard, with no segment open
+  pub closed : (place : ℕ) (followed : Followed) → slice_get g.groups place ≡ Some followed → claims trace followed ≡ true
+      → (at node : ℕ) → slice_get (nodes_of followed.asked) at ≡ Some node
+      → HasSaid s trace (latest_life g (record { 0 = node })) (λ latest. is_closed latest ≡ true)
+  -- so does each other life that spoke of the trace
+  pub lives : (lives : Lives) → lives_of s.books trace ≡ Some lives → (at : ℕ) (entry : Life × Latest) → slice_get lives at ≡ Some entry → is_closed entry.1 ≡ true
+  -- and each life that wrote a page of it says whole
+  pub written : (at : ℕ) (page : PageKey) → slice_get pages at ≡ Some page → HasSaid s trace (life_of page) (λ latest. says_whole latest ≡ true)

@@ -1,0 +1,12 @@
+//! How whole a hub says that a trace is, from whom it asked and what the lives of nodes say (`docs/RULES.md`, "The hub").
+#![tactic(auto)]
+
+mod asked;
+mod laws;
+mod verdict;
+mod words;
+
+pub use asked::claims;
+pub use laws::whole_is_said_of_closed_lives;
+pub use verdict::{has_all, is_whole};
+pub use words::{LifeWord, NodeWord, life_word, node_word};
