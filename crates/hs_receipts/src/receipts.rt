@@ -1,6 +1,6 @@
 //! All messages that are kept.
 
-ghost use Rattle.std.specs.Prelude.{◌≡◌, ◌+◌, ◌≤◌, ◌++◌, ◌||◌, not, nat_le, is_none, length, filter, drop, slice_get, vec_len, vec_capacity, IfOk, option_copied};
+ghost use Rattle.std.specs.Prelude.{◌≡◌, ◌+◌, ◌-◌, ◌≤◌, ◌++◌, ◌||◌, not, nat_le, is_none, length, filter, drop, slice_get, vec_len, vec_capacity, IfOk, option_copied};
 ghost use Rattle.std.specs.VecDeque.{deque_len, deque_capacity};
 ghost use Rattle.std.specs.List.{list_any};
 ghost use Rattle.hs_receipts.specs.Receipts.{PlainReceipts, no_receipts, is_message, is_for, is_out, waits_for, is_noted, messages_for, answer_to_wait, after_wait, answer_to_join, after_join, after_offer, waits_elsewhere, after_saved, counts_of, kept};
@@ -52,6 +52,20 @@ impl Receipts {
         ensures { result ≡ nat_le self.now.most (kept self.now) }
     {
         self.waiting.len() + self.served.len() + self.done.len() >= self.most as usize
+    }
+
+    /// How many more messages may be kept.
+    pub fn room(&self) -> usize
+        ensures { result ≡ self.now.most - kept self.now }
+    {
+        self.most as usize - (self.waiting.len() + self.served.len() + self.done.len())
+    }
+
+    /// Whether a message waits for this trace, which is not out.
+    pub fn has_waiting(&self, trace: TraceId) -> bool
+        ensures { result ≡ list_any (is_for trace) self.now.waiting }
+    {
+        waits_at_all(&self.waiting, trace)
     }
 
     /// Has a message wait until a trace is saved that is not out yet.
@@ -176,13 +190,20 @@ fn move_messages(served: &mut Vec<MessageId>, waiting: &[Waiting], trace: TraceI
     }
 }
 
-/// Whether a message waits for a trace.
+/// Whether this message waits for a trace.
 fn waits_for(waiting: &[Waiting], trace: TraceId, message: MessageId) -> bool
     ensures { result ≡ list_any (waits_for trace message) waiting.now }
 {
     waiting
         .iter()
         .any(|waits| trace == waits.trace && message == waits.message)
+}
+
+/// Whether a message waits for a trace.
+fn waits_at_all(waiting: &[Waiting], trace: TraceId) -> bool
+    ensures { result ≡ list_any (is_for trace) waiting.now }
+{
+    waiting.iter().any(|waits| trace == waits.trace)
 }
 
 /// Whether a message is among these.

@@ -96,6 +96,10 @@ oldest_of s = option_map (λ part. part.0) (slice_get s.waiting (length s.waitin
 abbrev pub is_out : PlainTraces → TraceId → Bool
 is_out s trace = is_some (part_of s.out trace)
 
+-- whether a part of the trace waits
+abbrev pub is_waiting : PlainTraces → TraceId → Bool
+is_waiting s trace = is_some (part_of s.waiting trace)
+
 abbrev pub answer_of_offer : PlainTraces → TraceId → Offered
 answer_of_offer s trace =
     if is_out s trace then Unsaved

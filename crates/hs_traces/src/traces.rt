@@ -8,7 +8,7 @@ ghost use Rattle.hs_words.specs.Pages.{Sheet};
 ghost use Rattle.hs_words.specs.Reading.{Spells};
 ghost use Rattle.hs_traces.specs.Keys.{is_own, key_of};
 ghost use Rattle.hs_traces.specs.Parts.{Pages, bytes_of};
-ghost use Rattle.hs_traces.specs.Traces.{PlainTraces, AreSmall, no_traces, has_page, has_page_in, keys_in, is_full, answer_to, answer_for, with_page_of, oldest_of, offered, answer_of_offer, after_saved, is_out, page_behind, counts_of, held_bytes};
+ghost use Rattle.hs_traces.specs.Traces.{PlainTraces, AreSmall, no_traces, has_page, has_page_in, keys_in, is_full, answer_to, answer_for, with_page_of, oldest_of, offered, answer_of_offer, after_saved, is_out, is_waiting, page_behind, counts_of, held_bytes};
 
 use crate::answers::{Added, LEAST_BYTES, MakeFault, Offered, TraceCounts, TraceLimits};
 use crate::key::{PageKey, Sender, is_own, key_of};
@@ -230,6 +230,13 @@ impl Traces {
     {
         let part = self.out.get(trace)?;
         part.next(after)
+    }
+
+    /// Whether a part of a trace waits to be given out.
+    pub fn waits(&self, trace: TraceId) -> bool
+        ensures { result ≡ is_waiting self.now trace }
+    {
+        self.waiting.contains(&trace)
     }
 
     /// Whether a page with this key is among what is given out of a trace.
