@@ -1,0 +1,4 @@
+pub mod Ready
+pub mod Hub
+pub mod HubLayout
+pub mod Examples

@@ -1,0 +1,29 @@
+-- Which trace nothing more is to come of: the first such trace of the oldest group that has one. A group's traces are its lead and its
+-- laterals.
+use Rattle.std.specs.Prelude.{Bool, ◌&&◌, List, [], ◌∷◌, find, Option, Some, None}
+use Rattle.hs_base.specs.declared.ids.TraceId.{TraceId}
+use Rattle.hs_groups.specs.declared.followed.Followed.{Followed}
+use Rattle.hs_groups.specs.Groups.{PlainGroups}
+use Rattle.hs_standings.specs.Standing.{PlainStandings}
+use Rattle.hs_traces.specs.Traces.{PlainTraces, is_waiting}
+use Rattle.hs_verdict.specs.Verdict.{has_all}
+
+-- whether pages of a trace wait, and nothing more is to come of it
+abbrev pub is_ready : PlainGroups → PlainStandings → PlainTraces → TraceId → Bool
+is_ready g s p trace = is_waiting p trace && has_all g s trace
+
+abbrev pub traces_of : Followed → List TraceId
+traces_of followed = followed.ask.group.lead ∷ followed.ask.laterals
+
+-- the first trace of a group that is ready
+abbrev pub ready_of : PlainGroups → PlainStandings → PlainTraces → Followed → Option TraceId
+ready_of g s p followed = find (is_ready g s p) (traces_of followed)
+
+-- the first of the first of these groups that has one
+abbrev pub or_else : Option TraceId → Option TraceId → Option TraceId
+or_else (Some trace) other = Some trace
+or_else None other = other
+
+abbrev pub first_ready : PlainGroups → PlainStandings → PlainTraces → List Followed → Option TraceId
+first_ready g s p [] = None
+first_ready g s p (followed ∷ groups) = or_else (ready_of g s p followed) (first_ready g s p groups)
