@@ -1,6 +1,6 @@
 -- Worked examples of an outbox with two places of three bytes.
 use Rattle.std.specs.Prelude.{◌≡◌, List, [], ◌∷◌, Some, None, false, refl}
-use Rattle.hs_outbox.specs.Queue.{Pending, Queue, Act, Puts, HandsOut, Acknowledges, OffersAgain, empty, after, waits, first_offered}
+use Rattle.hs_outbox.specs.Queue.{Pending, Queue, Act, Puts, HandsOut, Acknowledges, OffersAgain, empty, after, waits, first_offered, oldest_in}
 use Rattle.hs_outbox.specs.Lives.{life, all_put, all_left, handed_out, not_handed_out}
 
 abbrev four : Pending
@@ -21,6 +21,9 @@ two = life start (Puts four ∷ Puts seven ∷ HandsOut 4 ∷ [])
 
 two_wait : (two.pending ≡ four ∷ seven ∷ []) × (handed_out two ≡ four ∷ []) × (not_handed_out two ≡ seven ∷ []) × (first_offered two ≡ Some seven) × (two.fresh ≡ 8)
 two_wait = (refl, refl, refl, refl, refl)
+
+the_oldest : (oldest_in start ≡ None) × (oldest_in two ≡ Some 4) × (oldest_in (after two (Acknowledges 4)) ≡ Some 7)
+the_oldest = (refl, refl, refl)
 
 -- No place is free for a third, and only the first that is offered can be handed out.
 no_third : (after two (Puts nine) ≡ two) × (after two (HandsOut 4) ≡ two) × (after two (HandsOut 9) ≡ two)

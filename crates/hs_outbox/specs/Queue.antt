@@ -1,6 +1,6 @@
 -- The messages of an outbox: those that wait for their acknowledgement, with rising numbers, of which the first ones are handed out.
 -- What each call makes of them.
-use Rattle.std.specs.Prelude.{ℕ, ◌+◌, ◌<◌, ◌≤◌, ◌==◌, nat_lt, nat_le, Bool, false, not, ◌&&◌, List, [], ◌∷◌, ◌++◌, length, filter, Option, Some, None, if◌then◌else◌}
+use Rattle.std.specs.Prelude.{ℕ, ◌+◌, ◌<◌, ◌≤◌, ◌==◌, nat_lt, nat_le, Bool, false, not, ◌&&◌, List, [], ◌∷◌, ◌++◌, length, filter, Option, Some, None, option_map, slice_get, if◌then◌else◌}
 use Rattle.std.specs.List.{find, list_any}
 use Rattle.hs_wire.specs.Messages.{PlainMessage, message_bytes}
 use Rattle.hs_wire.specs.Writing.{HasSpelling}
@@ -45,6 +45,10 @@ is_handed_out q p = nat_lt p.number q.handed
 -- the first that is not handed out
 abbrev pub first_offered : Queue → Option Pending
 first_offered q = find (λ p. not (is_handed_out q p)) q.pending
+
+-- the least number of a message that waits
+abbrev pub oldest_in : Queue → Option ℕ
+oldest_in q = option_map (λ (p : Pending). p.number) (slice_get q.pending 0)
 
 abbrev pub has_number : Option Pending → ℕ → Bool
 has_number None number = false

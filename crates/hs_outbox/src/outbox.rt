@@ -4,7 +4,7 @@ ghost use Rattle.std.specs.Prelude.{◌≡◌, ◌≢◌, ◌+◌, ◌<◌, ◌�
 ghost use Rattle.std.specs.Bool.{OnFalse};
 ghost use Rattle.std.specs.Option.{option_copied};
 ghost use Rattle.hs_wire.specs.Messages.{IsMessage, plain};
-ghost use Rattle.hs_outbox.specs.Queue.{empty, pending_of, waits, first_offered, has_number, Puts, HandsOut, Acknowledges, OffersAgain, after, Causes};
+ghost use Rattle.hs_outbox.specs.Queue.{empty, pending_of, waits, first_offered, oldest_in, has_number, Puts, HandsOut, Acknowledges, OffersAgain, after, Causes};
 ghost use Rattle.hs_outbox.specs.Layout.{place_of, waiting_in, AreRising, HaveRoom, answer_for};
 
 use crate::slot::Slot;
@@ -145,6 +145,16 @@ impl Outbox {
                 self.free.push_reserved(spare);
                 answer_for(fault)
             }
+        }
+    }
+
+    /// The least number of a message that waits, if one does.
+    pub fn oldest(&self) -> Option<u64>
+        ensures { result ≡ oldest_in self.now }
+    {
+        match self.entries.first() {
+            Some(entry) => Some(entry.number),
+            None => None,
         }
     }
 
