@@ -1,0 +1,4 @@
+pub mod Letters
+pub mod Lives
+pub mod MailLayout
+pub mod Examples
