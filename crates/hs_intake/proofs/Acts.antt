@@ -1,0 +1,342 @@
+-- How an intake goes on: by ends that received, by acts of its agent, and one after another.
+use Rattle.std.proofs.Common.{◌≡◌, ℕ, List, [], ◌∷◌, ◌++◌, length, map, Option, Some, None, refl, sym, ap, subst, ◌∙◌, append_assoc, append-nil}
+use Rattle.std.specs.Prelude.{true, false, Result, Ok, Err, OnOk, OnErr, IsErr}
+use Rattle.std.proofs.lemmas.Bool.{false_from_ne_true}
+use Rattle.std.specs.Option.{option_to_list}
+use Rattle.hs_lists.proofs.Alls.{all_push}
+use Rattle.hs_base.specs.declared.told.Crumb.{Crumb}
+use Rattle.hs_base.specs.declared.told.Told.{Told}
+use Rattle.hs_words.specs.Buffers.{Buffer}
+use Rattle.hs_ring.specs.Parts.{Leased}
+use Rattle.hs_link.specs.Contents.{Incoming}
+use Rattle.hs_live.specs.Keys.{Key, IsChunkOf, IsCrumbOf}
+use Rattle.hs_live.specs.Live.{Port, IsEnd, ReceivesAt}
+use Rattle.hs_agent.specs.Keeping.{PlainAgent}
+use Rattle.hs_agent.specs.Runs.{Run, state_of, Follows, IsSpent, after_chunk, after_turn}
+use Rattle.hs_agent.specs.Tries.{after_crumb}
+use Rattle.hs_law_agent.specs.Stepping.{Crumbed, told_by}
+use Rattle.hs_mail.specs.Letters.{Letters, Deed}
+use Rattle.hs_mail.specs.Letters as letters
+use Rattle.hs_mail.specs.Lives as mail
+use Rattle.hs_intake.specs.Intakes.{PlainIntake, Waiting, Chunk, Crumbs, Act, after_act, life, told_at, told_in, IsPooled, MayWait, MayWaitIf, Stands, says, Tells, Goes, SaysIt, chunk_line, crumb_line}
+use Rattle.hs_intake.specs.Taking.{Receives, TakesOne, HoldsOne}
+use Rattle.hs_intake.proofs.Lines.{keys_after, receives_one, chunk_came, crumb_came, length_set}
+
+-- ---- acts one after another
+
+pub life_append : (xs ys : List Act) (run : Run Leased) → life run (xs ++ ys) ≡ life (life run xs) ys
+life_append [] ys run = refl
+life_append (x ∷ xs) ys run = life_append xs ys (after_act run x)
+
+pub told_append : (xs ys : List Act) (run : Run Leased) → told_in run (xs ++ ys) ≡ told_in run xs ++ told_in (life run xs) ys
+told_append [] ys run = refl
+told_append (x ∷ xs) ys run = ap (λ (l : List Told). told_at run x ++ l) (told_append xs ys (after_act run x)) ∙ sym (append_assoc (told_at run x) (told_in (after_act run x) xs) (told_in (life (after_act run x) xs) ys))
+
+mail_append : (xs ys : List Deed) (m : Letters) → mail.life m (xs ++ ys) ≡ mail.life (mail.life m xs) ys
+mail_append [] ys m = refl
+mail_append (x ∷ xs) ys m = mail_append xs ys (letters.after m x)
+
+pub map_append : {A B : Type 0} (f : A → B) (xs ys : List A) → map f (xs ++ ys) ≡ map f xs ++ map f ys
+map_append f [] ys = refl
+map_append f (x ∷ xs) ys = ap (λ l. f x ∷ l) (map_append f xs ys)
+
+pub tells_nothing : (old new : PlainIntake) → new.mail ≡ old.mail → new.unsaid ≡ old.unsaid → Tells old [] new
+tells_nothing old new mail unsaid =
+    record { said = []; mail = mail; all = append-nil (option_to_list old.unsaid) ∙ ap (λ (o : Option Told). option_to_list o) (sym unsaid) }
+
+pub tells_more : (a b c : PlainIntake) (first second : List Told) → Tells a first b → Tells b second c → Tells a (first ++ second) c
+tells_more a b c first second one two =
+    record {
+      said = one.said ++ two.said;
+      mail =
+          two.mail ∙ ap (λ (m : Letters). mail.life m (map says two.said)) one.mail
+          ∙ sym (ap (λ (ds : List Deed). mail.life a.mail ds) (map_append says one.said two.said) ∙ mail_append (map says one.said) (map says two.said) a.mail);
+      all =
+          sym (append_assoc (option_to_list a.unsaid) first second) ∙ ap (λ (l : List Told). l ++ second) one.all ∙ append_assoc one.said (option_to_list b.unsaid) second
+          ∙ ap (λ (l : List Told). one.said ++ l) two.all ∙ sym (append_assoc one.said two.said (option_to_list c.unsaid));
+    }
+
+pub goes_nothing : (run : Run Leased) (old new : PlainIntake) → Stands run new → new.mail ≡ old.mail → new.unsaid ≡ old.unsaid → Goes run [] old new
+goes_nothing run old new stands mail unsaid = record { stands = stands; tells = tells_nothing old new mail unsaid }
+
+pub goes_more : (run : Run Leased) (xs ys : List Act) (a b c : PlainIntake) → Goes run xs a b → Goes (life run xs) ys b c → Goes run (xs ++ ys) a c
+goes_more run xs ys a b c first second =
+    record {
+      stands = subst (λ (r : Run Leased). Stands r c) (sym (life_append xs ys run)) second.stands;
+      tells = subst (λ (l : List Told). Tells a l c) (sym (told_append xs ys run)) (tells_more a b c (told_in run xs) (told_in (life run xs) ys) first.tells second.tells);
+    }
+
+-- ---- an end received
+
+pub chunks_moved : (run : Run Leased) (d : PlainIntake) (client : ℕ) (items : List (Buffer Leased)) (ends : List (Incoming (Buffer Leased) Key))
+    → Stands run d → Receives client items d.port.chunks ends → Stands run (record d { port = record d.port { chunks = ends } })
+chunks_moved run d client items ends stands receives =
+    record {
+      follows = stands.follows;
+      offered = stands.offered;
+      size = stands.size;
+      chunks = keys_after run.settings run.node d.port.giver d.clients client d.port.chunks ends items stands.chunks receives;
+      crumbs = stands.crumbs;
+      triggers = stands.triggers;
+      pooled = stands.pooled;
+      waits = stands.waits;
+    }
+
+pub crumbs_moved : (run : Run Leased) (d : PlainIntake) (client : ℕ) (items : List Crumb) (ends : List (Incoming Crumb Key))
+    → Stands run d → Receives client items d.port.crumbs ends → Stands run (record d { port = record d.port { crumbs = ends } })
+crumbs_moved run d client items ends stands receives =
+    record {
+      follows = stands.follows;
+      offered = stands.offered;
+      size = stands.size;
+      chunks = stands.chunks;
+      crumbs = keys_after run.settings run.node d.port.giver d.clients client d.port.crumbs ends items stands.crumbs receives;
+      triggers = stands.triggers;
+      pooled = stands.pooled;
+      waits = stands.waits;
+    }
+
+-- ---- the agent took
+
+pub chunk_taken : (run : Run Leased) (d : PlainIntake) (client : ℕ) (buffer : Buffer Leased) (agent : PlainAgent Leased)
+    → Stands run d → IsPooled d.port.giver buffer → Follows agent (after_chunk run client buffer) → Stands (after_chunk run client buffer) (record d { agent = agent })
+chunk_taken run d client buffer agent stands pooled follows =
+    record {
+      follows = follows;
+      offered = stands.offered;
+      size = stands.size;
+      chunks = stands.chunks;
+      crumbs = stands.crumbs;
+      triggers = stands.triggers;
+      pooled = all_push (IsPooled d.port.giver) run.buffers buffer stands.pooled pooled;
+      waits = stands.waits;
+    }
+
+pub crumb_taken : (run : Run Leased) (d : PlainIntake) (client : ℕ) (crumb : Crumb) (agent : PlainAgent Leased)
+    → Stands run d → Follows agent (after_crumb run client crumb) → Stands (after_crumb run client crumb) (record d { agent = agent })
+crumb_taken run d client crumb agent stands follows =
+    record {
+      follows = follows;
+      offered = stands.offered;
+      size = stands.size;
+      chunks = stands.chunks;
+      crumbs = stands.crumbs;
+      triggers = stands.triggers;
+      pooled = stands.pooled;
+      waits = stands.waits;
+    }
+
+said_since : (run : Run Leased) (d : PlainIntake) (m : Letters) (unsaid : Option Told) → Stands run d → Stands run (record d { mail = m; unsaid = unsaid })
+said_since run d m unsaid stands =
+    record {
+      follows = stands.follows;
+      offered = stands.offered;
+      size = stands.size;
+      chunks = stands.chunks;
+      crumbs = stands.crumbs;
+      triggers = stands.triggers;
+      pooled = stands.pooled;
+      waits = stands.waits;
+    }
+
+-- ---- what comes waits at the front
+
+pub waits_now : (run : Run Leased) (d : PlainIntake) (waiting : Waiting) → Stands run d → MayWait run.settings run.node d.port.giver waiting → Stands run (record d { back = Some waiting })
+waits_now run d waiting stands may =
+    record {
+      follows = stands.follows;
+      offered = stands.offered;
+      size = stands.size;
+      chunks = stands.chunks;
+      crumbs = stands.crumbs;
+      triggers = stands.triggers;
+      pooled = stands.pooled;
+      waits = may;
+    }
+
+-- ---- one chunk
+
+chunk_stands : (run : Run Leased) (d : PlainIntake) (client : ℕ) (buffer : Buffer Leased) (port : Port) (agent : PlainAgent Leased)
+    → Stands run d → (r : Incoming (Buffer Leased) Key) × IsEnd client d.port.chunks r × IsChunkOf r.key buffer → ReceivesAt client d.port.chunks (Some buffer) port.chunks
+    → port ≡ record d.port { chunks = port.chunks } → Follows agent (after_chunk run client buffer) → Stands (after_chunk run client buffer) (record d { agent = agent; port = port })
+chunk_stands run d client buffer port agent stands fact receives only follows =
+    let one = receives_one client buffer d.port.chunks port.chunks receives in
+    let moved = chunks_moved run d client (buffer ∷ []) port.chunks stands one in
+    let came = chunk_came run.settings run.node d.port.giver d.clients client d.port.chunks buffer stands.chunks stands.size fact in
+    let taken = chunk_taken run (record d { port = record d.port { chunks = port.chunks } }) client buffer agent moved came.1 follows in
+    subst (λ (p : Port). Stands (after_chunk run client buffer) (record d { agent = agent; port = p })) (sym only) taken
+
+pub took_chunk : (run : Run Leased) (d : PlainIntake) (client : ℕ) (buffer : Buffer Leased) (port : Port) (agent : PlainAgent Leased)
+    → Stands run d → (r : Incoming (Buffer Leased) Key) × IsEnd client d.port.chunks r × IsChunkOf r.key buffer → ReceivesAt client d.port.chunks (Some buffer) port.chunks
+    → port ≡ record d.port { chunks = port.chunks } → Follows agent (after_chunk run client buffer) → TakesOne run chunk_line client d (record d { agent = agent; port = port })
+took_chunk run d client buffer port agent stands fact receives only follows =
+    record {
+      item = buffer;
+      moves = record { receives = receives_one client buffer d.port.chunks port.chunks receives; port = only; clients = refl };
+      back = refl;
+      goes =
+          record {
+            stands = chunk_stands run d client buffer port agent stands fact receives only follows;
+            tells = tells_nothing d (record d { agent = agent; port = port }) refl refl;
+          };
+    }
+
+pub held_chunk : (run : Run Leased) (d : PlainIntake) (client : ℕ) (buffer : Buffer Leased) (port : Port)
+    → Stands run d → (r : Incoming (Buffer Leased) Key) × IsEnd client d.port.chunks r × IsChunkOf r.key buffer → ReceivesAt client d.port.chunks (Some buffer) port.chunks
+    → port ≡ record d.port { chunks = port.chunks } → HoldsOne run chunk_line client d (record d { port = port; back = Some (Chunk client buffer) })
+held_chunk run d client buffer port stands fact receives only =
+    let one = receives_one client buffer d.port.chunks port.chunks receives in
+    let moved = chunks_moved run d client (buffer ∷ []) port.chunks stands one in
+    let came = chunk_came run.settings run.node d.port.giver d.clients client d.port.chunks buffer stands.chunks stands.size fact in
+    let held = waits_now run (record d { port = record d.port { chunks = port.chunks } }) (Chunk client buffer) moved came in
+    record {
+      item = buffer;
+      moves = record { receives = one; port = only; clients = refl };
+      only = refl;
+      stands = subst (λ (p : Port). Stands run (record d { port = p; back = Some (Chunk client buffer) })) (sym only) held;
+    }
+
+pub chunks_counted : (client count : ℕ) (items : List (Buffer Leased)) (old new : List (Incoming (Buffer Leased) Key)) → Receives client items old new → length old ≡ count → length new ≡ count
+chunks_counted client count items old new receives counted = ap (λ (es : List (Incoming (Buffer Leased) Key)). length es) receives.new_is ∙ length_set old client receives.later ∙ counted
+
+pub took_alive : (d : PlainIntake) (client : ℕ) (buffer : Buffer Leased) (port : Port) (agent : PlainAgent Leased) → (run : Run Leased) × Stands run d
+    → (r : Incoming (Buffer Leased) Key) × IsEnd client d.port.chunks r × IsChunkOf r.key buffer → ReceivesAt client d.port.chunks (Some buffer) port.chunks
+    → port ≡ record d.port { chunks = port.chunks } → ((run : Run Leased) → Follows d.agent run → Follows agent (after_chunk run client buffer))
+    → (run : Run Leased) × Stands run (record d { agent = agent; port = port })
+took_alive d client buffer port agent known fact receives only after =
+    (after_chunk known.0 client buffer, chunk_stands known.0 d client buffer port agent known.1 fact receives only (after known.0 known.1.follows))
+
+pub held_alive : (d : PlainIntake) (client : ℕ) (buffer : Buffer Leased) (port : Port) → (run : Run Leased) × Stands run d
+    → (r : Incoming (Buffer Leased) Key) × IsEnd client d.port.chunks r × IsChunkOf r.key buffer → ReceivesAt client d.port.chunks (Some buffer) port.chunks
+    → port ≡ record d.port { chunks = port.chunks } → (run : Run Leased) × Stands run (record d { port = port; back = Some (Chunk client buffer) })
+held_alive d client buffer port known fact receives only = (known.0, (held_chunk known.0 d client buffer port known.1 fact receives only).stands)
+
+-- ---- one crumb
+
+crumb_stands : (run : Run Leased) (d : PlainIntake) (client : ℕ) (crumb : Crumb) (port : Port) (agent : PlainAgent Leased) (m : Letters) (unsaid : Option Told)
+    → Stands run d → ReceivesAt client d.port.crumbs (Some crumb) port.crumbs → port ≡ record d.port { crumbs = port.crumbs } → Follows agent (after_crumb run client crumb)
+    → Stands (after_crumb run client crumb) (record d { agent = agent; port = port; mail = m; unsaid = unsaid })
+crumb_stands run d client crumb port agent m unsaid stands receives only follows =
+    let one = receives_one client crumb d.port.crumbs port.crumbs receives in
+    let moved = crumbs_moved run d client (crumb ∷ []) port.crumbs stands one in
+    let taken = crumb_taken run (record d { port = record d.port { crumbs = port.crumbs } }) client crumb agent moved follows in
+    subst (λ (p : Port). Stands (after_crumb run client crumb) (record d { agent = agent; port = p; mail = m; unsaid = unsaid })) (sym only) (said_since (after_crumb run client crumb) (record d { agent = agent; port = record d.port { crumbs = port.crumbs } }) m unsaid taken)
+
+pub took_crumb : (run : Run Leased) (d : PlainIntake) (client : ℕ) (crumb : Crumb) (port : Port) (agent : PlainAgent Leased) (told : Option Told) (m : Letters) (unsaid : Option Told)
+    → Stands run d → ReceivesAt client d.port.crumbs (Some crumb) port.crumbs → port ≡ record d.port { crumbs = port.crumbs } → Follows agent (after_crumb run client crumb)
+    → d.unsaid ≡ None → told ≡ told_by run.settings run.node (state_of run) (Crumbed client crumb) → SaysIt d.mail told m unsaid
+    → TakesOne run crumb_line client d (record d { agent = agent; port = port; mail = m; unsaid = unsaid })
+took_crumb run d client crumb port agent told m unsaid stands receives only follows none is says_it =
+    record {
+      item = crumb;
+      moves = record { receives = receives_one client crumb d.port.crumbs port.crumbs receives; port = only; clients = refl };
+      back = refl;
+      goes =
+          record {
+            stands = crumb_stands run d client crumb port agent m unsaid stands receives only follows;
+            tells =
+                record {
+                  said = says_it.said;
+                  mail = says_it.mail;
+                  all =
+                      ap (λ (o : Option Told). option_to_list o ++ (option_to_list (told_by run.settings run.node (state_of run) (Crumbed client crumb)) ++ [])) none
+                      ∙ append-nil (option_to_list (told_by run.settings run.node (state_of run) (Crumbed client crumb))) ∙ ap (λ (o : Option Told). option_to_list o) (sym is) ∙ says_it.all;
+                };
+          };
+    }
+
+pub held_crumb : (run : Run Leased) (d : PlainIntake) (client : ℕ) (crumb : Crumb) (port : Port)
+    → Stands run d → (r : Incoming Crumb Key) × IsEnd client d.port.crumbs r × IsCrumbOf r.key crumb → ReceivesAt client d.port.crumbs (Some crumb) port.crumbs
+    → port ≡ record d.port { crumbs = port.crumbs } → HoldsOne run crumb_line client d (record d { port = port; back = Some (Crumbs client crumb) })
+held_crumb run d client crumb port stands fact receives only =
+    let one = receives_one client crumb d.port.crumbs port.crumbs receives in
+    let moved = crumbs_moved run d client (crumb ∷ []) port.crumbs stands one in
+    let came = crumb_came run.settings run.node d.port.giver d.clients client d.port.crumbs crumb stands.crumbs fact in
+    let held = waits_now run (record d { port = record d.port { crumbs = port.crumbs } }) (Crumbs client crumb) moved came in
+    record {
+      item = crumb;
+      moves = record { receives = one; port = only; clients = refl };
+      only = refl;
+      stands = subst (λ (p : Port). Stands run (record d { port = p; back = Some (Crumbs client crumb) })) (sym only) held;
+    }
+
+pub crumb_alive : (d : PlainIntake) (client : ℕ) (crumb : Crumb) (port : Port) (agent : PlainAgent Leased) (m : Letters) (unsaid : Option Told) → (run : Run Leased) × Stands run d
+    → ReceivesAt client d.port.crumbs (Some crumb) port.crumbs → port ≡ record d.port { crumbs = port.crumbs }
+    → ((run : Run Leased) → Follows d.agent run → Follows agent (after_crumb run client crumb)) → (run : Run Leased) × Stands run (record d { agent = agent; port = port; mail = m; unsaid = unsaid })
+crumb_alive d client crumb port agent m unsaid known receives only after =
+    (after_crumb known.0 client crumb, crumb_stands known.0 d client crumb port agent m unsaid known.1 receives only (after known.0 known.1.follows))
+
+pub held_crumb_alive : (d : PlainIntake) (client : ℕ) (crumb : Crumb) (port : Port) → (run : Run Leased) × Stands run d
+    → (r : Incoming Crumb Key) × IsEnd client d.port.crumbs r × IsCrumbOf r.key crumb → ReceivesAt client d.port.crumbs (Some crumb) port.crumbs
+    → port ≡ record d.port { crumbs = port.crumbs } → (run : Run Leased) × Stands run (record d { port = port; back = Some (Crumbs client crumb) })
+held_crumb_alive d client crumb port known fact receives only = (known.0, (held_crumb known.0 d client crumb port known.1 fact receives only).stands)
+
+pub crumbs_counted : (client count : ℕ) (items : List Crumb) (old new : List (Incoming Crumb Key)) → Receives client items old new → length old ≡ count → length new ≡ count
+crumbs_counted client count items old new receives counted = ap (λ (es : List (Incoming Crumb Key)). length es) receives.new_is ∙ length_set old client receives.later ∙ counted
+
+-- ---- what waited at the front
+
+pub front_chunk_alive : (d : PlainIntake) (client : ℕ) (buffer : Buffer Leased) (agent : PlainAgent Leased) (back : Option Waiting) → back ≡ None → d.back ≡ Some (Chunk client buffer)
+    → (run : Run Leased) × Stands run d → ((run : Run Leased) → Follows d.agent run → Follows agent (after_chunk run client buffer))
+    → (run : Run Leased) × Stands run (record d { agent = agent; back = back })
+front_chunk_alive d client buffer agent back none there known after =
+    let run = known.0 in
+    let stands = known.1 in
+    let may : MayWaitIf run.settings run.node d.port.giver (Some (Chunk client buffer)) = subst (λ (o : Option Waiting). MayWaitIf run.settings run.node d.port.giver o) there stands.waits in (
+      after_chunk run client buffer,
+      subst (λ (o : Option Waiting). Stands (after_chunk run client buffer) (record d { agent = agent; back = o })) (sym none)
+          (record {
+            follows = after run stands.follows;
+            offered = stands.offered;
+            size = stands.size;
+            chunks = stands.chunks;
+            crumbs = stands.crumbs;
+            triggers = stands.triggers;
+            pooled = all_push (IsPooled d.port.giver) run.buffers buffer stands.pooled may.1;
+            waits = tt;
+          }),
+    )
+
+pub front_crumb_alive : (d : PlainIntake) (client : ℕ) (crumb : Crumb) (agent : PlainAgent Leased) (back : Option Waiting) (m : Letters) (unsaid : Option Told) → back ≡ None
+    → (run : Run Leased) × Stands run d → ((run : Run Leased) → Follows d.agent run → Follows agent (after_crumb run client crumb))
+    → (run : Run Leased) × Stands run (record d { agent = agent; back = back; mail = m; unsaid = unsaid })
+front_crumb_alive d client crumb agent back m unsaid none known after =
+    let run = known.0 in
+    let stands = known.1 in (
+      after_crumb run client crumb,
+      subst (λ (o : Option Waiting). Stands (after_crumb run client crumb) (record d { agent = agent; back = o; mail = m; unsaid = unsaid })) (sym none)
+          (record {
+            follows = after run stands.follows;
+            offered = stands.offered;
+            size = stands.size;
+            chunks = stands.chunks;
+            crumbs = stands.crumbs;
+            triggers = stands.triggers;
+            pooled = stands.pooled;
+            waits = tt;
+          }),
+    )
+
+-- ---- a turn
+
+pub turn_stands : (run : Run Leased) (d : PlainIntake) (agent : PlainAgent Leased) → Stands run d → Follows agent (after_turn run) → Stands (after_turn run) (record d { agent = agent })
+turn_stands run d agent stands follows =
+    record {
+      follows = follows;
+      offered = stands.offered;
+      size = stands.size;
+      chunks = stands.chunks;
+      crumbs = stands.crumbs;
+      triggers = stands.triggers;
+      pooled = stands.pooled;
+      waits = stands.waits;
+    }
+
+-- an agent that was spent stays so, and one that memory failed is spent now
+pub turn_alive : {A E : Type 0} (d : PlainIntake) (agent : PlainAgent Leased) (answer : Result A E) → ((run : Run Leased) → Follows d.agent run → OnOk answer (Follows agent (after_turn run)))
+    → OnErr answer (IsSpent agent) → (IsSpent d.agent → IsErr answer) → (d.agent.spent ≡ false → (run : Run Leased) × Stands run d) → agent.spent ≡ false
+    → (run : Run Leased) × Stands run (record d { agent = agent })
+turn_alive d agent (Ok x) after spent stays stands alive =
+    let known = stands (false_from_ne_true d.agent.spent (λ was. let none : false ≡ true = stays was in absurd cc)) in
+    (after_turn known.0, turn_stands known.0 d agent known.1 (after known.0 known.1.follows))
+turn_alive d agent (Err x) after spent stays stands alive = let both : false ≡ true = sym alive ∙ spent in absurd cc

@@ -1,0 +1,4 @@
+pub mod Lines
+pub mod Acts
+pub mod Many
+pub mod Made

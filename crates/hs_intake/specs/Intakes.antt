@@ -1,0 +1,159 @@
+-- What contracts see of the intake of a node: its agent, the ends of its clients' links, its mail, and what waits at the front. Which run
+-- of the agent's model it stands at, and what an act makes of that run.
+use Rattle.std.specs.Prelude.{◌≡◌, ℕ, ◌<◌, List, [], ◌∷◌, ◌++◌, length, map, fold, Option, Some, None}
+use Rattle.std.specs.List.{AllByRecursion}
+use Rattle.std.specs.Option.{option_to_list}
+use Rattle.hs_base.specs.declared.told.Ask.{Ask}
+use Rattle.hs_base.specs.declared.told.Crumb.{Crumb}
+use Rattle.hs_base.specs.declared.told.Told.{Told}
+use Rattle.hs_base.specs.declared.told.Trigger.{Trigger}
+use Rattle.hs_records.specs.Plain.{PlainSettings}
+use Rattle.hs_words.specs.Buffers.{Buffer}
+use Rattle.hs_ring.specs.Parts.{Leased, Giving}
+use Rattle.hs_link.specs.Contents.{Incoming}
+use Rattle.hs_live.specs.Keys.{Key}
+use Rattle.hs_live.specs.Live.{Port, IsEnd}
+use Rattle.hs_wire.specs.Messages.{SaysTold}
+use Rattle.hs_law_agent.specs.Stepping.{Crumbed, Triggered, Asked, told_by}
+use Rattle.hs_agent.specs.Keeping.{PlainAgent}
+use Rattle.hs_agent.specs.Runs.{Run, state_of, Follows, IsChunkFor, after_chunk, after_turn}
+use Rattle.hs_agent.specs.Tries.{after_crumb, after_trigger, after_ask}
+use Rattle.hs_mail.specs.Letters.{Letters, Deed, Says}
+use Rattle.hs_mail.specs.Lives as mail
+
+-- what came, and found no memory
+pub data Waiting : Type 0 where
+  Chunk : (client : ℕ) (buffer : Buffer Leased) → Waiting
+  Crumbs : (client : ℕ) (crumb : Crumb) → Waiting
+
+pub record PlainIntake : Type 0 where
+  pub agent : PlainAgent Leased
+  pub port : Port
+  pub mail : Letters
+  pub clients : ℕ
+  -- what waits at the front
+  pub back : Option Waiting
+  -- what the agent told, and found no place in the mail
+  pub unsaid : Option Told
+
+-- one at whose front nothing waits
+abbrev pub new_intake : PlainAgent Leased → Port → Letters → ℕ → PlainIntake
+new_intake agent port mail clients = record { agent = agent; port = port; mail = mail; clients = clients; back = None; unsaid = None }
+
+-- ---- what the agent takes
+
+-- one act of the agent
+pub data Act : Type 0 where
+  TakesChunk : (client : ℕ) (buffer : Buffer Leased) → Act
+  TakesCrumb : (client : ℕ) (crumb : Crumb) → Act
+  TakesTrigger : (client : ℕ) (trigger : Trigger) → Act
+  TakesAsk : (ask : Ask) → Act
+  Turns : Act
+
+abbrev pub after_act : Run Leased → Act → Run Leased
+after_act run (TakesChunk client buffer) = after_chunk run client buffer
+after_act run (TakesCrumb client crumb) = after_crumb run client crumb
+after_act run (TakesTrigger client trigger) = after_trigger run client trigger
+after_act run (TakesAsk ask) = after_ask run ask
+after_act run Turns = after_turn run
+
+-- the run after these acts
+abbrev pub life : Run Leased → List Act → Run Leased
+life = fold after_act
+
+-- what an act tells
+abbrev pub told_at : Run Leased → Act → List Told
+told_at run (TakesChunk client buffer) = []
+told_at run (TakesCrumb client crumb) = option_to_list (told_by run.settings run.node (state_of run) (Crumbed client crumb))
+told_at run (TakesTrigger client trigger) = option_to_list (told_by run.settings run.node (state_of run) (Triggered client trigger))
+told_at run (TakesAsk ask) = option_to_list (told_by run.settings run.node (state_of run) (Asked ask))
+told_at run Turns = []
+
+-- and what these acts tell, one after another
+abbrev pub told_in : Run Leased → List Act → List Told
+told_in run [] = []
+told_in run (act ∷ acts) = told_at run act ++ told_in (after_act run act) acts
+
+-- ---- where an intake stands
+
+-- The key of an end of the client with this number.
+pub record IsKeyFor (settings : PlainSettings) (node : ℕ) (giver : Giving) (client : ℕ) (key : Key) : Type 0 where
+  pub client_is : key.client ≡ record { node = node; number = client }
+  pub pool : key.pool ≡ giver.pool
+  pub size : key.size ≡ settings.size
+  pub nodes : key.nodes ≡ settings.nodes
+  pub rules : key.rules ≡ settings.triggers
+
+-- There is an end of each client, with its key.
+pub record AreFor {T : Type 0} (settings : PlainSettings) (node : ℕ) (giver : Giving) (clients : ℕ) (ends : List (Incoming T Key)) : Type 0 where
+  pub count : length ends ≡ clients
+  pub keys : (client : ℕ) (r : Incoming T Key) → IsEnd client ends r → IsKeyFor settings node giver client r.key
+
+-- a chunk of the giver's pool
+abbrev pub IsPooled : Giving → Buffer Leased → Type 0
+IsPooled giver buffer = (buffer.lease.pool ≡ giver.pool) × (buffer.chunk.size ≡ giver.size)
+
+-- What waits may be taken.
+abbrev pub MayWait : PlainSettings → ℕ → Giving → Waiting → Type 0
+MayWait settings node giver (Chunk client buffer) = IsChunkFor settings node client buffer × IsPooled giver buffer
+MayWait settings node giver (Crumbs client crumb) = crumb.node.0 < settings.nodes
+
+abbrev pub MayWaitIf : PlainSettings → ℕ → Giving → Option Waiting → Type 0
+MayWaitIf settings node giver None = Unit {0}
+MayWaitIf settings node giver (Some waiting) = MayWait settings node giver waiting
+
+-- Between two calls the intake stands at this run of its agent.
+pub record Stands (run : Run Leased) (d : PlainIntake) : Type 0 where
+  pub follows : Follows d.agent run
+  pub offered : run.offered ≡ None
+  pub size : d.port.giver.size ≡ run.settings.size
+  pub chunks : AreFor run.settings run.node d.port.giver d.clients d.port.chunks
+  pub crumbs : AreFor run.settings run.node d.port.giver d.clients d.port.crumbs
+  pub triggers : AreFor run.settings run.node d.port.giver d.clients d.port.triggers
+  pub pooled : AllByRecursion (IsPooled d.port.giver) run.buffers
+  pub waits : MayWaitIf run.settings run.node d.port.giver d.back
+
+-- ---- what is told
+
+abbrev pub says : Told → Deed
+says told = Says (SaysTold told)
+
+-- What was told before and found no place, and what is told now, is said in this order, but for the last of it, which may find no place.
+pub record Tells (old : PlainIntake) (told : List Told) (new : PlainIntake) : Type 0 where
+  pub said : List Told
+  pub mail : new.mail ≡ mail.life old.mail (map says said)
+  pub all : option_to_list old.unsaid ++ told ≡ said ++ option_to_list new.unsaid
+
+-- The same of one message at most, where none waits for its place.
+pub record SaysIt (old : Letters) (told : Option Told) (new : Letters) (unsaid : Option Told) : Type 0 where
+  pub said : List Told
+  pub mail : new ≡ mail.life old (map says said)
+  pub all : option_to_list told ≡ said ++ option_to_list unsaid
+
+-- The agent's run goes on by these acts, and what they tell is said.
+pub record Goes (run : Run Leased) (acts : List Act) (old new : PlainIntake) : Type 0 where
+  pub stands : Stands (life run acts) new
+  pub tells : Tells old (told_in run acts) new
+
+-- ---- the lines of a client
+
+-- one of the links of each client: its ends, and what an item of it is to the agent
+pub record Line (T : Type 0) : Type 0 where
+  pub ends : Port → List (Incoming T Key)
+  pub with_ends : Port → List (Incoming T Key) → Port
+  pub takes : ℕ → T → Act
+  pub waits : ℕ → T → Waiting
+
+abbrev pub chunk_line : Line (Buffer Leased)
+chunk_line = record { ends = λ port. port.chunks; with_ends = λ port ends. record port { chunks = ends }; takes = TakesChunk; waits = Chunk }
+
+abbrev pub crumb_line : Line Crumb
+crumb_line = record { ends = λ port. port.crumbs; with_ends = λ port ends. record port { crumbs = ends }; takes = TakesCrumb; waits = Crumbs }
+
+-- ---- the front
+
+-- the act by which what waits is taken
+abbrev pub acts_in : Option Waiting → List Act
+acts_in None = []
+acts_in (Some (Chunk client buffer)) = TakesChunk client buffer ∷ []
+acts_in (Some (Crumbs client crumb)) = TakesCrumb client crumb ∷ []

@@ -1,0 +1,106 @@
+-- What is taken of one line of a client: the next item, or as many as a pass takes.
+use Rattle.std.specs.Prelude.{◌≡◌, ℕ, ◌+◌, ◌<◌, ◌≤◌, Bool, true, false, List, [], ◌∷◌, ◌++◌, length, map, slice_set, Some, None, IsSome, ◌⊎◌}
+use Rattle.hs_base.specs.declared.limits.TheConstants.{MAX_TAKEN}
+use Rattle.hs_ring.specs.Parts.{Leased}
+use Rattle.hs_link.specs.Contents.{Incoming, IsSameReceiver, IsBeginning}
+use Rattle.hs_live.specs.Keys.{Key}
+use Rattle.hs_live.specs.Live.{IsEnd}
+use Rattle.hs_agent.specs.Runs.{Run, state_of, IsSpent}
+use Rattle.hs_intake.specs.declared.took.Next.{Next}
+use Rattle.hs_intake.specs.declared.took.Next.TheVariants as nexts
+use Rattle.hs_intake.specs.declared.took.Stop.{Stop}
+use Rattle.hs_intake.specs.declared.took.Stop.TheVariants.{Empty, Most, Memory, Words}
+use Rattle.hs_intake.specs.declared.took.Took.{Took}
+use Rattle.hs_intake.specs.declared.took.Turned.{Turned}
+use Rattle.hs_intake.specs.declared.took.Turned.TheVariants.{Done, Full, Spent}
+use Rattle.hs_intake.specs.Intakes.{PlainIntake, Line, Stands, Goes, Turns, acts_in}
+
+-- The end of the client with this number received these items, and all other ends are as they were.
+pub record Receives {T : Type 0} (client : ℕ) (items : List T) (old new : List (Incoming T Key)) : Type 0 where
+  pub before : Incoming T Key
+  pub later : Incoming T Key
+  pub at : IsEnd client old before
+  pub new_is : new ≡ slice_set old client later
+  pub same : IsSameReceiver before later
+  pub received : later.received ≡ before.received ++ items
+
+-- All that the end of this client was told of was received.
+pub record IsDry {T : Type 0} (client : ℕ) (ends : List (Incoming T Key)) : Type 0 where
+  pub end : Incoming T Key
+  pub at : IsEnd client ends end
+  pub all : IsBeginning end.told end.received
+
+-- Of this line these items came, and no other end changed.
+pub record Moves {T : Type 0} (line : Line T) (client : ℕ) (items : List T) (old new : PlainIntake) : Type 0 where
+  pub receives : Receives client items (line.ends old.port) (line.ends new.port)
+  pub port : new.port ≡ line.with_ends old.port (line.ends new.port)
+  pub clients : new.clients ≡ old.clients
+
+-- No word has a place, or one that was told still waits for its place.
+abbrev pub IsMute : PlainIntake → Type 0
+IsMute d = (d.mail.words.places ≤ length d.mail.words.pending) ⊎ IsSome d.unsaid
+
+-- ---- the next item
+
+-- The next item came, and the agent took it.
+pub record TakesOne {T : Type 0} (run : Run Leased) (line : Line T) (client : ℕ) (old new : PlainIntake) : Type 0 where
+  pub item : T
+  pub moves : Moves line client (item ∷ []) old new
+  pub back : new.back ≡ old.back
+  pub goes : Goes run (line.takes client item ∷ []) old new
+
+-- The next item came, and waits at the front. Nothing else changed.
+pub record HoldsOne {T : Type 0} (run : Run Leased) (line : Line T) (client : ℕ) (old new : PlainIntake) : Type 0 where
+  pub item : T
+  pub moves : Moves line client (item ∷ []) old new
+  pub only : new ≡ record old { port = new.port; back = Some (line.waits client item) }
+  pub stands : Stands run new
+
+abbrev pub TakesNext : {T : Type 0} → Run Leased → Line T → ℕ → PlainIntake → Next → PlainIntake → Type 0
+TakesNext run line client old nexts.Taken new = TakesOne run line client old new
+TakesNext run line client old (nexts.Stopped Empty) new = (new ≡ old) × IsDry client (line.ends old.port)
+TakesNext run line client old (nexts.Stopped Memory) new = HoldsOne run line client old new
+TakesNext run line client old (nexts.Stopped Words) new = (new ≡ old) × IsMute old
+TakesNext run line client old (nexts.Stopped Most) new = ⊥
+
+-- ---- as many as a pass takes
+
+-- Why no more was taken, where these were.
+abbrev pub StopsBy : {T : Type 0} → Line T → ℕ → List T → PlainIntake → Stop → PlainIntake → Type 0
+StopsBy line client items old Empty new = Moves line client items old new × (new.back ≡ old.back) × IsDry client (line.ends new.port)
+StopsBy line client items old Most new = Moves line client items old new × (new.back ≡ old.back) × (length items ≡ MAX_TAKEN)
+StopsBy {T} line client items old Memory new = (item : T) × Moves line client (items ++ item ∷ []) old new × (new.back ≡ Some (line.waits client item))
+StopsBy line client items old Words new = Moves line client items old new × (new.back ≡ old.back) × IsMute new
+
+-- The first items of a line came, and the agent took them, all or as many as a pass takes.
+pub record TakesMany {T : Type 0} (run : Run Leased) (line : Line T) (client : ℕ) (old : PlainIntake) (took : Took) (new : PlainIntake) : Type 0 where
+  pub items : List T
+  pub count : length items ≡ took.count
+  pub few : length items ≤ MAX_TAKEN
+  pub goes : Goes run (map (line.takes client) items) old new
+  pub stops : StopsBy line client items old took.stop new
+
+-- The same of any number of a client, whatever waits at the front.
+abbrev pub TakesLine : {T : Type 0} → Run Leased → Line T → ℕ → PlainIntake → Took → PlainIntake → Type 0
+TakesLine run line client old took new =
+    ((old.clients ≤ client) × ((took ≡ record { count = 0; stop = Empty }) × (new ≡ old)))
+    ⊎ (((client < old.clients) × (IsSome old.back × ((took ≡ record { count = 0; stop = Memory }) × (new ≡ old))))
+    ⊎ ((client < old.clients) × ((old.back ≡ None) × TakesMany run line client old took new)))
+
+-- ---- the front
+
+-- What waited at the front was taken, if anything did; or it waits on, and nothing changed.
+abbrev pub TakesBack : Run Leased → PlainIntake → Bool → PlainIntake → Type 0
+TakesBack run old true new = (new.back ≡ None) × ((new.port ≡ old.port) × ((new.clients ≡ old.clients) × Goes run (acts_in old.back) old new))
+TakesBack run old false new = IsSome old.back × (new ≡ old)
+
+-- ---- a turn
+
+-- each chunk that is pinned has a place for its page
+abbrev pub HavePlaces : Run Leased → PlainIntake → Type 0
+HavePlaces run d = length (state_of run).pinned + length d.mail.pages.pending ≤ d.mail.pages.places
+
+abbrev pub MakesTurn : Run Leased → PlainIntake → Turned → PlainIntake → Type 0
+MakesTurn run old Done new = HavePlaces run old × ((new ≡ record old { agent = new.agent }) × Goes run (Turns ∷ []) old new)
+MakesTurn run old Full new = (HavePlaces run old → ⊥) × (new ≡ old)
+MakesTurn run old Spent new = HavePlaces run old × ((new ≡ record old { agent = new.agent }) × IsSpent new.agent)

@@ -1,0 +1,10 @@
+//! What the agent of a node takes in a pass: what its clients and the hub sent it, in bounded parts. What it tells goes into the mail.
+#![tactic(auto)]
+
+mod intake;
+mod making;
+mod took;
+
+pub use intake::Intake;
+pub use making::{MadeIntake, make_intake};
+pub use took::{Stop, Took, Turned};

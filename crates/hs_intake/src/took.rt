@@ -1,0 +1,61 @@
+//! What the calls answer.
+
+ghost use Rattle.std.specs.Prelude.{◌≡◌};
+
+use hs_base::Crumb;
+use hs_ring::Lease;
+use hs_words::Held;
+
+/// Why no more was taken.
+#[derive(Clone, Copy, Debug, PartialEq, Eq)]
+pub enum Stop {
+    /// Nothing more has come.
+    Empty,
+    /// So many were taken as a pass takes.
+    Most,
+    /// Memory was wanting for the next one. It waits at the front.
+    Memory,
+    /// There is no place for the message that the next one may make.
+    Words,
+}
+
+/// How many were taken, and why no more.
+#[derive(Clone, Copy, Debug, PartialEq, Eq)]
+pub struct Took {
+    pub count: u32,
+    pub stop: Stop,
+}
+
+impl Took {
+    /// Nothing was taken.
+    pub(crate) fn none(stop: Stop) -> Took
+        ensures { result ≡ record { count = 0; stop = stop } }
+    {
+        Took { count: 0, stop }
+    }
+}
+
+/// What became of a turn.
+#[derive(Clone, Copy, Debug, PartialEq, Eq)]
+pub enum Turned {
+    /// It was made.
+    Done,
+    /// There is no place for each page that it may report.
+    Full,
+    /// Memory was wanting, and the agent is spent.
+    Spent,
+}
+
+/// What became of the next item.
+#[derive(Clone, Copy)]
+pub(crate) enum Next {
+    Taken,
+    Stopped(Stop),
+}
+
+/// What came, and found no memory.
+#[derive(Drop)]
+pub(crate) enum Back {
+    Chunk { client: u16, held: Held<Lease> },
+    Crumb { client: u16, crumb: Crumb },
+}
