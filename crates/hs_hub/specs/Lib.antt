@@ -2,3 +2,4 @@ pub mod Ready
 pub mod Hub
 pub mod HubLayout
 pub mod Examples
+pub mod Life

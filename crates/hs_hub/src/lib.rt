@@ -4,7 +4,9 @@
 
 mod answers;
 mod hub;
+mod laws;
 mod ready;
 
 pub use answers::{Delivered, HubCounts, HubLimits, MakeFault};
 pub use hub::Hub;
+pub use laws::{messages_decide_the_part, pages_come_and_go};

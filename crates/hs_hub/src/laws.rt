@@ -1,0 +1,24 @@
+//! Laws of a hub. Each is the contract of a function that does nothing.
+
+ghost use Rattle.std.specs.Prelude.{◌≡◌, List};
+ghost use Rattle.hs_base.specs.declared.ids.TraceId.{TraceId};
+ghost use Rattle.hs_traces.specs.Traces.{part_of};
+ghost use Rattle.hs_traces.specs.History.{HoldsNothing, HearsAll, AreSamePages, after_all, pages_of};
+ghost use Rattle.hs_hub.specs.Hub.{PlainHub};
+ghost use Rattle.hs_hub.specs.Life.{Act, life, all_deeds};
+
+/// Whatever calls a hub has had: its pages are those that came, less what was given out and saved.
+pub fn pages_come_and_go()
+    ensures { (hub : PlainHub) (acts : List Act) → (life hub acts).traces ≡ after_all hub.traces (all_deeds hub acts) }
+{}
+
+/// What waits of a trace in two hubs is the same, if the same pages of it came to both: whatever their order and repeats, what else
+/// came, and what the hubs held before. That holds while the trace is not given out and none of its pages is too much. So a hub that
+/// is made anew and hears all that was not acknowledged holds the same pages again.
+pub fn messages_decide_the_part()
+    ensures { (trace : TraceId) (one other : PlainHub) (acts others : List Act)
+        → HoldsNothing trace one.traces → HoldsNothing trace other.traces
+        → HearsAll trace one.traces (all_deeds one acts) → HearsAll trace other.traces (all_deeds other others)
+        → AreSamePages (pages_of trace (all_deeds one acts)) (pages_of trace (all_deeds other others))
+        → part_of (life one acts).traces.waiting trace ≡ part_of (life other others).traces.waiting trace }
+{}
