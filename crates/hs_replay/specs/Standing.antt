@@ -1,7 +1,7 @@
 -- Where the parts of a node stand when its machine of the lockstep schedule stands somewhere. Each client has done as many operations as
 -- the machine says, at the draws of the journal, and of what it sent the agent took what the log says. The agent follows the events of
 -- the node's run. The pool is after its history. Asks wait that the agent did not take, and messages that the coordinator did not hear.
-use Rattle.std.specs.Prelude.{◌≡◌, ℕ, List, ◌++◌, length, map, slice_get, Option, Some, None, count_by}
+use Rattle.std.specs.Prelude.{◌≡◌, ℕ, List, ◌++◌, length, map, slice_get, Option, Some, None, count_by, true}
 use Rattle.std.specs.List.{AllByRecursion}
 use Rattle.std.specs.Option.{option_and_then}
 use Rattle.hs_agent.specs.Keeping.{PlainAgent}
