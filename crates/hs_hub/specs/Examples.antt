@@ -28,7 +28,7 @@ abbrev whole : Standing
 whole = record (whole_at 1).standing { trace = t 107 }
 
 abbrev unheard : Standing
-unheard = record whole { wholeness = UnheardSince }
+unheard = record whole { wholeness = UnheardSince; pages = 0 }
 
 abbrev answered : PlainHub
 answered =

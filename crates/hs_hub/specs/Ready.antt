@@ -5,12 +5,13 @@ use Rattle.hs_base.specs.declared.ids.TraceId.{TraceId}
 use Rattle.hs_groups.specs.declared.followed.Followed.{Followed}
 use Rattle.hs_groups.specs.Groups.{PlainGroups}
 use Rattle.hs_standings.specs.Standing.{PlainStandings}
-use Rattle.hs_traces.specs.Traces.{PlainTraces, is_waiting}
+use Rattle.hs_traces.specs.Traces.{PlainTraces, is_waiting, keys_in}
+use Rattle.hs_verdict.specs.Pages.{are_full}
 use Rattle.hs_verdict.specs.Verdict.{has_all}
 
--- whether pages of a trace wait, and nothing more is to come of it
+-- whether pages of a trace wait, all that lives say they handed out, and nothing more is to come of it
 abbrev pub is_ready : PlainGroups → PlainStandings → PlainTraces → TraceId → Bool
-is_ready g s p trace = is_waiting p trace && has_all g s trace
+is_ready g s p trace = is_waiting p trace && (has_all g s trace && are_full s trace (keys_in p.waiting trace))
 
 abbrev pub traces_of : Followed → List TraceId
 traces_of followed = followed.ask.group.lead ∷ followed.ask.laterals

@@ -7,13 +7,15 @@ use hs_base::{Laterals, TraceId};
 use hs_groups::{Followed, Groups};
 use hs_standings::Standings;
 use hs_traces::Traces;
-use hs_verdict::has_all;
+use hs_verdict::{Pages, are_full, has_all};
 
-/// Whether pages of a trace wait, and nothing more is to come of it.
+/// Whether pages of a trace wait, all that lives say they handed out, and nothing more is to come of it.
 fn is_ready(groups: &Groups, standings: &Standings, traces: &Traces, trace: TraceId) -> bool
     ensures { result ≡ is_ready groups.now standings.now traces.now trace }
 {
-    traces.waits(trace) && has_all(groups, standings, trace)
+    traces.waits(trace)
+        && has_all(groups, standings, trace)
+        && are_full(standings, trace, &Pages::Waiting(traces))
 }
 
 /// The first of these traces that is ready.

@@ -8,6 +8,7 @@ ghost use Rattle.hs_standings.specs.Closing.{all_closed};
 use crate::answers::{Latest, Life};
 use hs_base::Memory;
 use indexmap::IndexMap;
+use indexmap::map::Slice;
 use std::alloc::Global;
 use std::marker::Model;
 
@@ -47,6 +48,13 @@ impl Book {
         ensures { option_copied result ≡ lookup (same_life life) self.now }
     {
         self.lives.get(&life)
+    }
+
+    /// The lives, in the order in which they spoke first.
+    pub fn lives(&self) -> Slice<'_, Life, Latest>
+        ensures { result ≡ self.now }
+    {
+        self.lives.as_slice()
     }
 
     /// Whether each life is closed to the trace.

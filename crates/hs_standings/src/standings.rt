@@ -2,13 +2,14 @@
 
 ghost use Rattle.std.specs.Prelude.{◌≡◌, ◌≢◌, ◌+◌, ◌<◌, ◌≤◌, [], length, None, Some, IfOk, OnOk, OnErr, option_copied, option_map};
 ghost use Rattle.std.specs.Map.{lookup};
-ghost use Rattle.hs_standings.specs.Standing.{same_id, PlainStandings, no_standings, latest_of, count_of, answer_to, with_standing, without_trace, latest_at};
+ghost use Rattle.hs_standings.specs.Standing.{same_id, PlainStandings, no_standings, lives_of, latest_of, count_of, answer_to, with_standing, without_trace, latest_at};
 ghost use Rattle.hs_standings.specs.Closing.{are_closed};
 
 use crate::answers::{Latest, Life, Noted};
 use crate::book::Book;
 use hs_base::{Memory, TraceId};
 use hs_wire::Standing;
+use indexmap::map::Slice;
 use std::alloc::Global;
 use std::collections::BTreeMap;
 use std::marker::Model;
@@ -126,6 +127,16 @@ impl Standings {
     {
         match self.books.get(&trace) {
             Some(book) => book.get(life),
+            None => None,
+        }
+    }
+
+    /// The lives that spoke of a trace, each with its latest standing, or `None` where none did.
+    pub fn lives(&self, trace: TraceId) -> Option<Slice<'_, Life, Latest>>
+        ensures { result ≡ lives_of self.now.books trace }
+    {
+        match self.books.get(&trace) {
+            Some(book) => Some(book.lives()),
             None => None,
         }
     }

@@ -24,6 +24,10 @@ is_own sender header = header.client.node == sender.node && header.client.number
 abbrev pub key_of : Sender → Header → PageKey
 key_of sender header = record { node = sender.node; epoch = sender.epoch; client = sender.client; core = sender.core; page = header.page }
 
+-- whether a life of a node wrote the page
+abbrev pub is_from : (node epoch : ℕ) → PageKey → Bool
+is_from node epoch key = key.node == node && key.epoch == epoch
+
 -- ---- worked examples
 
 abbrev pub key_at : (node epoch client core page : ℕ) → PageKey

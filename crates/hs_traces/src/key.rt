@@ -1,7 +1,7 @@
 //! What tells pages of a trace apart.
 
 ghost use Rattle.std.specs.Prelude.{◌≡◌};
-ghost use Rattle.hs_traces.specs.Keys.{is_own, key_of};
+ghost use Rattle.hs_traces.specs.Keys.{is_from, is_own, key_of};
 
 use hs_words::Header;
 
@@ -30,6 +30,13 @@ pub fn is_own(sender: &Sender, header: &Header) -> bool
     ensures { result ≡ is_own sender.now header.now }
 {
     header.client.node == sender.node && header.client.number == sender.client
+}
+
+/// Whether a life of a node wrote the page.
+pub fn is_from(node: u16, epoch: u64, key: &PageKey) -> bool
+    ensures { result ≡ is_from node epoch key.now }
+{
+    key.node == node && key.epoch == epoch
 }
 
 /// The key of a sender's page.

@@ -1,11 +1,11 @@
 //! The pages of one trace that are given out together.
 
-ghost use Rattle.std.specs.Prelude.{◌≡◌, ◌+◌, ◌<◌, ◌^◌, [], length, find, slice_get, false, IfOk, OnOk, OnErr, option_map};
+ghost use Rattle.std.specs.Prelude.{◌≡◌, ◌+◌, ◌<◌, ◌^◌, [], length, count_by, find, slice_get, false, IfOk, OnOk, OnErr, option_map};
 ghost use Rattle.std.specs.Ordering.{is_lt};
-ghost use Rattle.hs_traces.specs.Keys.{key_cmp};
+ghost use Rattle.hs_traces.specs.Keys.{is_from, key_cmp};
 ghost use Rattle.hs_traces.specs.Parts.{bytes_of, keys_of, has_key, with_page, next_page};
 
-use crate::key::PageKey;
+use crate::key::{PageKey, is_from};
 use hs_base::{Bytes, List, Memory};
 use std::alloc::Global;
 use std::collections::BTreeMap;
@@ -97,6 +97,16 @@ impl Part {
             keys.append(*key)?;
         }
         Ok(keys)
+    }
+
+    /// How many pages a life of a node wrote.
+    pub fn count_from(&self, node: u16, epoch: u64) -> usize
+        ensures { result ≡ count_by (is_from node epoch) (keys_of self.now) }
+    {
+        self.pages
+            .keys()
+            .filter(|key| is_from(node, epoch, key))
+            .count()
     }
 
     /// Adds a page. After `Memory` the part is as it was.

@@ -1,12 +1,12 @@
 //! All pages that are held.
 
-ghost use Rattle.std.specs.Prelude.{◌≡◌, ◌≢◌, ◌+◌, ◌<◌, ◌≤◌, ◌↔◌, ◌⊎◌, [], length, map, true, false, Ok, Err, Some, None, IfOk, IfErr, OnOk, OnErr, IsSome, option_map};
+ghost use Rattle.std.specs.Prelude.{◌≡◌, ◌≢◌, ◌+◌, ◌<◌, ◌≤◌, ◌↔◌, ◌⊎◌, [], count_by, length, map, true, false, Ok, Err, Some, None, IfOk, IfErr, OnOk, OnErr, IsSome, option_map};
 ghost use Rattle.std.specs.Map.{lookup};
 ghost use Rattle.std.specs.NonZero.{non_zero_usize_get};
 ghost use Rattle.hs_base.specs.Ids.{same_trace};
 ghost use Rattle.hs_words.specs.Pages.{Sheet};
 ghost use Rattle.hs_words.specs.Reading.{Spells};
-ghost use Rattle.hs_traces.specs.Keys.{is_own, key_of};
+ghost use Rattle.hs_traces.specs.Keys.{is_from, is_own, key_of};
 ghost use Rattle.hs_traces.specs.Parts.{Pages, bytes_of};
 ghost use Rattle.hs_traces.specs.Traces.{PlainTraces, AreSmall, no_traces, has_page, has_page_in, keys_in, is_full, answer_to, answer_for, with_page_of, oldest_of, offered, answer_of_offer, after_saved, is_out, is_waiting, page_behind, counts_of, held_bytes};
 
@@ -237,6 +237,16 @@ impl Traces {
         ensures { result ≡ is_waiting self.now trace }
     {
         self.waiting.contains(&trace)
+    }
+
+    /// How many pages of what waits of a trace a life of a node wrote.
+    pub fn waiting_from(&self, trace: TraceId, node: u16, epoch: u64) -> usize
+        ensures { result ≡ count_by (is_from node epoch) (keys_in self.now.waiting trace) }
+    {
+        match self.waiting.peek(&trace) {
+            Some(part) => part.count_from(node, epoch),
+            None => 0,
+        }
     }
 
     /// Whether a page with this key is among what is given out of a trace.

@@ -1,6 +1,6 @@
 -- What holds where a trace is said to be whole.
 use Rattle.std.proofs.Common.{◌≡◌, ℕ, Bool, true, false, not, ◌&&◌, ◌||◌, eqb, List, Option, Some, None, refl, sym, ap, ◌∙◌}
-use Rattle.std.specs.Prelude.{slice_get}
+use Rattle.std.specs.Prelude.{count_by, slice_get}
 use Rattle.std.specs.List.{list_all, list_any}
 use Rattle.std.specs.Option.{option_map_or}
 use Rattle.hs_lists.proofs.Tests.{list_all_at}
@@ -14,6 +14,8 @@ use Rattle.hs_standings.specs.Standing.{PlainStandings, Lives, latest_of, lives_
 use Rattle.hs_standings.specs.Closing.{is_closed, says_whole, all_closed, are_closed}
 use Rattle.hs_traces.specs.declared.key.PageKey.{PageKey}
 use Rattle.hs_verdict.specs.Verdict.{claims, latest_life, life_of, is_node_closed, are_nodes_closed, is_answered, has_all, is_page_whole, is_whole}
+use Rattle.hs_traces.specs.Keys.{is_from}
+use Rattle.hs_verdict.specs.Pages.{is_full, are_full}
 use Rattle.hs_verdict.specs.Whole.{IsWhole}
 use borrow.Author.Tests.{eqb-true}
 
@@ -43,11 +45,19 @@ lives_closed : (o : Option Lives) → option_map_or all_closed o true ≡ true �
 lives_closed o e lives is at entry there =
     list_all_at (λ (x : Life × Latest). is_closed x.1) lives at entry (sym (ap (λ (p : Option Lives). option_map_or all_closed p true) is) ∙ e) there
 
+lives_full : (keys : List PageKey) (o : Option Lives) → option_map_or (list_all (is_full keys)) o true ≡ true → (lives : Lives) → o ≡ Some lives → (at : ℕ) (entry : Life × Latest) → slice_get lives at ≡ Some entry
+    → entry.1.standing.pages ≡ count_by (is_from entry.0.node entry.0.epoch) keys
+lives_full keys o e lives is at entry there =
+    eqb-true entry.1.standing.pages (count_by (is_from entry.0.node entry.0.epoch) keys)
+    (list_all_at (is_full keys) lives at entry (sym (ap (λ (p : Option Lives). option_map_or (list_all (is_full keys)) p true) is) ∙ e) there)
+
 pub whole_said : (g : PlainGroups) (s : PlainStandings) (trace : TraceId) (pages : List PageKey) → is_whole g s trace pages ≡ true → IsWhole g s trace pages
 whole_said g s trace pages e =
     let whole_pages = list_all (is_page_whole s trace) pages in
-    let all : has_all g s trace ≡ true = left (has_all g s trace) (are_closed s trace && whole_pages) e in
-    let rest : (are_closed s trace && whole_pages) ≡ true = right (has_all g s trace) (are_closed s trace && whole_pages) e in
+    let held = are_full s trace pages && whole_pages in
+    let all : has_all g s trace ≡ true = left (has_all g s trace) (are_closed s trace && held) e in
+    let rest : (are_closed s trace && held) ≡ true = right (has_all g s trace) (are_closed s trace && held) e in
+    let full : held ≡ true = right (are_closed s trace) held rest in
     record {
       claimed = left (list_any (claims trace) g.groups) (list_all (is_answered g s trace) g.groups) all;
       answered = λ place followed there claimed.
@@ -56,6 +66,7 @@ whole_said g s trace pages e =
           said is_closed (latest_of s trace (latest_life g (record { 0 = node })))
           (list_all_at (λ (n : ℕ). is_node_closed g s trace (record { 0 = n })) (nodes_of followed.asked) at node
           (right (eqb followed.waiting.0 0) (are_nodes_closed g s trace followed.asked) (group_answered g s trace all place followed there claimed)) here);
-      lives = lives_closed (lives_of s.books trace) (left (are_closed s trace) whole_pages rest);
-      written = λ at page here. said says_whole (latest_of s trace (life_of page)) (list_all_at (is_page_whole s trace) pages at page (right (are_closed s trace) whole_pages rest) here);
+      lives = lives_closed (lives_of s.books trace) (left (are_closed s trace) held rest);
+      full = lives_full pages (lives_of s.books trace) (left (are_full s trace pages) whole_pages full);
+      written = λ at page here. said says_whole (latest_of s trace (life_of page)) (list_all_at (is_page_whole s trace) pages at page (right (are_full s trace pages) whole_pages full) here);
     }

@@ -1,6 +1,7 @@
 -- What a hub says of a trace: of each node whether it was asked and answered, of each life what it said last, and whether the trace is
 -- whole. Nothing more is to come of a trace where each node that was asked for it answered and the latest life of each is closed to it.
--- It is whole where, besides, no earlier life is open, and each life that wrote a page of it says that its part is whole.
+-- It is whole where, besides, no earlier life is open, all pages came that lives say they handed out, and each life that wrote a page of it
+-- says that its part is whole.
 use Rattle.std.specs.Prelude.{◌≡◌, ℕ, Bool, true, false, not, ◌&&◌, ◌||◌, ◌==◌, List, [], ◌∷◌, nat_lt, Option, Some, None, if◌then◌else◌, refl}
 use Rattle.std.specs.List.{list_all, list_any}
 use Rattle.std.specs.Option.{option_map_or}
@@ -25,6 +26,7 @@ use Rattle.hs_standings.specs.Standing.{PlainStandings, no_standings, latest_of,
 use Rattle.hs_standings.specs.Closing.{is_closed, says_whole, are_closed}
 use Rattle.hs_traces.specs.declared.key.PageKey.{PageKey}
 use Rattle.hs_traces.specs.Keys.{key_at}
+use Rattle.hs_verdict.specs.Pages.{are_full}
 use Rattle.hs_verdict.specs.declared.words.NodeWord.{NodeWord}
 use Rattle.hs_verdict.specs.declared.words.NodeWord.TheVariants as of_node
 use Rattle.hs_verdict.specs.declared.words.LifeWord.{LifeWord}
@@ -94,7 +96,7 @@ abbrev pub is_page_whole : PlainStandings → TraceId → PageKey → Bool
 is_page_whole s trace page = option_map_or says_whole (latest_of s trace (life_of page)) false
 
 abbrev pub is_whole : PlainGroups → PlainStandings → TraceId → List PageKey → Bool
-is_whole g s trace pages = has_all g s trace && (are_closed s trace && list_all (is_page_whole s trace) pages)
+is_whole g s trace pages = has_all g s trace && (are_closed s trace && (are_full s trace pages && list_all (is_page_whole s trace) pages))
 
 -- ---- worked examples: node 0, in life 5, tells of its group 7, whose lead is trace 107, with a crumb to node 1, whose life is 3
 
@@ -125,6 +127,11 @@ whole_trace = refl
 silent_nodes : (is_whole lone both (t 107) pages ≡ false) × (is_whole answered both (t 108) [] ≡ false)
 unfolding nodes_of
 silent_nodes = (refl, refl)
+
+-- not with a page too few
+late_page : is_whole answered both (t 107) (key_at 0 5 0 0 0 ∷ []) ≡ false
+unfolding nodes_of
+late_page = refl
 
 -- not with an open life, be it an earlier one, nor with a page of a life that said nothing, nor where a newer life was heard that
 -- has said nothing

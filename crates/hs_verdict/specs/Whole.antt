@@ -1,5 +1,5 @@
 -- What it means that a trace is whole, in words of its nodes and lives.
-use Rattle.std.specs.Prelude.{◌≡◌, ℕ, true, List, slice_get, Some}
+use Rattle.std.specs.Prelude.{◌≡◌, ℕ, true, List, count_by, slice_get, Some}
 use Rattle.std.specs.List.{list_any}
 use Rattle.hs_base.specs.declared.ids.TraceId.{TraceId}
 use Rattle.hs_base.specs.NodeSets.{nodes_of}
@@ -9,6 +9,7 @@ use Rattle.hs_standings.specs.declared.answers.Latest.{Latest}
 use Rattle.hs_standings.specs.declared.answers.Life.{Life}
 use Rattle.hs_standings.specs.Standing.{PlainStandings, Lives, latest_of, lives_of}
 use Rattle.hs_standings.specs.Closing.{is_closed, says_whole}
+use Rattle.hs_traces.specs.Keys.{is_from}
 use Rattle.hs_traces.specs.declared.key.PageKey.{PageKey}
 use Rattle.hs_verdict.specs.Verdict.{claims, latest_life, life_of}
 
@@ -27,5 +28,8 @@ pub record IsWhole (g : PlainGroups) (s : PlainStandings) (trace : TraceId) (pag
       → HasSaid s trace (latest_life g (record { 0 = node })) (λ latest. is_closed latest ≡ true)
   -- so does each other life that spoke of the trace
   pub lives : (lives : Lives) → lives_of s.books trace ≡ Some lives → (at : ℕ) (entry : Life × Latest) → slice_get lives at ≡ Some entry → is_closed entry.1 ≡ true
+  -- of each as many pages are here as it says it handed out
+  pub full : (lives : Lives) → lives_of s.books trace ≡ Some lives → (at : ℕ) (entry : Life × Latest) → slice_get lives at ≡ Some entry
+      → entry.1.standing.pages ≡ count_by (is_from entry.0.node entry.0.epoch) pages
   -- and each life that wrote a page of it says whole
   pub written : (at : ℕ) (page : PageKey) → slice_get pages at ≡ Some page → HasSaid s trace (life_of page) (λ latest. says_whole latest ≡ true)

@@ -6,6 +6,7 @@ ghost use Rattle.hs_base.specs.NodeSets.{nodes_of};
 ghost use Rattle.hs_verdict.specs.Verdict.{claims, is_node_closed, are_nodes_closed, is_answered, has_all, is_page_whole, is_whole};
 
 use crate::asked::claims;
+use crate::pages::{Pages, are_full};
 use hs_base::{NodeId, NodeSet, TraceId};
 use hs_groups::{Followed, Groups};
 use hs_standings::{Life, Standings};
@@ -96,12 +97,13 @@ fn are_pages_whole(standings: &Standings, trace: TraceId, pages: &[PageKey]) -> 
         .all(|page| is_page_whole(standings, trace, *page))
 }
 
-/// Whether a trace with these pages is whole: nothing more is to come of it, each life that spoke of it is closed to it, and each
-/// life that wrote a page of it says that its part is whole.
+/// Whether a trace with these pages is whole: nothing more is to come of it, each life that spoke of it is closed to it, these are all
+/// pages that lives say they handed out, and each life that wrote one says that its part is whole.
 pub fn is_whole(groups: &Groups, standings: &Standings, trace: TraceId, pages: &[PageKey]) -> bool
     ensures { result ≡ is_whole groups.now standings.now trace pages.now }
 {
     has_all(groups, standings, trace)
         && standings.are_closed(trace)
+        && are_full(standings, trace, &Pages::Out(pages))
         && are_pages_whole(standings, trace, pages)
 }
