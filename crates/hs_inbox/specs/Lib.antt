@@ -1,0 +1,3 @@
+pub mod Delivering
+pub mod InboxLayout
+pub mod Examples

@@ -1,0 +1,6 @@
+//! What the hub asks of a node, until the node's agent takes it, in memory that is taken when the inbox is made.
+#![tactic(auto)]
+
+mod inbox;
+
+pub use inbox::{Delivered, Inbox};
