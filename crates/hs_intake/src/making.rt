@@ -27,7 +27,7 @@ pub struct MadeIntake {
     pub clients: List<NodeClient>,
 }
 
-/// An intake that has taken nothing, with the clients of its node, of which nothing was done.
+/// An intake that has taken nothing, with the clients of its node, of which nothing was done. Its agent keeps no journal.
 pub fn make_intake(
     alloc: Global,
     settings: &Settings,
@@ -46,7 +46,7 @@ pub fn make_intake(
         &settings.triggers,
         settings.nodes,
     )?;
-    let Ok(agent) = Agent::make(alloc, NodeId(limits.node), settings) else {
+    let Ok(agent) = Agent::bare(alloc, NodeId(limits.node), settings) else {
         return Err(MakeFault::Memory);
     };
     let Made {

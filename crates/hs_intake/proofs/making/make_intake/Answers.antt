@@ -1,14 +1,14 @@
 use Rattle.std.proofs.Common.{refl, sym, subst}
 use Rattle.hs_records.specs.Plain.{settings_of}
-use Rattle.hs_agent.specs.Runs.{new_run}
+use Rattle.hs_agent.specs.Runs.{bare_run}
 use Rattle.hs_intake.specs.Intakes.{PlainIntake}
 use Rattle.hs_intake.specs.Making.{IsMade}
 use Rattle.hs_intake.proofs.Made.{made_stands}
 use Rattle.hs_intake.proofs.making.make_intake.Goals as goal
 
-pub make-requires-2 : goal.make-requires-2
-make-requires-2 c = (
-  new_run (settings_of c.args.settings.now) c.args.limits.now.node,
+pub make-requires : goal.make-requires
+make-requires c = (
+  bare_run (settings_of c.args.settings.now) c.args.limits.now.node,
   made_stands (settings_of c.args.settings.now) c.args.limits.now c.in_ok-made.made c.in-Ok.agent c.args.mail c.requires.size c.in_ok-made.ensures.made c.in-Ok.ensures,
 )
 
@@ -18,7 +18,7 @@ returns-clause-made c =
     (λ (d : PlainIntake).
     IsMade (settings_of c.args.settings.now) c.args.limits.now c.args.mail
     (record { intake = d; late = c.in_ok-made.made.late; segments = c.in_ok-made.made.segments; clients = c.in_ok-made.made.clients }))
-    (sym c.make-2.ensures)
+    (sym c.make.ensures)
     (record {
       stands = made_stands (settings_of c.args.settings.now) c.args.limits.now c.in_ok-made.made c.in-Ok.agent c.args.mail c.requires.size c.in_ok-made.ensures.made c.in-Ok.ensures;
       clients = c.in_ok-made.ensures.made;
