@@ -1,6 +1,6 @@
 //! The inbox of a node.
 
-ghost use Rattle.std.specs.Prelude.{◌≡◌, ◌<◌, ◌+◌, length, drop, option_copied, slice_get, IfOk, IfSome, IfNone, OnErr};
+ghost use Rattle.std.specs.Prelude.{◌≡◌, true, ◌<◌, ◌+◌, length, drop, option_copied, slice_get, IfOk, IfSome, IfNone, OnErr};
 ghost use Rattle.hs_base.specs.Rules.{is_declared};
 ghost use Rattle.hs_base.specs.declared.told.Ask.{Ask};
 ghost use Rattle.hs_inbox.specs.Delivering.{no_asks, IsAskFor, Delivers};
@@ -106,7 +106,8 @@ impl Inbox {
 
     /// The ask that waits for longest, if one waits.
     pub fn first(&self) -> Option<&Ask>
-        ensures { option_copied result ≡ slice_get self.now.asks 0 }
+        ensures first { option_copied result ≡ slice_get self.now.asks 0 }
+        ensures declared { IfSome result (λ ask. is_declared self.now.rules ask.now.group.trigger ≡ true) }
     {
         self.asks.front()
     }
