@@ -126,7 +126,7 @@ crumb_taken run d client crumb agent stands follows =
       waits = stands.waits;
     }
 
-said_since : (run : Run Leased) (d : PlainIntake) (m : Letters) (unsaid : Option Told) → Stands run d → Stands run (record d { mail = m; unsaid = unsaid })
+pub said_since : (run : Run Leased) (d : PlainIntake) (m : Letters) (unsaid : Option Told) → Stands run d → Stands run (record d { mail = m; unsaid = unsaid })
 said_since run d m unsaid stands =
     record {
       follows = stands.follows;

@@ -1,4 +1,5 @@
 pub mod Lines
 pub mod Acts
 pub mod Many
+pub mod Triggers
 pub mod Made

@@ -1,7 +1,10 @@
 -- What one end receives, and what its key says of what it received.
 use Rattle.std.proofs.Common.{◌≡◌, ℕ, zero, suc, ◌<◌, List, [], ◌∷◌, ◌++◌, length, Option, Some, None, refl, sym, ap, subst, ◌∙◌, arith, append_assoc, append-nil, slice_get}
-use Rattle.std.specs.Prelude.{slice_set, IsSome, option_map}
+use Rattle.std.specs.Prelude.{true, slice_set, IsSome, option_map}
+use Rattle.hs_base.specs.Rules.{is_declared}
+use Rattle.hs_base.specs.declared.settings.TriggerRule.{TriggerRule}
 use Rattle.hs_base.specs.declared.told.Crumb.{Crumb}
+use Rattle.hs_base.specs.declared.told.Trigger.{Trigger}
 use Rattle.hs_records.specs.Plain.{PlainSettings}
 use Rattle.hs_words.specs.declared.page.Header.{Header}
 use Rattle.hs_words.specs.Buffers.{Buffer}
@@ -9,7 +12,7 @@ use Rattle.hs_words.specs.Pages.{Sheet}
 use Rattle.hs_words.specs.Chunks.{header_of}
 use Rattle.hs_ring.specs.Parts.{Leased, Giving}
 use Rattle.hs_link.specs.Contents.{Incoming}
-use Rattle.hs_live.specs.Keys.{Key, IsChunkOf, IsCrumbOf}
+use Rattle.hs_live.specs.Keys.{Key, IsChunkOf, IsCrumbOf, IsTriggerOf}
 use Rattle.hs_live.specs.Live.{IsEnd, ReceivesAt}
 use Rattle.hs_agent.specs.Points.{sheet_in}
 use Rattle.hs_agent.specs.Runs.{IsChunkFor}
@@ -136,3 +139,7 @@ chunk_came settings node giver clients client ends buffer are size (r, at, is) =
 pub crumb_came : (settings : PlainSettings) (node : ℕ) (giver : Giving) (clients client : ℕ) (ends : List (Incoming Crumb Key)) (crumb : Crumb)
     → AreFor settings node giver clients ends → (r : Incoming Crumb Key) × IsEnd client ends r × IsCrumbOf r.key crumb → crumb.node.0 < settings.nodes
 crumb_came settings node giver clients client ends crumb are (r, at, is) = subst (λ (n : ℕ). crumb.node.0 < n) (are.keys client r at).nodes is
+
+pub trigger_came : (settings : PlainSettings) (node : ℕ) (giver : Giving) (clients client : ℕ) (ends : List (Incoming Trigger Key)) (trigger : Trigger)
+    → AreFor settings node giver clients ends → (r : Incoming Trigger Key) × IsEnd client ends r × IsTriggerOf r.key trigger → is_declared settings.triggers trigger.trigger ≡ true
+trigger_came settings node giver clients client ends trigger are (r, at, is) = subst (λ (rules : List TriggerRule). is_declared rules trigger.trigger ≡ true) (are.keys client r at).rules is

@@ -30,7 +30,7 @@ pub record SoFar {T : Type 0} (run : Run Leased) (line : Line T) (client : ℕ) 
   pub goes : Goes run (map (line.takes client) items) old new
 
 module _ {T : Type 0} (run : Run Leased) (line : Line T) (client : ℕ) where
-  moves_more : ((p : Port) (xs ys : List (Incoming T Key)) → line.with_ends (line.with_ends p xs) ys ≡ line.with_ends p ys)
+  pub moves_more : ((p : Port) (xs ys : List (Incoming T Key)) → line.with_ends (line.with_ends p xs) ys ≡ line.with_ends p ys)
       → (xs ys : List T) (a b c : PlainIntake) → Moves line client xs a b → Moves line client ys b c → Moves line client (xs ++ ys) a c
   moves_more over xs ys a b c first second =
       record {
@@ -39,7 +39,7 @@ module _ {T : Type 0} (run : Run Leased) (line : Line T) (client : ℕ) where
         clients = second.clients ∙ first.clients;
       }
 
-  pub none_yet : (old : PlainIntake) → Stands run old → old.port ≡ line.with_ends old.port (line.ends old.port) → client < length (line.ends old.port) → SoFar run line client old 0 old
+  unfoldable pub none_yet : (old : PlainIntake) → Stands run old → old.port ≡ line.with_ends old.port (line.ends old.port) → client < length (line.ends old.port) → SoFar run line client old 0 old
   none_yet old stands same low =
       let end = end_there (line.ends old.port) client low in
       record {
@@ -50,7 +50,7 @@ module _ {T : Type 0} (run : Run Leased) (line : Line T) (client : ℕ) where
         goes = goes_nothing run old old stands refl refl;
       }
 
-  pub one_more : ((p : Port) (xs ys : List (Incoming T Key)) → line.with_ends (line.with_ends p xs) ys ≡ line.with_ends p ys)
+  unfoldable pub one_more : ((p : Port) (xs ys : List (Incoming T Key)) → line.with_ends (line.with_ends p xs) ys ≡ line.with_ends p ys)
       → (old mid new : PlainIntake) (count : ℕ) → SoFar run line client old count mid → ((later : Run Leased) → Stands later mid → TakesOne later line client mid new)
       → SoFar run line client old (count + 1) new
   one_more over old mid new count so next =
@@ -66,11 +66,11 @@ module _ {T : Type 0} (run : Run Leased) (line : Line T) (client : ℕ) where
             (goes_more run acts (line.takes client one.item ∷ []) old mid new so.goes one.goes);
       }
 
-  tells_same : (told : List Told) (a b c : PlainIntake) → c.mail ≡ b.mail → c.unsaid ≡ b.unsaid → Tells a told b → Tells a told c
+  pub tells_same : (told : List Told) (a b c : PlainIntake) → c.mail ≡ b.mail → c.unsaid ≡ b.unsaid → Tells a told b → Tells a told c
   tells_same told a b c mail unsaid tells =
       record { said = tells.said; mail = mail ∙ tells.mail; all = tells.all ∙ ap (λ (o : Option Told). tells.said ++ option_to_list o) (sym unsaid) }
 
-  pub stopped : ((p : Port) (xs ys : List (Incoming T Key)) → line.with_ends (line.with_ends p xs) ys ≡ line.with_ends p ys)
+  unfoldable pub stopped : ((p : Port) (xs ys : List (Incoming T Key)) → line.with_ends (line.with_ends p xs) ys ≡ line.with_ends p ys)
       → (old mid new : PlainIntake) (count : ℕ) (stop : Stop) → count ≤ MAX_TAKEN → SoFar run line client old count mid
       → ((later : Run Leased) → Stands later mid → TakesNext later line client mid (nexts.Stopped stop) new)
       → TakesMany run line client old (record { count = count; stop = stop }) new
@@ -116,7 +116,7 @@ module _ {T : Type 0} (run : Run Leased) (line : Line T) (client : ℕ) where
         );
       }
 
-  pub all_taken : (old new : PlainIntake) (count : ℕ) → count ≡ MAX_TAKEN → SoFar run line client old count new → TakesMany run line client old (record { count = MAX_TAKEN; stop = Most }) new
+  unfoldable pub all_taken : (old new : PlainIntake) (count : ℕ) → count ≡ MAX_TAKEN → SoFar run line client old count new → TakesMany run line client old (record { count = MAX_TAKEN; stop = Most }) new
   all_taken old new count full so =
       record {
         items = so.items;

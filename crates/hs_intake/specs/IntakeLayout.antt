@@ -6,11 +6,12 @@ use Rattle.hs_agent.specs.Runs.{Run}
 use Rattle.hs_intake.specs.declared.took.Back.{Back}
 use Rattle.hs_intake.specs.declared.took.Back.TheVariants as backs
 use Rattle.hs_intake.specs.declared.intake.Intake.TheInside.{Inside}
-use Rattle.hs_intake.specs.Intakes.{PlainIntake, Waiting, Chunk, Crumbs, Stands}
+use Rattle.hs_intake.specs.Intakes.{PlainIntake, Waiting, Chunk, Crumbs, Triggers, Stands}
 
 abbrev pub waiting_of : Back → Waiting
 waiting_of (backs.Chunk client held) = Chunk client (buffer_of held)
 waiting_of (backs.Crumb client crumb) = Crumbs client crumb
+waiting_of (backs.Trigger client trigger) = Triggers client trigger
 
 abbrev pub intake_in : Inside → PlainIntake
 intake_in d = record { agent = d.agent; port = d.port; mail = d.mail; clients = d.clients; back = option_map waiting_of d.back; unsaid = d.unsaid }

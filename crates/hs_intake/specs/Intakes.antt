@@ -1,8 +1,9 @@
 -- What contracts see of the intake of a node: its agent, the ends of its clients' links, its mail, and what waits at the front. Which run
 -- of the agent's model it stands at, and what an act makes of that run.
-use Rattle.std.specs.Prelude.{◌≡◌, ℕ, ◌<◌, List, [], ◌∷◌, ◌++◌, length, map, fold, Option, Some, None}
+use Rattle.std.specs.Prelude.{◌≡◌, ℕ, ◌+◌, ◌<◌, ◌^◌, nat_lt, if◌then◌else◌, Bool, true, List, [], ◌∷◌, ◌++◌, length, map, fold, Option, Some, None}
 use Rattle.std.specs.List.{AllByRecursion}
 use Rattle.std.specs.Option.{option_to_list}
+use Rattle.hs_base.specs.Rules.{is_declared}
 use Rattle.hs_base.specs.declared.told.Ask.{Ask}
 use Rattle.hs_base.specs.declared.told.Crumb.{Crumb}
 use Rattle.hs_base.specs.declared.told.Told.{Told}
@@ -25,6 +26,7 @@ use Rattle.hs_mail.specs.Lives as mail
 pub data Waiting : Type 0 where
   Chunk : (client : ℕ) (buffer : Buffer Leased) → Waiting
   Crumbs : (client : ℕ) (crumb : Crumb) → Waiting
+  Triggers : (client : ℕ) (trigger : Trigger) → Waiting
 
 pub record PlainIntake : Type 0 where
   pub agent : PlainAgent Leased
@@ -50,10 +52,15 @@ pub data Act : Type 0 where
   TakesAsk : (ask : Ask) → Act
   Turns : Act
 
+-- whether a number is left for one more trigger that is admitted
+abbrev pub has_left : Run Leased → Bool
+has_left run = nat_lt ((state_of run).admitted + 1) (2 ^ 32)
+
+-- The run after an act. A trigger for which no number is left leaves the run as it is.
 abbrev pub after_act : Run Leased → Act → Run Leased
 after_act run (TakesChunk client buffer) = after_chunk run client buffer
 after_act run (TakesCrumb client crumb) = after_crumb run client crumb
-after_act run (TakesTrigger client trigger) = after_trigger run client trigger
+after_act run (TakesTrigger client trigger) = if has_left run then after_trigger run client trigger else run
 after_act run (TakesAsk ask) = after_ask run ask
 after_act run Turns = after_turn run
 
@@ -61,11 +68,15 @@ after_act run Turns = after_turn run
 abbrev pub life : Run Leased → List Act → Run Leased
 life = fold after_act
 
+-- what a trigger makes the agent tell
+abbrev pub told_on : Run Leased → ℕ → Trigger → Option Told
+told_on run client trigger = if has_left run then told_by run.settings run.node (state_of run) (Triggered client trigger) else None
+
 -- what an act tells
 abbrev pub told_at : Run Leased → Act → List Told
 told_at run (TakesChunk client buffer) = []
 told_at run (TakesCrumb client crumb) = option_to_list (told_by run.settings run.node (state_of run) (Crumbed client crumb))
-told_at run (TakesTrigger client trigger) = option_to_list (told_by run.settings run.node (state_of run) (Triggered client trigger))
+told_at run (TakesTrigger client trigger) = option_to_list (told_on run client trigger)
 told_at run (TakesAsk ask) = option_to_list (told_by run.settings run.node (state_of run) (Asked ask))
 told_at run Turns = []
 
@@ -73,6 +84,15 @@ told_at run Turns = []
 abbrev pub told_in : Run Leased → List Act → List Told
 told_in run [] = []
 told_in run (act ∷ acts) = told_at run act ++ told_in (after_act run act) acts
+
+-- one, if a trigger that comes now finds no number left
+abbrev pub limit_of : Run Leased → ℕ
+limit_of run = if has_left run then 0 else 1
+
+-- how many of these triggers of a client find no number left
+abbrev pub limited_in : Run Leased → ℕ → List Trigger → ℕ
+limited_in run client [] = 0
+limited_in run client (trigger ∷ triggers) = limit_of run + limited_in (after_act run (TakesTrigger client trigger)) client triggers
 
 -- ---- where an intake stands
 
@@ -97,6 +117,7 @@ IsPooled giver buffer = (buffer.lease.pool ≡ giver.pool) × (buffer.chunk.size
 abbrev pub MayWait : PlainSettings → ℕ → Giving → Waiting → Type 0
 MayWait settings node giver (Chunk client buffer) = IsChunkFor settings node client buffer × IsPooled giver buffer
 MayWait settings node giver (Crumbs client crumb) = crumb.node.0 < settings.nodes
+MayWait settings node giver (Triggers client trigger) = is_declared settings.triggers trigger.trigger ≡ true
 
 abbrev pub MayWaitIf : PlainSettings → ℕ → Giving → Option Waiting → Type 0
 MayWaitIf settings node giver None = Unit {0}
@@ -150,6 +171,9 @@ chunk_line = record { ends = λ port. port.chunks; with_ends = λ port ends. rec
 abbrev pub crumb_line : Line Crumb
 crumb_line = record { ends = λ port. port.crumbs; with_ends = λ port ends. record port { crumbs = ends }; takes = TakesCrumb; waits = Crumbs }
 
+abbrev pub trigger_line : Line Trigger
+trigger_line = record { ends = λ port. port.triggers; with_ends = λ port ends. record port { triggers = ends }; takes = TakesTrigger; waits = Triggers }
+
 -- ---- the front
 
 -- the act by which what waits is taken
@@ -157,3 +181,4 @@ abbrev pub acts_in : Option Waiting → List Act
 acts_in None = []
 acts_in (Some (Chunk client buffer)) = TakesChunk client buffer ∷ []
 acts_in (Some (Crumbs client crumb)) = TakesCrumb client crumb ∷ []
+acts_in (Some (Triggers client trigger)) = TakesTrigger client trigger ∷ []

@@ -11,9 +11,10 @@ use Rattle.hs_intake.specs.declared.took.Next.TheVariants as nexts
 use Rattle.hs_intake.specs.declared.took.Stop.{Stop}
 use Rattle.hs_intake.specs.declared.took.Stop.TheVariants.{Empty, Most, Memory, Words}
 use Rattle.hs_intake.specs.declared.took.Took.{Took}
+use Rattle.hs_intake.specs.declared.took.TookTriggers.{TookTriggers}
 use Rattle.hs_intake.specs.declared.took.Turned.{Turned}
 use Rattle.hs_intake.specs.declared.took.Turned.TheVariants.{Done, Full, Spent}
-use Rattle.hs_intake.specs.Intakes.{PlainIntake, Line, Stands, Goes, Turns, acts_in}
+use Rattle.hs_intake.specs.Intakes.{PlainIntake, Line, trigger_line, limited_in, Stands, Goes, Turns, acts_in}
 
 -- The end of the client with this number received these items, and all other ends are as they were.
 pub record Receives {T : Type 0} (client : ℕ) (items : List T) (old new : List (Incoming T Key)) : Type 0 where
@@ -86,6 +87,19 @@ TakesLine run line client old took new =
     ((old.clients ≤ client) × ((took ≡ record { count = 0; stop = Empty }) × (new ≡ old)))
     ⊎ (((client < old.clients) × (IsSome old.back × ((took ≡ record { count = 0; stop = Memory }) × (new ≡ old))))
     ⊎ ((client < old.clients) × ((old.back ≡ None) × TakesMany run line client old took new)))
+
+-- ---- triggers
+
+-- The first triggers came, and so many of them found no number left.
+abbrev pub TakesMost : Run Leased → ℕ → PlainIntake → TookTriggers → PlainIntake → Type 0
+TakesMost run client old took new = (many : TakesMany run trigger_line client old took.took new) × (took.limited ≡ limited_in run client many.items)
+
+-- The same of any number of a client, whatever waits at the front.
+abbrev pub TakesTriggers : Run Leased → ℕ → PlainIntake → TookTriggers → PlainIntake → Type 0
+TakesTriggers run client old took new =
+    ((old.clients ≤ client) × ((took ≡ record { took = record { count = 0; stop = Empty }; limited = 0 }) × (new ≡ old)))
+    ⊎ (((client < old.clients) × (IsSome old.back × ((took ≡ record { took = record { count = 0; stop = Memory }; limited = 0 }) × (new ≡ old))))
+    ⊎ ((client < old.clients) × ((old.back ≡ None) × TakesMost run client old took new)))
 
 -- ---- the front
 

@@ -11,6 +11,8 @@ ghost use Rattle.hs_intake.specs.Intakes.{Stands, chunk_line, crumb_line, SaysIt
 ghost use Rattle.hs_intake.specs.declared.took.Next.TheVariants.{Taken};
 ghost use Rattle.hs_intake.specs.Taking.{TakesNext, TakesMany, IsMute, TakesLine, TakesBack, MakesTurn};
 
+mod triggers;
+
 use crate::took::{Back, Next, Stop, Took, Turned};
 use hs_agent::Agent;
 use hs_base::Told;
@@ -263,6 +265,23 @@ impl Intake {
                     }
                     Err(_) => {
                         self.back = Some(Back::Crumb { client, crumb });
+                        false
+                    }
+                }
+            }
+            Some(Back::Trigger { client, trigger }) => {
+                if is_mute {
+                    self.back = Some(Back::Trigger { client, trigger });
+                    return false;
+                }
+                match triggers::fire(&mut self.agent, client, &trigger) {
+                    Ok(told) => {
+                        self.unsaid = told;
+                        say(&mut self.mail, &mut self.unsaid);
+                        true
+                    }
+                    Err(_) => {
+                        self.back = Some(Back::Trigger { client, trigger });
                         false
                     }
                 }

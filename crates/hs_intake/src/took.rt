@@ -2,7 +2,7 @@
 
 ghost use Rattle.std.specs.Prelude.{◌≡◌};
 
-use hs_base::Crumb;
+use hs_base::{Crumb, Trigger};
 use hs_ring::Lease;
 use hs_words::Held;
 
@@ -35,6 +35,25 @@ impl Took {
     }
 }
 
+/// How many triggers were taken, and why no more. For `limited` of them no number was left, and they changed nothing.
+#[derive(Clone, Copy, Debug, PartialEq, Eq)]
+pub struct TookTriggers {
+    pub took: Took,
+    pub limited: u32,
+}
+
+impl TookTriggers {
+    /// No trigger was taken.
+    pub(crate) fn none(stop: Stop) -> TookTriggers
+        ensures { result ≡ record { took = record { count = 0; stop = stop }; limited = 0 } }
+    {
+        TookTriggers {
+            took: Took::none(stop),
+            limited: 0,
+        }
+    }
+}
+
 /// What became of a turn.
 #[derive(Clone, Copy, Debug, PartialEq, Eq)]
 pub enum Turned {
@@ -58,4 +77,5 @@ pub(crate) enum Next {
 pub(crate) enum Back {
     Chunk { client: u16, held: Held<Lease> },
     Crumb { client: u16, crumb: Crumb },
+    Trigger { client: u16, trigger: Trigger },
 }

@@ -1,0 +1,15 @@
+use Rattle.std.proofs.Common.{◌≡◌, ◌≤◌, None}
+use Rattle.hs_ring.specs.Parts.{Leased}
+use Rattle.hs_agent.specs.Runs.{Run}
+use Rattle.hs_intake.specs.Intakes.{Stands}
+use Rattle.hs_intake.proofs.Triggers.{SoMany}
+use Rattle.hs_intake.proofs.intake.Intake.take_triggers.Given as goal
+
+abbrev pub invariant-loop-count : goal.invariant-loop-count
+invariant-loop-count l =
+    record {
+      clients : l.self.clients ≡ l.initial.self.clients;
+      front : l.self.back ≡ None;
+      low : l.limited ≤ l.count;
+      so_far : (run : Run Leased) → Stands run l.initial.self → SoMany run l.client l.initial.self l.count l.limited l.self;
+    }

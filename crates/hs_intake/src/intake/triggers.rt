@@ -1,0 +1,116 @@
+//! The triggers that an intake takes.
+
+ghost use Rattle.std.specs.Prelude.{◌≡◌, ◌<◌, ◌≤◌, true, false, None, IfOk, OnOk, OnErr};
+ghost use Rattle.hs_base.specs.Rules.{is_declared};
+ghost use Rattle.hs_ring.specs.Parts.{Leased};
+ghost use Rattle.hs_agent.specs.Runs.{Run, Follows, Knows};
+ghost use Rattle.hs_intake.specs.Intakes.{Stands, TakesTrigger, after_act, told_on, limit_of, trigger_line};
+ghost use Rattle.hs_intake.specs.declared.took.Next.TheVariants.{Taken};
+ghost use Rattle.hs_intake.specs.Taking.{TakesNext, TakesMost, TakesTriggers};
+
+use super::{Intake, say};
+use crate::took::{Back, Next, Stop, Took, TookTriggers};
+use hs_agent::Agent;
+use hs_base::limits::MAX_TAKEN;
+use hs_base::{Memory, Told, Trigger};
+use hs_ring::Lease;
+
+impl Intake {
+    /// One, if no number is left for a trigger more.
+    fn limit(&self) -> u32
+        ensures limit { (run : Run Leased) → Stands run self.now → result ≡ limit_of run }
+        ensures one { result ≤ 1 }
+    {
+        if self.agent.admitted() == u32::MAX {
+            return 1;
+        }
+        0
+    }
+
+    /// The agent takes the next trigger of a client, if one has come and a word has a place. What it tells is said.
+    fn take_trigger(&mut self, client: u16) -> Next
+        requires low { client < self.old.clients }
+        requires front { self.old.back ≡ None }
+        ensures next { (run : Run Leased) → Stands run self.old → TakesNext run trigger_line client self.old result self.new }
+        ensures clients { self.new.clients ≡ self.old.clients }
+        ensures taken { result ≡ Taken → self.new.back ≡ None }
+    {
+        if self.is_mute() {
+            return Next::Stopped(Stop::Words);
+        }
+        let Some(trigger) = self.port.trigger(client) else {
+            return Next::Stopped(Stop::Empty);
+        };
+        match fire(&mut self.agent, client, &trigger) {
+            Ok(told) => {
+                self.unsaid = told;
+                say(&mut self.mail, &mut self.unsaid);
+                Next::Taken
+            }
+            Err(_) => {
+                self.back = Some(Back::Trigger { client, trigger });
+                Next::Stopped(Stop::Memory)
+            }
+        }
+    }
+
+    /// The agent takes the triggers of a client that have come, at most 64.
+    fn take_triggers(&mut self, client: u16) -> TookTriggers
+        requires low { client < self.old.clients }
+        requires front { self.old.back ≡ None }
+        ensures takes { (run : Run Leased) → Stands run self.old → TakesMost run client self.old result self.new }
+        ensures clients { self.new.clients ≡ self.old.clients }
+    {
+        let mut limited = 0;
+        for count in 0..MAX_TAKEN {
+            let limit = self.limit();
+            if let Next::Stopped(stop) = self.take_trigger(client) {
+                return TookTriggers {
+                    took: Took { count, stop },
+                    limited,
+                };
+            }
+            limited += limit;
+        }
+        TookTriggers {
+            took: Took {
+                count: MAX_TAKEN,
+                stop: Stop::Most,
+            },
+            limited,
+        }
+    }
+
+    /// The agent takes the triggers of a client that have come, at most 64, while words have a place. Where no number is left for one more
+    /// that is admitted, a trigger leaves its link, and the agent does not see it: the answer counts these. There is no more of a client
+    /// that is not there, and while something waits at the front nothing is taken.
+    pub fn triggers_of(&mut self, client: u16) -> TookTriggers
+        ensures { (run : Run Leased) → Stands run self.old → TakesTriggers run client self.old result self.new }
+    {
+        if client >= self.clients {
+            return TookTriggers::none(Stop::Empty);
+        }
+        if self.has_front() {
+            return TookTriggers::none(Stop::Memory);
+        }
+        self.take_triggers(client)
+    }
+}
+
+/// The agent takes a trigger, if a number is left for one more. Answers what is to be told, if it is admitted.
+pub(super) fn fire(
+    agent: &mut Agent<Lease>,
+    client: u16,
+    trigger: &Trigger,
+) -> Result<Option<Told>, Memory>
+    requires { Knows agent.old (λ run. is_declared run.settings.triggers trigger.now.trigger ≡ true) }
+    ensures told { (run : Run Leased) → Follows agent.old run → IfOk result (λ told. told ≡ told_on run client trigger.now) }
+    ensures after { (run : Run Leased) → Follows agent.old run → OnOk result (Follows agent.new (after_act run (TakesTrigger client trigger.now))) }
+    ensures same { OnErr result (agent.new ≡ agent.old) }
+    ensures alive { agent.new.spent ≡ false → agent.old.spent ≡ false }
+{
+    if agent.admitted() == u32::MAX {
+        return Ok(None);
+    }
+    agent.try_trigger(client, trigger)
+}
