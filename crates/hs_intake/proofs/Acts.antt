@@ -80,6 +80,7 @@ chunks_moved run d client items ends stands receives =
       triggers = stands.triggers;
       pooled = stands.pooled;
       waits = stands.waits;
+      inbox = stands.inbox;
     }
 
 pub crumbs_moved : (run : Run Leased) (d : PlainIntake) (client : ℕ) (items : List Crumb) (ends : List (Incoming Crumb Key))
@@ -94,6 +95,7 @@ crumbs_moved run d client items ends stands receives =
       triggers = stands.triggers;
       pooled = stands.pooled;
       waits = stands.waits;
+      inbox = stands.inbox;
     }
 
 -- ---- the agent took
@@ -110,6 +112,7 @@ chunk_taken run d client buffer agent stands pooled follows =
       triggers = stands.triggers;
       pooled = all_push (IsPooled d.port.giver) run.buffers buffer stands.pooled pooled;
       waits = stands.waits;
+      inbox = stands.inbox;
     }
 
 pub crumb_taken : (run : Run Leased) (d : PlainIntake) (client : ℕ) (crumb : Crumb) (agent : PlainAgent Leased)
@@ -124,6 +127,7 @@ crumb_taken run d client crumb agent stands follows =
       triggers = stands.triggers;
       pooled = stands.pooled;
       waits = stands.waits;
+      inbox = stands.inbox;
     }
 
 pub said_since : (run : Run Leased) (d : PlainIntake) (m : Letters) (unsaid : Option Told) → Stands run d → Stands run (record d { mail = m; unsaid = unsaid })
@@ -137,6 +141,7 @@ said_since run d m unsaid stands =
       triggers = stands.triggers;
       pooled = stands.pooled;
       waits = stands.waits;
+      inbox = stands.inbox;
     }
 
 -- ---- what comes waits at the front
@@ -152,6 +157,7 @@ waits_now run d waiting stands may =
       triggers = stands.triggers;
       pooled = stands.pooled;
       waits = may;
+      inbox = stands.inbox;
     }
 
 -- ---- one chunk
@@ -294,6 +300,7 @@ front_chunk_alive d client buffer agent back none there known after =
             triggers = stands.triggers;
             pooled = all_push (IsPooled d.port.giver) run.buffers buffer stands.pooled may.1;
             waits = tt;
+            inbox = stands.inbox;
           }),
     )
 
@@ -314,6 +321,7 @@ front_crumb_alive d client crumb agent back m unsaid none known after =
             triggers = stands.triggers;
             pooled = stands.pooled;
             waits = tt;
+            inbox = stands.inbox;
           }),
     )
 
@@ -330,6 +338,7 @@ turn_stands run d agent stands follows =
       triggers = stands.triggers;
       pooled = stands.pooled;
       waits = stands.waits;
+      inbox = stands.inbox;
     }
 
 -- an agent that was spent stays so, and one that memory failed is spent now

@@ -3,3 +3,4 @@ pub mod Acts
 pub mod Many
 pub mod Triggers
 pub mod Made
+pub mod Asks

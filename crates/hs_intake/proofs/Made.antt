@@ -6,6 +6,7 @@ use Rattle.hs_link.specs.Contents.{Incoming}
 use Rattle.hs_live.specs.Keys.{Key}
 use Rattle.hs_agent.specs.Keeping.{PlainAgent}
 use Rattle.hs_agent.specs.Runs.{bare_run, Follows}
+use Rattle.hs_inbox.specs.Delivering.{PlainInbox}
 use Rattle.hs_mail.specs.Letters.{Letters}
 use Rattle.hs_node_client.specs.declared.limits.ClientLimits.{ClientLimits}
 use Rattle.hs_node_client.specs.declared.making.Made.{Made}
@@ -35,9 +36,9 @@ begins settings limits made are number low =
     let client = end_there made.clients.items number (let count = are.joined.clients_are in omega (arith, low, count)) in
     (client.0, are.joined.each number client.0 client.1)
 
-pub made_stands : (settings : PlainSettings) (limits : ClientLimits) (made : Made) (agent : PlainAgent Leased) (mail : Letters) → limits.size ≡ settings.size
-    → AreMade limits (rules_in_settings settings) made → Follows agent (bare_run settings limits.node) → Stands (bare_run settings limits.node) (new_intake agent made.port mail limits.clients)
-made_stands settings limits made agent mail same are follows =
+pub made_stands : (settings : PlainSettings) (limits : ClientLimits) (made : Made) (agent : PlainAgent Leased) (mail : Letters) (inbox : PlainInbox) → inbox.rules ≡ settings.triggers → limits.size ≡ settings.size
+    → AreMade limits (rules_in_settings settings) made → Follows agent (bare_run settings limits.node) → Stands (bare_run settings limits.node) (new_intake agent made.port mail inbox limits.clients)
+made_stands settings limits made agent mail inbox rules same are follows =
     let size : made.port.giver.size ≡ settings.size = ap (λ (g : Giving). g.size) are.giver ∙ same in
     record {
       follows = follows;
@@ -69,4 +70,5 @@ made_stands settings limits made agent mail same are follows =
           };
       pooled = tt;
       waits = tt;
+      inbox = rules;
     }

@@ -36,6 +36,7 @@ stays run d client trigger true stands agent follows =
       triggers = stands.triggers;
       pooled = stands.pooled;
       waits = stands.waits;
+      inbox = stands.inbox;
     }
 stays run d client trigger false stands agent follows =
     record {
@@ -47,6 +48,7 @@ stays run d client trigger false stands agent follows =
       triggers = stands.triggers;
       pooled = stands.pooled;
       waits = stands.waits;
+      inbox = stands.inbox;
     }
 
 pub trigger_taken : (run : Run Leased) (d : PlainIntake) (client : ℕ) (trigger : Trigger) (agent : PlainAgent Leased)
@@ -65,6 +67,7 @@ triggers_moved run d client items ends stands receives =
       triggers = keys_after run.settings run.node d.port.giver d.clients client d.port.triggers ends items stands.triggers receives;
       pooled = stands.pooled;
       waits = stands.waits;
+      inbox = stands.inbox;
     }
 
 -- ---- one trigger

@@ -19,6 +19,7 @@ use Rattle.hs_law_agent.specs.Stepping.{Crumbed, Triggered, Asked, told_by}
 use Rattle.hs_agent.specs.Keeping.{PlainAgent}
 use Rattle.hs_agent.specs.Runs.{Run, state_of, Follows, IsChunkFor, after_chunk, after_turn}
 use Rattle.hs_agent.specs.Tries.{after_crumb, after_trigger, after_ask}
+use Rattle.hs_inbox.specs.Delivering.{PlainInbox}
 use Rattle.hs_mail.specs.Letters.{Letters, Deed, Says}
 use Rattle.hs_mail.specs.Lives as mail
 
@@ -32,6 +33,7 @@ pub record PlainIntake : Type 0 where
   pub agent : PlainAgent Leased
   pub port : Port
   pub mail : Letters
+  pub inbox : PlainInbox
   pub clients : ℕ
   -- what waits at the front
   pub back : Option Waiting
@@ -39,8 +41,8 @@ pub record PlainIntake : Type 0 where
   pub unsaid : Option Told
 
 -- one at whose front nothing waits
-abbrev pub new_intake : PlainAgent Leased → Port → Letters → ℕ → PlainIntake
-new_intake agent port mail clients = record { agent = agent; port = port; mail = mail; clients = clients; back = None; unsaid = None }
+abbrev pub new_intake : PlainAgent Leased → Port → Letters → PlainInbox → ℕ → PlainIntake
+new_intake agent port mail inbox clients = record { agent = agent; port = port; mail = mail; inbox = inbox; clients = clients; back = None; unsaid = None }
 
 -- ---- what the agent takes
 
@@ -133,6 +135,7 @@ pub record Stands (run : Run Leased) (d : PlainIntake) : Type 0 where
   pub triggers : AreFor run.settings run.node d.port.giver d.clients d.port.triggers
   pub pooled : AllByRecursion (IsPooled d.port.giver) run.buffers
   pub waits : MayWaitIf run.settings run.node d.port.giver d.back
+  pub inbox : d.inbox.rules ≡ run.settings.triggers
 
 -- ---- what is told
 

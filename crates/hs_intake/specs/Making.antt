@@ -1,7 +1,8 @@
 -- An intake as it was made, with the clients of its node.
-use Rattle.std.specs.Prelude.{◌≡◌}
+use Rattle.std.specs.Prelude.{◌≡◌, ℕ}
 use Rattle.hs_records.specs.Plain.{PlainSettings}
 use Rattle.hs_agent.specs.Runs.{bare_run}
+use Rattle.hs_inbox.specs.Delivering.{no_asks}
 use Rattle.hs_mail.specs.Letters.{Letters}
 use Rattle.hs_node_client.specs.declared.limits.ClientLimits.{ClientLimits}
 use Rattle.hs_node_client.specs.Making.{AreMade, rules_by}
@@ -9,9 +10,10 @@ use Rattle.hs_intake.specs.declared.making.MadeIntake.{MadeIntake}
 use Rattle.hs_intake.specs.Intakes.{Stands}
 
 -- It stands where its agent has taken nothing and keeps no journal, nothing was done with the clients, and the other ends of their links are its port.
-pub record IsMade (settings : PlainSettings) (limits : ClientLimits) (mail : Letters) (made : MadeIntake) : Type 0 where
+pub record IsMade (settings : PlainSettings) (limits : ClientLimits) (mail : Letters) (asks : ℕ) (made : MadeIntake) : Type 0 where
   pub stands : Stands (bare_run settings limits.node) made.intake
   pub clients :
       AreMade limits (rules_by settings.autos settings.triggers settings.nodes)
       (record { port = made.intake.port; late = made.late; segments = made.segments; clients = made.clients })
   pub mail_is : made.intake.mail ≡ mail
+  pub inbox_is : made.intake.inbox ≡ no_asks (record { 0 = limits.node }) settings.triggers asks

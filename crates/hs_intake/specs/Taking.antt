@@ -1,5 +1,6 @@
 -- What is taken of one line of a client: the next item, or as many as a pass takes.
 use Rattle.std.specs.Prelude.{◌≡◌, ℕ, ◌+◌, ◌<◌, ◌≤◌, Bool, true, false, List, [], ◌∷◌, ◌++◌, length, map, slice_set, Some, None, IsSome, ◌⊎◌}
+use Rattle.hs_base.specs.declared.told.Ask.{Ask}
 use Rattle.hs_base.specs.declared.limits.TheConstants.{MAX_TAKEN}
 use Rattle.hs_ring.specs.Parts.{Leased}
 use Rattle.hs_link.specs.Contents.{Incoming, IsSameReceiver, IsBeginning}
@@ -14,6 +15,7 @@ use Rattle.hs_intake.specs.declared.took.Took.{Took}
 use Rattle.hs_intake.specs.declared.took.TookTriggers.{TookTriggers}
 use Rattle.hs_intake.specs.declared.took.Turned.{Turned}
 use Rattle.hs_intake.specs.declared.took.Turned.TheVariants.{Done, Full, Spent}
+use Rattle.hs_intake.specs.Intakes as acts
 use Rattle.hs_intake.specs.Intakes.{PlainIntake, Line, trigger_line, limited_in, Stands, Goes, Turns, acts_in}
 
 -- The end of the client with this number received these items, and all other ends are as they were.
@@ -100,6 +102,41 @@ TakesTriggers run client old took new =
     ((old.clients ≤ client) × ((took ≡ record { took = record { count = 0; stop = Empty }; limited = 0 }) × (new ≡ old)))
     ⊎ (((client < old.clients) × (IsSome old.back × ((took ≡ record { took = record { count = 0; stop = Memory }; limited = 0 }) × (new ≡ old))))
     ⊎ ((client < old.clients) × ((old.back ≡ None) × TakesMost run client old took new)))
+
+-- ---- asks
+
+-- One ask of the inbox is taken, or none: the first waited, and the agent took it.
+pub record TakesFirst (run : Run Leased) (old new : PlainIntake) : Type 0 where
+  pub ask : Ask
+  pub rest : List Ask
+  pub waited : old.inbox.asks ≡ ask ∷ rest
+  pub only : new ≡ record old { agent = new.agent; mail = new.mail; unsaid = new.unsaid; inbox = record old.inbox { asks = rest } }
+  pub goes : Goes run (acts.TakesAsk ask ∷ []) old new
+
+abbrev pub TakesAsk : Run Leased → PlainIntake → Next → PlainIntake → Type 0
+TakesAsk run old nexts.Taken new = TakesFirst run old new
+TakesAsk run old (nexts.Stopped Empty) new = (new ≡ old) × (old.inbox.asks ≡ [])
+TakesAsk run old (nexts.Stopped Memory) new = (new ≡ old) × (0 < length old.inbox.asks)
+TakesAsk run old (nexts.Stopped Words) new = (new ≡ old) × IsMute old
+TakesAsk run old (nexts.Stopped Most) new = ⊥
+
+-- Why no more was taken.
+abbrev pub AsksStop : ℕ → PlainIntake → Stop → Type 0
+AsksStop count new Empty = new.inbox.asks ≡ []
+AsksStop count new Most = count ≡ MAX_TAKEN
+AsksStop count new Memory = 0 < length new.inbox.asks
+AsksStop count new Words = IsMute new
+
+-- The first asks that waited were taken, all or as many as a pass takes.
+pub record TakesAsks (run : Run Leased) (old : PlainIntake) (took : Took) (new : PlainIntake) : Type 0 where
+  pub asks : List Ask
+  pub rest : List Ask
+  pub waited : old.inbox.asks ≡ asks ++ rest
+  pub count : length asks ≡ took.count
+  pub few : length asks ≤ MAX_TAKEN
+  pub only : new ≡ record old { agent = new.agent; mail = new.mail; unsaid = new.unsaid; inbox = record old.inbox { asks = rest } }
+  pub goes : Goes run (map acts.TakesAsk asks) old new
+  pub stops : AsksStop took.count new took.stop
 
 -- ---- the front
 

@@ -11,24 +11,27 @@ ghost use Rattle.hs_intake.specs.Intakes.{Stands, chunk_line, crumb_line, SaysIt
 ghost use Rattle.hs_intake.specs.declared.took.Next.TheVariants.{Taken};
 ghost use Rattle.hs_intake.specs.Taking.{TakesNext, TakesMany, IsMute, TakesLine, TakesBack, MakesTurn};
 
+mod asks;
 mod triggers;
 
 use crate::took::{Back, Next, Stop, Took, Turned};
 use hs_agent::Agent;
 use hs_base::Told;
 use hs_base::limits::MAX_TAKEN;
+use hs_inbox::{Delivered, Inbox};
 use hs_live::AgentPort;
 use hs_mail::Mail;
 use hs_ring::Lease;
 use std::marker::Model;
 
-/// The agent of a node, with the port of its clients and the mail for what it tells. One thing at most waits at the front: what came,
+/// The agent of a node, with the port of its clients, the mail for what it tells, and the inbox of what it is asked. One thing at most waits at the front: what came,
 /// and found no memory.
 #[derive(Drop)]
 pub struct Intake {
     agent: Agent<Lease>,
     port: AgentPort,
     mail: Mail,
+    inbox: Inbox,
     clients: u16,
     back: Option<Back>,
     unsaid: Option<Told>,
@@ -138,14 +141,21 @@ impl Intake {
     }
 
     /// An intake with these parts, at whose front nothing waits.
-    pub fn make(agent: Agent<Lease>, port: AgentPort, mail: Mail, clients: u16) -> Intake
-        requires { (run : Run Leased) × Stands run (new_intake agent port mail clients) }
-        ensures { result ≡ new_intake agent port mail clients }
+    pub fn make(
+        agent: Agent<Lease>,
+        port: AgentPort,
+        mail: Mail,
+        inbox: Inbox,
+        clients: u16,
+    ) -> Intake
+        requires { (run : Run Leased) × Stands run (new_intake agent port mail inbox clients) }
+        ensures { result ≡ new_intake agent port mail inbox clients }
     {
         Intake {
             agent,
             port,
             mail,
+            inbox,
             clients,
             back: None,
             unsaid: None,

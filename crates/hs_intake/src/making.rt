@@ -9,6 +9,7 @@ ghost use Rattle.hs_intake.specs.Making.{IsMade};
 use crate::intake::Intake;
 use hs_agent::Agent;
 use hs_base::{Crumb, List, NodeId, Settings};
+use hs_inbox::Inbox;
 use hs_link::Receiver;
 use hs_live::ClientKey;
 use hs_mail::Mail;
@@ -27,16 +28,18 @@ pub struct MadeIntake {
     pub clients: List<NodeClient>,
 }
 
-/// An intake that has taken nothing, with the clients of its node, of which nothing was done. Its agent keeps no journal.
+/// An intake that has taken nothing, with the clients of its node, of which nothing was done. Its agent keeps no journal, and so many
+/// asks may wait.
 pub fn make_intake(
     alloc: Global,
     settings: &Settings,
     limits: &ClientLimits,
     mail: Mail,
+    asks: u32,
 ) -> Result<MadeIntake, MakeFault>
     requires rules { AreRules settings.now.triggers.items }
     requires size { limits.now.size ≡ settings.now.size }
-    ensures made { IfOk result (IsMade (settings_of settings.now) limits.now mail) }
+    ensures made { IfOk result (IsMade (settings_of settings.now) limits.now mail asks) }
     ensures fault { IfErr result (HasFault limits.now settings.now.autos.items settings.now.triggers.items settings.now.nodes) }
 {
     let made = make_clients(
@@ -49,6 +52,9 @@ pub fn make_intake(
     let Ok(agent) = Agent::bare(alloc, NodeId(limits.node), settings) else {
         return Err(MakeFault::Memory);
     };
+    let Ok(inbox) = Inbox::make(alloc, NodeId(limits.node), &settings.triggers, asks) else {
+        return Err(MakeFault::Memory);
+    };
     let Made {
         port,
         late,
@@ -56,7 +62,7 @@ pub fn make_intake(
         clients,
     } = made;
     Ok(MadeIntake {
-        intake: Intake::make(agent, port, mail, limits.clients),
+        intake: Intake::make(agent, port, mail, inbox, limits.clients),
         late,
         segments,
         clients,

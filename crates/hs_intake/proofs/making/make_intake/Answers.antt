@@ -1,26 +1,28 @@
-use Rattle.std.proofs.Common.{refl, sym, subst}
+use Rattle.std.proofs.Common.{refl, sym, ap, subst}
 use Rattle.hs_records.specs.Plain.{settings_of}
 use Rattle.hs_agent.specs.Runs.{bare_run}
+use Rattle.hs_inbox.specs.Delivering.{PlainInbox}
 use Rattle.hs_intake.specs.Intakes.{PlainIntake}
 use Rattle.hs_intake.specs.Making.{IsMade}
 use Rattle.hs_intake.proofs.Made.{made_stands}
 use Rattle.hs_intake.proofs.making.make_intake.Goals as goal
 
-pub make-requires : goal.make-requires
-make-requires c = (
+pub make-requires-2 : goal.make-requires-2
+make-requires-2 c = (
   bare_run (settings_of c.args.settings.now) c.args.limits.now.node,
-  made_stands (settings_of c.args.settings.now) c.args.limits.now c.in_ok-made.made c.in-Ok.agent c.args.mail c.requires.size c.in_ok-made.ensures.made c.in-Ok.ensures,
+  made_stands (settings_of c.args.settings.now) c.args.limits.now c.in_ok-made.made c.in-Ok.agent c.args.mail c.in-Ok-make.inbox (ap (λ (i : PlainInbox). i.rules) c.in-Ok-make.ensures) c.requires.size c.in_ok-made.ensures.made c.in-Ok.ensures,
 )
 
 pub returns-clause-made : goal.returns-clause-made
 returns-clause-made c =
     subst
     (λ (d : PlainIntake).
-    IsMade (settings_of c.args.settings.now) c.args.limits.now c.args.mail
+    IsMade (settings_of c.args.settings.now) c.args.limits.now c.args.mail c.args.asks
     (record { intake = d; late = c.in_ok-made.made.late; segments = c.in_ok-made.made.segments; clients = c.in_ok-made.made.clients }))
-    (sym c.make.ensures)
+    (sym c.make-2.ensures)
     (record {
-      stands = made_stands (settings_of c.args.settings.now) c.args.limits.now c.in_ok-made.made c.in-Ok.agent c.args.mail c.requires.size c.in_ok-made.ensures.made c.in-Ok.ensures;
+      stands = made_stands (settings_of c.args.settings.now) c.args.limits.now c.in_ok-made.made c.in-Ok.agent c.args.mail c.in-Ok-make.inbox (ap (λ (i : PlainInbox). i.rules) c.in-Ok-make.ensures) c.requires.size c.in_ok-made.ensures.made c.in-Ok.ensures;
       clients = c.in_ok-made.ensures.made;
       mail_is = refl;
+      inbox_is = c.in-Ok-make.ensures;
     })
