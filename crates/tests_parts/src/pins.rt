@@ -1,7 +1,7 @@
 //! The pins: who gives way among equals, and as many traces, chunks and rules as may be. What else is admitted, claimed and pinned is
 //! shown by `examples/` and `cases/agents`.
 
-ghost use Rattle.std.specs.Prelude.{◌≡◌, ◌+◌, ◌<◌, ◌≤◌, IfOk};
+ghost use Rattle.std.specs.Prelude.{◌+◌, ◌<◌, ◌≤◌, IfOk};
 ghost use Rattle.hs_base.specs.Rules.{AreRules};
 ghost use Rattle.tests_with.specs.Claims.{IsReady};
 
@@ -178,24 +178,6 @@ fn most_traces_and_chunks_are_claimed(alloc: Global) -> Result<bool, Memory> {
     claims_most(alloc, &mut pins)
 }
 
-/// Claims a trace with a chunk for one group, and a trace without a chunk for another. Answers whether the second alone is
-/// forgotten.
-fn forgets_the_settled(alloc: Global, pins: &mut Pins<()>) -> Result<bool, Memory>
-    requires { IsReady 0 pins.old }
-{
-    let pinned = group_of(0, 0, 1, 1);
-    let settled = group_of(0, 1, 2, 2);
-    let claimed = claims_pages(alloc, pins, pinned, 1, 1)?
-        && claims(pins, settled, TraceId(2), List::new(alloc));
-    Ok(claimed && !pins.forget(pinned) && pins.forget(settled))
-}
-
-/// A group with a pinned chunk is not forgotten; one without is.
-fn only_a_settled_group_is_forgotten(alloc: Global) -> Result<bool, Memory> {
-    let mut pins = fresh_pins(alloc, 4)?;
-    forgets_the_settled(alloc, &mut pins)
-}
-
 /// Settings of one client with so many of the greatest rules.
 fn settings_of(alloc: Global, count: u8) -> Result<Settings, Memory>
     requires { count ≤ MAX_TRIGGER }
@@ -253,11 +235,6 @@ fn all_pins(rt: HostRuntime) {
         &rt,
         "most traces",
         most_traces_and_chunks_are_claimed(rt.alloc()),
-    );
-    row(
-        &rt,
-        "a settled group",
-        only_a_settled_group_is_forgotten(rt.alloc()),
     );
     row(&rt, "no rule", are_empty(rt.alloc(), 0));
     row(&rt, "most rules", are_empty(rt.alloc(), MAX_TRIGGER));
