@@ -1,6 +1,6 @@
 -- The bucket of a trigger's id admits what the model admits, and the trigger is noted.
 use Rattle.std.proofs.Common.{◌≡◌, ℕ, ◌+◌, Bool, true, false, cond, ◌∷◌, Option, Some, None, nat_le, refl, sym, ap, ◌∙◌, true≢false}
-use Rattle.hs_agent.proofs.Prelude.{option_map, option_map_or, Trigger, PlainSettings, Remembered, Pinning, Remembers, AgentState, admits, note_trigger, count_admitted, ArrivalPlace, Kept, Holds, Point, RemembersAs, with_state}
+use Rattle.hs_agent.proofs.Prelude.{option_map, option_map_or, Trigger, PlainSettings, Remembered, Pinning, Remembers, AgentState, admits, note_trigger, count_admitted, Tagged, Kept, Holds, Point, RemembersAs, with_state}
 use Rattle.hs_base.specs.declared.limits.TheConstants.{TOKEN}
 use Rattle.hs_base.specs.declared.settings.TriggerRule.{TriggerRule}
 use Rattle.hs_pins.specs.declared.claim.Admitted.{Admitted}
@@ -15,7 +15,7 @@ abbrev pub is_admitted : Admitted → Bool
 is_admitted (admissions.Admitted number) = true
 is_admitted (admissions.Limited level) = false
 
-module _ (settings : PlainSettings) (node : ℕ) (state : AgentState) (memory : Remembered ArrivalPlace) (same : RemembersAs settings node state memory) (trigger : Trigger) where
+module _ {L : Type 0} (settings : PlainSettings) (node : ℕ) (state : AgentState) (memory : Remembered (Tagged L)) (same : RemembersAs settings node state memory) (trigger : Trigger) where
   abbrev level : TriggerRule → ℕ
   level rule = level_found rule.burst rule.rate (pins.moments_of trigger.trigger memory.tried) trigger.moment
 
@@ -57,7 +57,7 @@ module _ (settings : PlainSettings) (node : ℕ) (state : AgentState) (memory : 
 
 -- ---- what is kept then
 
-module _ {L : Type 0} (kept : Kept L) (pins_now : Pinning ArrivalPlace) (point : Point L) (h : Holds kept point) (trigger : Trigger) (remembers : Remembers pins_now (tried_at h.memory trigger.trigger trigger.moment)) where
+module _ {L : Type 0} (kept : Kept L) (pins_now : Pinning (Tagged L)) (point : Point L) (h : Holds kept point) (trigger : Trigger) (remembers : Remembers pins_now (tried_at h.memory trigger.trigger trigger.moment)) where
   -- with as many admitted as this
   holds-tried : (admitted : ℕ) → (tried_at h.memory trigger.trigger trigger.moment).admitted ≡ admitted
       → Holds (record kept { pins = pins_now }) (with_state (record (note_trigger trigger point.state) { admitted = admitted }) point)
@@ -93,7 +93,6 @@ module _ {L : Type 0} (kept : Kept L) (pins_now : Pinning ArrivalPlace) (point :
     standings = h.standings;
     claims = h.claims;
     pages = h.pages;
-    leases = h.leases;
     buffers = h.buffers;
     each = h.each;
     paged = h.paged;

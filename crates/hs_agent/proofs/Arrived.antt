@@ -1,6 +1,6 @@
 -- What is kept after a chunk came is what the model says then, before anything has to give way.
 use Rattle.std.proofs.Common.{◌≡◌, ℕ, ◌+◌, ◌≤◌, ◌<◌, ◌^◌, false, List, [], ◌∷◌, ◌++◌, length, map, Some, None, slice_get, refl, sym, ap, subst, ◌∙◌, arith}
-use Rattle.hs_agent.proofs.Prelude.{AreLeft, Mark, unoffered, filter_map, AllByRecursion, option_map, option_map_or, option_and_then, option_to_list, append_assoc, map-append, length-map, length-append, all_weaker, all_append, all_front, all_back, TraceId, Group, Header, Sheet, used_of, header_of, Buffer, Pin, claim_of, with_pin, pin_for, Pinning, Remembers, Indexed, Noted, noted_of, others, touch, with_chunk, chunks_left, AgentState, Taken, ChunkStanding, is_indexed, Pinned, Abandoned, pinning_group, pinned_for, mark_of, bytes_at, with_indexed, with_pinned, with_abandoned, ArrivalPlace, Placed, place_of, placed_at, Kept, Holds, HasPage, IsKept, IsIndexed, Point, pinned_place, waiting_chunks, let_go, with_left, abandoned_for, noted}
+use Rattle.hs_agent.proofs.Prelude.{AreLeft, Mark, unoffered, filter_map, AllByRecursion, option_map, option_map_or, option_and_then, option_to_list, append_assoc, map-append, length-map, length-append, all_weaker, all_append, all_front, all_back, TraceId, Group, Header, Sheet, used_of, header_of, Buffer, Pin, claim_of, with_pin, pin_for, Pinning, Remembers, Indexed, Noted, noted_of, others, touch, count_chunks, with_chunk, chunks_left, AgentState, Taken, ChunkStanding, is_indexed, Pinned, Abandoned, pinning_group, pinned_for, mark_of, bytes_at, with_indexed, with_pinned, with_abandoned, Tagged, Placed, place_of, placed_at, Kept, Holds, HasPage, IsKept, IsIndexed, Point, pinned_place, waiting_chunks, let_go, with_left, abandoned_for, noted}
 use Rattle.hs_lists.proofs.Places.{get_last}
 use Rattle.hs_index.specs.Index.{with_touched, trace_of}
 use Rattle.hs_index.specs.Index as index
@@ -12,28 +12,32 @@ use Rattle.hs_agent.proofs.Indexing.{indexed-more, indexed-arrived, count-touche
 
 -- ---- the chunks of an index where a trace was touched
 
-module _ (P : Placed → Type 0) (trace : TraceId) (noted : Noted ArrivalPlace) where
-  all-pushed : (ts : List (Indexed ArrivalPlace)) → AllByRecursion P (chunks_left ts) → AllByRecursion P noted.chunks → AllByRecursion P (chunks_left (ts ++ record { trace = trace; noted = noted } ∷ []))
+module _ {L : Type 0} (P : Placed L → Type 0) (trace : TraceId) (noted : Noted (Tagged L)) where
+  all-pushed : (ts : List (Indexed (Tagged L))) → AllByRecursion P (chunks_left ts) → AllByRecursion P noted.chunks → AllByRecursion P (chunks_left (ts ++ record { trace = trace; noted = noted } ∷ []))
   all-pushed [] h k = all_append P noted.chunks [] k tt
   all-pushed (t ∷ ts) h k = all_append P t.noted.chunks (chunks_left (ts ++ record { trace = trace; noted = noted } ∷ [])) (all_front P t.noted.chunks (chunks_left ts) h) (all-pushed ts (all_back P t.noted.chunks (chunks_left ts) h) k)
 
-  pub all-touched : (ts : List (Indexed ArrivalPlace)) → AllByRecursion P (chunks_left ts) → AllByRecursion P noted.chunks → AllByRecursion P (chunks_left (touch trace noted ts))
+  pub all-touched : (ts : List (Indexed (Tagged L))) → AllByRecursion P (chunks_left ts) → AllByRecursion P noted.chunks → AllByRecursion P (chunks_left (touch trace noted ts))
   all-touched ts h k = all-pushed (others trace ts) (all-others P trace ts h) k
 
+-- There is a place for a chunk more, and it can be counted among those that wait.
+abbrev pub TakesOne : {L : Type 0} (old : Kept L) (point : Point L) → Holds old point → Type 0
+TakesOne old point h = (length point.state.taken + 1 < 2 ^ 64) × (count_chunks old.index.touched + length h.memory.pinned + 1 < 2 ^ 32)
+
 module _ {L : Type 0} (old : Kept L) (point : Point L) (h : Holds old point) (buffer : Buffer L) (sheet : Sheet)
-    (page : buffer.chunk.page ≡ Some sheet) (size : used_of sheet ≤ point.settings.size) (room : length point.state.taken + 1 < 2 ^ 32) where
+    (page : buffer.chunk.page ≡ Some sheet) (size : used_of sheet ≤ point.settings.size) (room : TakesOne old point h) where
   abbrev taken : List Taken
   taken = point.state.taken
 
   abbrev trace : TraceId
   trace = sheet.header.trace
 
-  abbrev placed : Placed
+  abbrev placed : Placed L
   placed = placed_at (length taken) buffer
 
-  -- with the chunk's standing and its lease
+  -- with the chunk's standing
   abbrev came : Kept L
-  came = noted sheet.header buffer old
+  came = noted sheet.header old
 
   abbrev at : AgentState → Point L
   at state = record point { state = state; buffers = point.buffers ++ buffer ∷ [] }
@@ -48,17 +52,13 @@ module _ {L : Type 0} (old : Kept L) (point : Point L) (h : Holds old point) (bu
     more : length all ≡ length taken + 1
     more = length-append taken (new ∷ [])
 
-    kept_before : (placed' : Placed) → IsKept old.leases point.buffers placed' → IsKept came.leases (point.buffers ++ buffer ∷ []) placed'
-    kept_before placed' k = is_kept-front old.leases _ point.buffers (buffer ∷ []) placed' k
+    kept_before : (placed' : Placed L) → IsKept point.buffers placed' → IsKept (point.buffers ++ buffer ∷ []) placed'
+    kept_before placed' k = is_kept-front point.buffers (buffer ∷ []) placed' k
 
-    kept_new : IsKept came.leases (point.buffers ++ buffer ∷ []) placed
-    kept_new = record {
-      lease = buffer.lease;
-      kept = ap (slice_get came.leases) (sym h.leases) ∙ get_last old.leases (Some (record { lease = buffer.lease; number = buffer.chunk.number }));
-      came = ap (slice_get (point.buffers ++ buffer ∷ [])) (sym h.buffers) ∙ get_last point.buffers buffer;
-    }
+    kept_new : IsKept (point.buffers ++ buffer ∷ []) placed
+    kept_new = ap (slice_get (point.buffers ++ buffer ∷ [])) (sym h.buffers) ∙ get_last point.buffers buffer
 
-    paged_before : (placed' : Placed) → HasPage point.settings taken placed' → HasPage point.settings all placed'
+    paged_before : (placed' : Placed L) → HasPage point.settings taken placed' → HasPage point.settings all placed'
     paged_before placed' k = has_page-front point.settings taken (new ∷ []) placed' k
 
     paged_new : HasPage point.settings all placed
@@ -79,21 +79,15 @@ module _ {L : Type 0} (old : Kept L) (point : Point L) (h : Holds old point) (bu
     reported_within : AllByRecursion (λ (place : ℕ). place < length all) point.state.reported
     reported_within = all_weaker (λ (place : ℕ). place < length taken) (λ (place : ℕ). place < length all) (λ place within. omega (arith, more, within)) point.state.reported h.reported
 
-    leases_same : length came.leases ≡ length all
-    leases_same =
-        let a = length-append old.leases (Some (record { lease = buffer.lease; number = buffer.chunk.number }) ∷ []) in
-        let b = h.leases in
-        omega (arith, a, b, more)
-
     buffers_same : length (point.buffers ++ buffer ∷ []) ≡ length all
     buffers_same =
         let a = length-append point.buffers (buffer ∷ []) in
         let b = h.buffers in
         omega (arith, a, b, more)
 
-    groups_same : AllByRecursion (λ (pin : Pin ArrivalPlace). pinned_for all (pinned_place pin) ≡ Some pin.group) h.memory.pinned
+    groups_same : AllByRecursion (λ (pin : Pin (Tagged L)). pinned_for all (pinned_place pin) ≡ Some pin.group) h.memory.pinned
     groups_same =
-        all_weaker (λ (pin : Pin ArrivalPlace). pinned_for taken (pinned_place pin) ≡ Some pin.group) (λ (pin : Pin ArrivalPlace). pinned_for all (pinned_place pin) ≡ Some pin.group)
+        all_weaker (λ (pin : Pin (Tagged L)). pinned_for taken (pinned_place pin) ≡ Some pin.group) (λ (pin : Pin (Tagged L)). pinned_for all (pinned_place pin) ≡ Some pin.group)
         (λ pin e. pinned_for-front taken (new ∷ []) (pinned_place pin) pin.group e) h.memory.pinned h.pins.groups
 
   abbrev new_mark : Mark
@@ -108,19 +102,19 @@ module _ {L : Type 0} (old : Kept L) (point : Point L) (h : Holds old point) (bu
       let long = ap length h.standings ∙ length-map taken mark_of in
       hand-left (old.standings ++ new_mark ∷ []) old.offered old.hand old.lefts (record { buffer = placed; left = abandoned_for group } ∷ []) (omega (arith, n, long), tt) lefts_more
 
-  abbrev pins_chunks : List Placed
-  pins_chunks = map (λ (pin : Pin ArrivalPlace). pin.chunk) h.memory.pinned
+  abbrev pins_chunks : List (Placed L)
+  pins_chunks = map (λ (pin : Pin (Tagged L)). pin.chunk) h.memory.pinned
 
   -- ---- a chunk of a trace that nobody claimed
 
   module _ (free : claim_of h.memory.claims trace ≡ None) where
-    abbrev noted_now : Noted ArrivalPlace
+    abbrev noted_now : Noted (Tagged L)
     noted_now = with_chunk (noted_of trace old.index.touched) placed
 
     abbrev left_indexed : TraceId → Kept L
     left_indexed t = record came { index = index.touched_with old.index t (with_chunk (noted_of t old.index.touched) placed) }
 
-    waits_indexed : (P : Placed → Type 0) → AllByRecursion P (waiting_chunks old h.memory.pinned) → P placed → AllByRecursion P (waiting_chunks (left_indexed trace) h.memory.pinned)
+    waits_indexed : (P : Placed L → Type 0) → AllByRecursion P (waiting_chunks old h.memory.pinned) → P placed → AllByRecursion P (waiting_chunks (left_indexed trace) h.memory.pinned)
     waits_indexed P waits new =
         let indexed = all_front P (chunks_left old.index.touched) pins_chunks waits in
         all_append P (chunks_left (touch trace noted_now old.index.touched)) pins_chunks
@@ -155,11 +149,10 @@ module _ {L : Type 0} (old : Kept L) (point : Point L) (h : Holds old point) (bu
       claims = h.claims;
       pages = pages_same IsIn;
       reported = reported_within IsIn;
-      leases = leases_same IsIn;
       buffers = buffers_same IsIn;
       each =
-          let Q = IsKept old.leases point.buffers in
-          let P = IsKept came.leases (point.buffers ++ buffer ∷ []) in
+          let Q = IsKept point.buffers in
+          let P = IsKept (point.buffers ++ buffer ∷ []) in
           let weaker = all_weaker Q P (kept_before IsIn) in
           all_append P (waiting_chunks (left_indexed trace) h.memory.pinned) old.hand
           (waits_indexed P (weaker (waiting_chunks old h.memory.pinned) (all_front Q (waiting_chunks old h.memory.pinned) old.hand h.each)) (kept_new IsIn))
@@ -168,12 +161,11 @@ module _ {L : Type 0} (old : Kept L) (point : Point L) (h : Holds old point) (bu
           let P = HasPage point.settings (all IsIn) in
           waits_indexed P (all_weaker (HasPage point.settings taken) P (paged_before IsIn) (waiting_chunks old h.memory.pinned) h.paged) (paged_new IsIn);
       few =
-          let few = h.few in
+          let few = room.1 in
           let count = count-touched trace noted_now old.index.touched h.index.touched.apart in
           let one = length-append (noted_of trace old.index.touched).chunks (placed ∷ []) in
-          let long = more IsIn in
-          omega (arith, few, count, one, long);
-      fits = let long = more IsIn in omega (arith, long, room);
+          omega (arith, few, count, one);
+      fits = let long = more IsIn in let fits = room.0 in omega (arith, long, fits);
     }
 
     -- what is kept is what the model says, where a chunk was indexed
@@ -184,7 +176,7 @@ module _ {L : Type 0} (old : Kept L) (point : Point L) (h : Holds old point) (bu
 
   -- ---- a chunk of a claimed trace
 
-  module _ (group : Group) (pins : Pinning ArrivalPlace) where
+  module _ (group : Group) (pins : Pinning (Tagged L)) where
     still_indexed : (standing : ChunkStanding) (after : AgentState) → is_indexed standing ≡ false → after.taken ≡ all standing → after.touched ≡ point.state.touched → after.crumbs ≡ point.state.crumbs
         → IsIndexed h.memory.claims after old.index.touched
     still_indexed standing after out t u cs = indexed-more h.memory.claims point.state old.index.touched (new standing) after out t u cs h.index.touched
@@ -192,9 +184,9 @@ module _ {L : Type 0} (old : Kept L) (point : Point L) (h : Holds old point) (bu
     abbrev left_pinned : Kept L
     left_pinned = record came { pins = pins }
 
-    waits_pinned : (P : Placed → Type 0) → AllByRecursion P (waiting_chunks old h.memory.pinned) → P placed → AllByRecursion P (waiting_chunks left_pinned (with_pin h.memory group placed).pinned)
+    waits_pinned : (P : Placed L → Type 0) → AllByRecursion P (waiting_chunks old h.memory.pinned) → P placed → AllByRecursion P (waiting_chunks left_pinned (with_pin h.memory group placed).pinned)
     waits_pinned P waits new =
-        all_append P (chunks_left old.index.touched) (map (λ (pin : Pin ArrivalPlace). pin.chunk) (with_pin h.memory group placed).pinned)
+        all_append P (chunks_left old.index.touched) (map (λ (pin : Pin (Tagged L)). pin.chunk) (with_pin h.memory group placed).pinned)
         (all_front P (chunks_left old.index.touched) pins_chunks waits)
         (all-pins P trace group h.memory.pinned (placed ∷ []) (all_back P (chunks_left old.index.touched) pins_chunks waits) (new, tt))
 
@@ -210,7 +202,7 @@ module _ {L : Type 0} (old : Kept L) (point : Point L) (h : Holds old point) (bu
         claims = h.pins.claims;
         pinned = map-append pinned_place h.memory.pinned (pin_for group placed ∷ []) ∙ ap (λ l. l ++ length taken ∷ []) h.pins.pinned;
         groups =
-            all_append (λ (pin : Pin ArrivalPlace). pinned_for (all (Pinned group)) (pinned_place pin) ≡ Some pin.group) h.memory.pinned (pin_for group placed ∷ []) (groups_same (Pinned group))
+            all_append (λ (pin : Pin (Tagged L)). pinned_for (all (Pinned group)) (pinned_place pin) ≡ Some pin.group) h.memory.pinned (pin_for group placed ∷ []) (groups_same (Pinned group))
             (ap (option_and_then (λ (t : Taken). pinning_group t.standing)) (get_last taken (new (Pinned group))), tt);
         abandoned = h.pins.abandoned;
         tried = h.pins.tried;
@@ -228,11 +220,10 @@ module _ {L : Type 0} (old : Kept L) (point : Point L) (h : Holds old point) (bu
       claims = h.claims;
       pages = pages_same (Pinned group);
       reported = reported_within (Pinned group);
-      leases = leases_same (Pinned group);
       buffers = buffers_same (Pinned group);
       each =
-          let Q = IsKept old.leases point.buffers in
-          let P = IsKept came.leases (point.buffers ++ buffer ∷ []) in
+          let Q = IsKept point.buffers in
+          let P = IsKept (point.buffers ++ buffer ∷ []) in
           let weaker = all_weaker Q P (kept_before (Pinned group)) in
           all_append P (waiting_chunks left_pinned (with_pin h.memory group placed).pinned) old.hand
           (waits_pinned P (weaker (waiting_chunks old h.memory.pinned) (all_front Q (waiting_chunks old h.memory.pinned) old.hand h.each)) (kept_new (Pinned group)))
@@ -241,11 +232,10 @@ module _ {L : Type 0} (old : Kept L) (point : Point L) (h : Holds old point) (bu
           let P = HasPage point.settings (all (Pinned group)) in
           waits_pinned P (all_weaker (HasPage point.settings taken) P (paged_before (Pinned group)) (waiting_chunks old h.memory.pinned) h.paged) (paged_new (Pinned group));
       few =
-          let few = h.few in
+          let few = room.1 in
           let one = length-append h.memory.pinned (pin_for group placed ∷ []) in
-          let long = more (Pinned group) in
-          omega (arith, few, one, long);
-      fits = let long = more (Pinned group) in omega (arith, long, room);
+          omega (arith, few, one);
+      fits = let long = more (Pinned group) in let fits = room.0 in omega (arith, long, fits);
     }
 
     -- what is kept is what the model says, where a chunk was pinned, with one pin more
@@ -289,19 +279,15 @@ module _ {L : Type 0} (old : Kept L) (point : Point L) (h : Holds old point) (bu
       claims = h.claims;
       pages = pages_same (Abandoned group);
       reported = reported_within (Abandoned group);
-      leases = leases_same (Abandoned group);
       buffers = buffers_same (Abandoned group);
       each =
-          let Q = IsKept old.leases point.buffers in
-          let P = IsKept came.leases (point.buffers ++ buffer ∷ []) in
+          let Q = IsKept point.buffers in
+          let P = IsKept (point.buffers ++ buffer ∷ []) in
           let weaker = all_weaker Q P (kept_before (Abandoned group)) in
           all_append P (waiting_chunks old h.memory.pinned) (old.hand ++ placed ∷ [])
           (weaker (waiting_chunks old h.memory.pinned) (all_front Q (waiting_chunks old h.memory.pinned) old.hand h.each))
           (all_append P old.hand (placed ∷ []) (weaker old.hand (all_back Q (waiting_chunks old h.memory.pinned) old.hand h.each)) (kept_new (Abandoned group), tt));
       paged = all_weaker (HasPage point.settings taken) (HasPage point.settings (all (Abandoned group))) (paged_before (Abandoned group)) (waiting_chunks old h.memory.pinned) h.paged;
-      few =
-          let few = h.few in
-          let long = more (Abandoned group) in
-          omega (arith, few, long);
-      fits = let long = more (Abandoned group) in omega (arith, long, room);
+      few = h.few;
+      fits = let long = more (Abandoned group) in let fits = room.0 in omega (arith, long, fits);
     }

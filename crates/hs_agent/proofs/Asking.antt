@@ -1,6 +1,6 @@
 -- A group that claims: what is kept, put back, is what the model says from one trace to the next.
 use Rattle.std.proofs.Common.{◌≡◌, ℕ, ◌+◌, ◌≤◌, ◌<◌, ◌^◌, true, false, List, [], ◌∷◌, ◌++◌, length, map, Option, Some, None, sym, ap, subst, ◌∙◌, arith, true≢false}
-use Rattle.hs_agent.proofs.Prelude.{is_some, length-append, length-map, TraceId, Ask, NodeSet, Remembered, claim_of, claimed, pin_for, Pinning, Remembers, Index, noted_of, count_chunks, claim_unclaimed, ArrivalPlace, Placed, Kept, Holds, Point, with_state}
+use Rattle.hs_agent.proofs.Prelude.{is_some, length-append, length-map, TraceId, Ask, NodeSet, Remembered, claim_of, claimed, pin_for, Pinning, Remembers, Index, noted_of, count_chunks, claim_unclaimed, Tagged, Placed, Kept, Holds, Point, with_state}
 use Rattle.hs_base.specs.Rules.{is_declared}
 use Rattle.hs_index.specs.Index as index
 use Rattle.hs_pins.specs.Queues.{total_of}
@@ -11,7 +11,7 @@ use Rattle.hs_agent.specs.Asking.{IsClaiming}
 use Rattle.hs_agent.proofs.Claimed.{left, holds-claimed, stays-claimed, is_unclaimed}
 
 -- an id that is declared is so whatever else the node remembers
-pub declared-too : (pins : Pinning ArrivalPlace) (memory other : Remembered ArrivalPlace) → Remembers pins memory → Remembers pins other → (ask : Ask)
+pub declared-too : {L : Type 0} → (pins : Pinning (Tagged L)) (memory other : Remembered (Tagged L)) → Remembers pins memory → Remembers pins other → (ask : Ask)
     → is_declared memory.rules ask.group.trigger ≡ true → is_declared other.rules ask.group.trigger ≡ true
 declared-too pins memory other h k ask e = sym (k.pinned.chunks.declared ask.group.trigger) ∙ h.pinned.chunks.declared ask.group.trigger ∙ e
 
@@ -24,24 +24,24 @@ nothing None e = λ i. None
 nothing (Some a) e = absurd (true≢false e)
 
 -- the group was opened
-pub asked-begun : {L : Type 0} (ask : Ask) (kept : Kept L) (pins : Pinning ArrivalPlace) (opening : Opening ArrivalPlace) (point : Point L) (chunks : ℕ) (h : Holds kept point)
+pub asked-begun : {L : Type 0} (ask : Ask) (kept : Kept L) (pins : Pinning (Tagged L)) (opening : Opening (Tagged L)) (point : Point L) (chunks : ℕ) (h : Holds kept point)
     → restored pins opening ≡ kept.pins → opening.group ≡ ask.group → opening.laterals ≡ ask.laterals → is_declared point.settings.triggers ask.group.trigger ≡ true
     → opening.most ≡ kept.pins.most → opening.ready ≡ length h.memory.pinned + chunks → opening.chunks ≡ chunks → chunks ≡ count_chunks kept.index.touched
     → IsClaiming ask kept pins kept.index kept.claims opening point
 asked-begun {L} ask kept pins opening point chunks h back group laterals declared most ready room all =
-    let total = ap (λ (p : Pinning ArrivalPlace). total_of p.queues) back in
+    let total = ap (λ (p : Pinning (Tagged L)). total_of p.queues) back in
     let own = h.remembers.pinned.chunks.total in
     record {
-      holds = subst (λ (p : Pinning ArrivalPlace). Holds (record kept { pins = p }) point) (sym back) h;
+      holds = subst (λ (p : Pinning (Tagged L)). Holds (record kept { pins = p }) point) (sym back) h;
       group = group;
       laterals = laterals;
       declared = declared;
-      most = most ∙ sym (ap (λ (p : Pinning ArrivalPlace). p.most) back);
+      most = most ∙ sym (ap (λ (p : Pinning (Tagged L)). p.most) back);
       ready = omega (arith, total, own, ready, room);
       chunks = omega (arith, room, all);
     }
 
-module _ {L : Type 0} (ask : Ask) (kept : Kept L) (pins : Pinning ArrivalPlace) (touched : Index ArrivalPlace) (claims : List noted.Claim) (opening : Opening ArrivalPlace) (point : Point L)
+module _ {L : Type 0} (ask : Ask) (kept : Kept L) (pins : Pinning (Tagged L)) (touched : Index (Tagged L)) (claims : List noted.Claim) (opening : Opening (Tagged L)) (point : Point L)
     (k : IsClaiming ask kept pins touched claims opening point) where
   abbrev old : Kept L
   old = record kept { index = touched; claims = claims; pins = restored pins opening }
@@ -73,10 +73,10 @@ module _ {L : Type 0} (ask : Ask) (kept : Kept L) (pins : Pinning ArrivalPlace) 
     asked-free e = nothing (claim_of opening.claims trace) e
 
     -- it is claimed now
-    pub asked-claimed : (touched_now : Index ArrivalPlace) (claims_now : List noted.Claim) (now : Opening ArrivalPlace) (held : List Placed) (crumbs : NodeSet) (count : ℕ) → claim_of opening.claims trace ≡ None
+    pub asked-claimed : (touched_now : Index (Tagged L)) (claims_now : List noted.Claim) (now : Opening (Tagged L)) (held : List (Placed L)) (crumbs : NodeSet) (count : ℕ) → claim_of opening.claims trace ≡ None
         → touched_now ≡ index.claimed touched trace → claims_now ≡ claims ++ record { trace = trace; group = ask.group } ∷ []
         → held ≡ (noted_of trace touched.touched).chunks → crumbs ≡ (noted_of trace touched.touched).crumbs → length held ≡ count
-        → ((memory : Remembered ArrivalPlace) → Remembers (restored pins opening) memory → is_declared memory.rules opening.group.trigger ≡ true → length memory.pinned + count < 2 ^ 32
+        → ((memory : Remembered (Tagged L)) → Remembers (restored pins opening) memory → is_declared memory.rules opening.group.trigger ≡ true → length memory.pinned + count < 2 ^ 32
         → Remembers (restored pins now) (claimed memory opening.group opening.laterals trace held crumbs))
         → now.group ≡ opening.group → now.laterals ≡ opening.laterals → now.most ≡ opening.most → now.ready ≡ opening.ready → now.chunks + count ≡ opening.chunks
         → count_chunks touched_now.touched + count ≡ count_chunks touched.touched
@@ -85,9 +85,8 @@ module _ {L : Type 0} (ask : Ask) (kept : Kept L) (pins : Pinning ArrivalPlace) 
         let h = k.holds in
         let free : claim_of h.memory.claims trace ≡ None = own_claim ∙ unclaimed in
         let few = h.few in
-        let fits = h.fits in
         let remembers : Remembers (restored pins now) (claimed h.memory ask.group ask.laterals trace (noted_of trace touched.touched).chunks (noted_of trace touched.touched).crumbs) =
-        subst (Remembers (restored pins now)) (λ i. claimed h.memory (k.group i) (k.laterals i) trace (held_is i) (crumbs_is i)) (after h.memory h.remembers declared_of (omega (arith, few, fits, all))) in
+        subst (Remembers (restored pins now)) (λ i. claimed h.memory (k.group i) (k.laterals i) trace (held_is i) (crumbs_is i)) (after h.memory h.remembers declared_of (omega (arith, few, all))) in
         let claimed_now : Holds (left old point h ask trace free (restored pins now)) (with_state (claim_unclaimed ask point.state trace) point) =
         subst (λ s. Holds (left old point h ask trace free (restored pins now)) (with_state s point)) (sym (is_unclaimed old point h ask trace free)) (holds-claimed old point h ask trace free (restored pins now) remembers) in
         let before = h.remembers.pinned.chunks.total in

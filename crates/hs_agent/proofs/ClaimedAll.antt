@@ -1,6 +1,6 @@
 -- After a group has claimed, its lead and its laterals are claimed.
 use Rattle.std.proofs.Common.{◌≡◌, ◌≤◌, ℕ, suc, zero, length, take, slice_get, Bool, true, false, cond, ◌||◌, List, [], ◌∷◌, map, fold, Option, Some, None, IsSome, refl, sym, ap, subst, ◌∙◌}
-use Rattle.hs_agent.proofs.Prelude.{AllByRecursion, list_any, option_map_or, all_weaker, TraceId, Ask, same_trace, Claim, Remembered, claim_of, Remembers, drops, relieved, ArrivalPlace, let_go_all, abandoned_going, claimed_for, AgentState, ClaimedTrace, is_claimed, claim_trace, claim_unclaimed, claim_each, traces_of, claim_for, same_trace-refl, Kept, Holds, Point, with_state}
+use Rattle.hs_agent.proofs.Prelude.{AllByRecursion, list_any, option_map_or, all_weaker, TraceId, Ask, same_trace, Claim, Remembered, claim_of, Remembers, drops, relieved, Tagged, let_go_all, abandoned_going, claimed_for, AgentState, ClaimedTrace, is_claimed, claim_trace, claim_unclaimed, claim_each, traces_of, claim_for, same_trace-refl, Kept, Holds, Point, with_state}
 use Rattle.std.proofs.lemmas.List.Folds.{list_any-append}
 use Rattle.hs_lists.proofs.Parts.{take_whole}
 use Rattle.hs_agent.proofs.Claimed.{claimed-plain}
@@ -66,8 +66,8 @@ module _ {L : Type 0} (ask : Ask) (before middle after : Kept L) (place : ℕ) w
   ClaimsBelow = (point : Point L) → Holds before point → Holds middle (with_state (fold (claim_unclaimed ask) (claim_unclaimed ask point.state ask.group.lead) (take place ask.laterals)) point)
 
   -- all are claimed, and what is too much was abandoned
-  pub holds-claimed_for : ClaimsBelow → length ask.laterals ≤ place → ((memory : Remembered ArrivalPlace) → Remembers middle.pins memory → Remembers after.pins (relieved memory))
-      → ((memory : Remembered ArrivalPlace) → Remembers middle.pins memory → after ≡ let_go_all (record middle { pins = after.pins }) (map abandoned_going (drops memory)))
+  pub holds-claimed_for : ClaimsBelow → length ask.laterals ≤ place → ((memory : Remembered (Tagged L)) → Remembers middle.pins memory → Remembers after.pins (relieved memory))
+      → ((memory : Remembered (Tagged L)) → Remembers middle.pins memory → after ≡ let_go_all (record middle { pins = after.pins }) (map abandoned_going (drops memory)))
       → (point : Point L) → Holds before point → Holds after (claimed_for ask point)
   holds-claimed_for below all pins gone point h =
       let begun : AgentState = claim_unclaimed ask point.state ask.group.lead in

@@ -1,6 +1,6 @@
 -- The nodes that a message names are those to which a crumb of one of its traces leads.
 use Rattle.std.proofs.Common.{◌≡◌, ℕ, Bool, true, false, cond, ◌||◌, ◌&&◌, List, [], ◌∷◌, filter, fold, Option, Some, None, nat_eq, eq-eqb, refl, sym, ap, ◌∙◌, true≢false}
-use Rattle.hs_agent.proofs.Prelude.{list_any, AllByRecursion, option_map, option_map_or, IsSome, or-false, eqb-true, ne_eqb, TraceId, NodeSet, Crumb, has_node, no_nodes, with_node, has-no_nodes, has-with_node, same_trace, Claim, claim_of, Indexed, noted_of, same_crumb, has_crumb, crumb_nodes, ArrivalPlace, crumbs_known}
+use Rattle.hs_agent.proofs.Prelude.{list_any, AllByRecursion, option_map, option_map_or, IsSome, or-false, eqb-true, ne_eqb, TraceId, NodeSet, Crumb, has_node, no_nodes, with_node, has-no_nodes, has-with_node, same_trace, Claim, claim_of, Indexed, noted_of, same_crumb, has_crumb, crumb_nodes, Tagged, crumbs_known}
 use Rattle.hs_lists.proofs.Bools.{or_assoc}
 use Rattle.hs_pins.specs.Remembered as pins
 
@@ -83,7 +83,7 @@ pub crumb_in : (n : ℕ) (found : Option Claim) (nodes : NodeSet) → option_map
 crumb_in n None nodes e = cc
 crumb_in n (Some claim) nodes e = let same : nodes ≡ claim.crumbs = cc in ap (λ (s : NodeSet). has_node s n) same
 
-pub known-claimed : (claims : List Claim) (touched : List (Indexed ArrivalPlace)) (trace : TraceId) (n : ℕ) → IsSome (claim_of claims trace) → has_node (crumbs_known claims touched trace) n ≡ pins.has_crumb claims trace n
+pub known-claimed : {L : Type 0} → (claims : List Claim) (touched : List (Indexed (Tagged L))) (trace : TraceId) (n : ℕ) → IsSome (claim_of claims trace) → has_node (crumbs_known claims touched trace) n ≡ pins.has_crumb claims trace n
 known-claimed claims touched trace n found = by (claim_of claims trace) found
   where
     by : (o : Option Claim) → IsSome o → has_node (option_map_or (λ (claim : Claim). claim.crumbs) o (noted_of trace touched).crumbs) n ≡ option_map_or (λ (claim : Claim). has_node claim.crumbs n) o false
@@ -99,7 +99,7 @@ all_alike P p q f [] h = tt
 all_alike P p q f (x ∷ xs) h = (f x h.0, all_alike P p q f xs h.1)
 
 -- where all of the traces are claimed, a message names the nodes of their claims
-pub has-crumbs_claimed : (claims : List Claim) (touched : List (Indexed ArrivalPlace)) (crumbs : List Crumb) (traces : List TraceId) (n : ℕ)
+pub has-crumbs_claimed : {L : Type 0} → (claims : List Claim) (touched : List (Indexed (Tagged L))) (crumbs : List Crumb) (traces : List TraceId) (n : ℕ)
     → ((trace : TraceId) (n : ℕ) → has_crumb crumbs (crumb_to trace n) ≡ has_node (crumbs_known claims touched trace) n)
     → AllByRecursion (λ trace. IsSome (claim_of claims trace)) traces
     → has_node (crumb_nodes crumbs traces) n ≡ list_any (λ trace. pins.has_crumb claims trace n) traces

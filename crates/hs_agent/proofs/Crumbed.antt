@@ -1,6 +1,6 @@
 -- What is kept after a crumb came is what the model says then, before anything has to give way.
 use Rattle.std.proofs.Common.{◌≡◌, Bool, true, false, cond, ◌||◌, ◌&&◌, List, [], ◌∷◌, ◌++◌, map, Some, None, nat_eq, refl, sym, ap, subst, ◌∙◌, arith}
-use Rattle.hs_agent.proofs.Prelude.{AllByRecursion, option_map, option_map_or, option_and_then, is_some, or-false, by_answer, all_weaker, all_append, all_front, all_back, TraceId, NodeId, Crumb, has_node, with_node, has-with_node, same_trace, Claim, Pin, claim_of, is_claim_of, crumbed, Pinning, Remembers, Indexed, noted_of, touch, chunks_left, AgentState, ClaimedTrace, indexed_places, indexed_count, has_crumb, with_crumb, late_of, with_touched, late_crumb, tell_late, evict, same_trace-true, same_trace-refl, ArrivalPlace, Placed, Kept, Holds, IsKept, HasPage, IsIndexed, Point, with_state, plain_claim, waiting_chunks, crumbs_known, crumb_taken}
+use Rattle.hs_agent.proofs.Prelude.{AllByRecursion, option_map, option_map_or, option_and_then, is_some, or-false, by_answer, all_weaker, all_append, all_front, all_back, TraceId, NodeId, Crumb, has_node, with_node, has-with_node, same_trace, Claim, Pin, claim_of, is_claim_of, crumbed, Pinning, Remembers, Indexed, noted_of, touch, chunks_left, AgentState, ClaimedTrace, indexed_places, indexed_count, has_crumb, with_crumb, late_of, with_touched, late_crumb, tell_late, evict, same_trace-true, same_trace-refl, Tagged, Placed, Kept, Holds, IsKept, HasPage, IsIndexed, Point, with_state, plain_claim, waiting_chunks, crumbs_known, crumb_taken}
 use Rattle.hs_pins.specs.Remembered as pins
 use Rattle.hs_index.specs.Index as index
 use Rattle.hs_law_agent.specs.State as model
@@ -27,13 +27,13 @@ module _ {L : Type 0} (old : Kept L) (point : Point L) (h : Holds old point) (tr
 -- ---- a crumb of a trace that nobody claimed
 
 module _ {L : Type 0} (old : Kept L) (point : Point L) (h : Holds old point) (crumb : Crumb) (free : claim_of h.memory.claims crumb.trace ≡ None) where
-  abbrev pins_chunks : List Placed
-  pins_chunks = map (λ (pin : Pin ArrivalPlace). pin.chunk) h.memory.pinned
+  abbrev pins_chunks : List (Placed L)
+  pins_chunks = map (λ (pin : Pin (Tagged L)). pin.chunk) h.memory.pinned
 
   abbrev pub left_touched : Kept L
   left_touched = record old { index = index.crumbed old.index crumb.trace crumb.node }
 
-  waits_touched : (P : Placed → Type 0) → AllByRecursion P (waiting_chunks old h.memory.pinned) → AllByRecursion P (waiting_chunks left_touched h.memory.pinned)
+  waits_touched : (P : Placed L → Type 0) → AllByRecursion P (waiting_chunks old h.memory.pinned) → AllByRecursion P (waiting_chunks left_touched h.memory.pinned)
   waits_touched P waits =
       let indexed = all_front P (chunks_left old.index.touched) pins_chunks waits in
       let noted = index.with_crumb (noted_of crumb.trace old.index.touched) crumb.node in
@@ -70,10 +70,9 @@ module _ {L : Type 0} (old : Kept L) (point : Point L) (h : Holds old point) (cr
     claims = h.claims;
     pages = h.pages;
     reported = h.reported;
-    leases = h.leases;
     buffers = h.buffers;
     each =
-        let P = IsKept old.leases point.buffers in
+        let P = IsKept point.buffers in
         all_append P (waiting_chunks left_touched h.memory.pinned) old.hand (waits_touched P (all_front P (waiting_chunks old h.memory.pinned) old.hand h.each)) (all_back P (waiting_chunks old h.memory.pinned) old.hand h.each);
     paged = waits_touched (HasPage point.settings point.state.taken) h.paged;
     few =
@@ -133,17 +132,17 @@ module _ (trace : TraceId) (node : NodeId) where
 
 -- ---- a crumb of a claimed trace
 
-indexed-late : (claims : List Claim) (claim : Claim) (crumb : Crumb) (touched : List (Indexed ArrivalPlace)) (state after : AgentState) → claim_of claims crumb.trace ≡ Some claim
+indexed-late : {L : Type 0} → (claims : List Claim) (claim : Claim) (crumb : Crumb) (touched : List (Indexed (Tagged L))) (state after : AgentState) → claim_of claims crumb.trace ≡ Some claim
     → after.taken ≡ state.taken → after.touched ≡ state.touched → after.crumbs ≡ with_crumb state.crumbs crumb
     → IsIndexed claims state touched → IsIndexed (pins.with_crumb claims crumb.trace crumb.node) after touched
-indexed-late claims claim crumb touched state after found same_taken same_touched crumbs i =
+indexed-late {L} claims claim crumb touched state after found same_taken same_touched crumbs i =
     let trace = crumb.trace in
     let more = pins.with_crumb claims trace crumb.node in
     record {
       traces = same_touched ∙ i.traces;
       apart = i.apart;
       free =
-          all_weaker (λ (t : Indexed ArrivalPlace). claim_of claims t.trace ≡ None) (λ (t : Indexed ArrivalPlace). claim_of more t.trace ≡ None)
+          all_weaker (λ (t : Indexed (Tagged L)). claim_of claims t.trace ≡ None) (λ (t : Indexed (Tagged L)). claim_of more t.trace ≡ None)
           (λ t f. by_answer (same_trace trace t.trace)
           (λ y.
           let e = same_trace-true trace t.trace y in
@@ -193,7 +192,7 @@ module _ {L : Type 0} (old : Kept L) (point : Point L) (h : Holds old point) (cr
       (λ y. ap (λ b. (cond b point.state (tell_late crumb (plain_claim claim) point.state)).crumbs) y ∙ sym (ap (λ b. cond b point.state.crumbs (point.state.crumbs ++ crumb ∷ [])) y))
       (λ n. ap (λ b. (cond b point.state (tell_late crumb (plain_claim claim) point.state)).crumbs) n)
 
-  module _ (pins : Pinning ArrivalPlace) (remembers : Remembers pins (crumbed h.memory crumb.trace crumb.node)) where
+  module _ (pins : Pinning (Tagged L)) (remembers : Remembers pins (crumbed h.memory crumb.trace crumb.node)) where
     holds_late : Holds (record old { pins = pins }) (with_state (record point.state { crumbs = late.crumbs; said = late.said }) point)
     holds_late = record {
       node_is = h.node_is;
@@ -222,7 +221,6 @@ module _ {L : Type 0} (old : Kept L) (point : Point L) (h : Holds old point) (cr
       claims = h.claims;
       pages = h.pages;
       reported = h.reported;
-      leases = h.leases;
       buffers = h.buffers;
       each = h.each;
       paged = h.paged;

@@ -1,6 +1,6 @@
 -- An agent follows its run from call to call.
-use Rattle.std.proofs.Common.{◌≡◌, ◌<◌, ◌≤◌, append-nil, ℕ, Bool, true, false, cond, List, [], ◌∷◌, ◌++◌, length, slice_set, Some, None, IsSome, refl, sym, ap, subst, ◌∙◌}
-use Rattle.hs_agent.proofs.Prelude.{Step, Chunk, Crumbed, Triggered, Asked, Turn, back_after, came_back, fold-append, IfSome, option_map_or, PlainSettings, Schedule, IsSchedule, Buffer, buffer_of, IsInOnePlace, PlacesMatch, EventsLeadOn, ListsGoOn, AgentState, Answered, Given, Missed, Unread, Took, Gave, note, step_of, take_input, step_of_answer, give_back, take_answer, after_gave, Kept, PlainAgent, Holds, Point, answered, Run, input_of, taken_in, Follows, StandsAt, point_of, state_of, after_offer, Input}
+use Rattle.std.proofs.Common.{◌≡◌, ◌≤◌, append-nil, ℕ, Bool, true, false, cond, List, [], ◌∷◌, ◌++◌, slice_set, Some, None, IsSome, refl, sym, ap, subst, ◌∙◌}
+use Rattle.hs_agent.proofs.Prelude.{Step, Chunk, Crumbed, Triggered, Asked, Turn, back_after, came_back, fold-append, option_map_or, PlainSettings, Schedule, IsSchedule, Buffer, buffer_of, IsInOnePlace, PlacesMatch, EventsLeadOn, ListsGoOn, AgentState, Answered, Given, Missed, Unread, Took, Gave, note, step_of, take_input, step_of_answer, give_back, take_answer, after_gave, Kept, PlainAgent, Holds, Point, answered, Run, input_of, taken_in, Follows, StandsAt, point_of, state_of, after_offer, Input}
 use Rattle.hs_lists.proofs.Options.{some_item}
 use Rattle.hs_base.specs.declared.limits.TheConstants.{MOST_NODES}
 use Rattle.hs_words.specs.declared.token.Given.{Given as Answer}
@@ -9,7 +9,7 @@ use Rattle.hs_law_agent.proofs.Bearing.{answer_shares}
 use Rattle.hs_law_agent.specs.Stepping.{Input as Taken}
 use Rattle.hs_agent.specs.Runs.{after_input, answer_of, back_in, with_back, after_answer, logged}
 use Rattle.hs_agent.proofs.Unchanged.{input-log}
-use Rattle.hs_agent.proofs.Offered.{below, holds-rest, holds-given, holds-back}
+use Rattle.hs_agent.proofs.Offered.{holds-rest, holds-given, holds-back}
 
 -- an answer leaves the log and the shares
 given-log : (stamp : ℕ) (hand : List ℕ) (state : AgentState) → (give_back stamp hand state).log ≡ state.log
@@ -43,13 +43,9 @@ back-input before (Asked ask) = refl
 back-input before Turn = refl
 
 module _ {L : Type 0} where
-  -- the offered chunk was taken, so there is a place for its lease
-  pub offered-within : (kept : Kept L) (point : Point L) → Holds kept point → ((place : ℕ) → IsInOnePlace point.state place) → IsSome point.offered
-      → IfSome kept.offered (λ place. place < length kept.leases) × IsSome kept.offered
-  offered-within kept point h one some =
-      let found = some_item point.offered some in
-      let within : found.0 < length kept.leases = subst (λ n. found.0 < n) (sym h.leases) (below kept point h one found.0 found.1) in
-      subst (λ o. IfSome o (λ place. place < length kept.leases) × IsSome o) (sym (h.offered ∙ found.1)) (within, refl)
+  -- a chunk is out
+  pub offered-some : (kept : Kept L) (point : Point L) → Holds kept point → IsSome point.offered → IsSome kept.offered
+  offered-some kept point h some = subst IsSome (sym h.offered) some
 
   module _ (agent next : PlainAgent L) (run : Run L) (follows : Follows agent run) where
     pub follows-offered : next.schedule ≡ agent.schedule → next.log ≡ agent.log → next.keeps ≡ agent.keeps → next.spent ≡ agent.spent → Holds next.kept (point_of (after_offer run)) → Follows next (after_offer run)

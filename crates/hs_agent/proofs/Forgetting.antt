@@ -1,6 +1,6 @@
 -- What is kept once a group was forgotten.
 use Rattle.std.proofs.Common.{◌≡◌, ℕ, Bool, true, false, cond, not, ◌||◌, ◌&&◌, List, [], ◌∷◌, map, filter, Option, Some, None, refl, sym, ap, subst, ◌∙◌, true≢false}
-use Rattle.hs_agent.proofs.Prelude.{list_any, find, filter_map, AllByRecursion, option_map_or, option_and_then, all_weaker, or-false, TraceId, Group, Crumb, has_node, has-no_nodes, same_trace, same_trace-true, Claim, claim_of, Pin, Remembers, Indexed, is_of, Noted, noted_of, nothing, ArrivalPlace, ClaimedTrace, claim_note, same_crumb, has_crumb, forget_group, is_settled, pinned_for, Kept, Point, Holds, plain_claim, pinned_place, crumbs_known, with_state}
+use Rattle.hs_agent.proofs.Prelude.{list_any, find, filter_map, AllByRecursion, option_map_or, option_and_then, all_weaker, or-false, TraceId, Group, Crumb, has_node, has-no_nodes, same_trace, same_trace-true, Claim, claim_of, Pin, Remembers, Indexed, is_of, Noted, noted_of, nothing, Tagged, ClaimedTrace, claim_note, same_crumb, has_crumb, forget_group, is_settled, pinned_for, Kept, Point, Holds, plain_claim, pinned_place, crumbs_known, with_state}
 use Rattle.hs_records.specs.declared.books.Claim as noted
 use Rattle.hs_lists.proofs.Filters.{filter_mapped}
 use Rattle.hs_lists.proofs.Tests.{list_any_map}
@@ -70,23 +70,23 @@ any_left r (x ∷ crumbs) c = go (r x.trace) (same_trace c.trace x.trace) (r c.t
     go false b false e f g rest = rest
 
 -- a claimed trace is not indexed
-not_noted : (claims : List Claim) (touched : List (Indexed ArrivalPlace)) (t : TraceId) (claim : Claim) → AllByRecursion (λ (u : Indexed ArrivalPlace). claim_of claims u.trace ≡ None) touched → claim_of claims t ≡ Some claim → noted_of t touched ≡ nothing
+not_noted : {L : Type 0} → (claims : List Claim) (touched : List (Indexed (Tagged L))) (t : TraceId) (claim : Claim) → AllByRecursion (λ (u : Indexed (Tagged L)). claim_of claims u.trace ≡ None) touched → claim_of claims t ≡ Some claim → noted_of t touched ≡ nothing
 not_noted claims [] t claim free e = refl
-not_noted claims (u ∷ touched) t claim free e = go (same_trace t u.trace) refl (not_noted claims touched t claim free.1 e)
+not_noted {L} claims (u ∷ touched) t claim free e = go (same_trace t u.trace) refl (not_noted claims touched t claim free.1 e)
   where
-    go : (b : Bool) → same_trace t u.trace ≡ b → noted_of t touched ≡ nothing → option_map_or (λ (v : Indexed ArrivalPlace). v.noted) (cond b (Some u) (find (is_of t) touched)) nothing ≡ nothing
+    go : (b : Bool) → same_trace t u.trace ≡ b → noted_of t touched ≡ nothing → option_map_or (λ (v : Indexed (Tagged L)). v.noted) (cond b (Some u) (find (is_of t) touched)) nothing ≡ nothing
     go true f rest = let same : t ≡ u.trace = same_trace-true t u.trace f in absurd (clash (sym e ∙ subst (λ (v : TraceId). claim_of claims v ≡ None) (sym same) free.0))
       where
         clash : Some claim ≡ None → ⊥
         clash h = cc
     go false f rest = rest
 
-crumbs_left : (group : Group) (claims : List Claim) (touched : List (Indexed ArrivalPlace)) (crumbs : List Crumb) → pins.AreApart claims
-    → AllByRecursion (λ (u : Indexed ArrivalPlace). claim_of claims u.trace ≡ None) touched
+crumbs_left : {L : Type 0} → (group : Group) (claims : List Claim) (touched : List (Indexed (Tagged L))) (crumbs : List Crumb) → pins.AreApart claims
+    → AllByRecursion (λ (u : Indexed (Tagged L)). claim_of claims u.trace ≡ None) touched
     → ((t : TraceId) (n : ℕ) → has_crumb crumbs (record { trace = t; node = record { 0 = n } }) ≡ has_node (crumbs_known claims touched t) n)
     → (t : TraceId) (n : ℕ) → has_crumb (filter (λ (crumb : Crumb). not (has_claimed group (map plain_claim claims) crumb.trace)) crumbs) (record { trace = t; node = record { 0 = n } })
     ≡ has_node (crumbs_known (left group claims) touched t) n
-crumbs_left group claims touched crumbs apart free known t n =
+crumbs_left {L} group claims touched crumbs apart free known t n =
     let crumb : Crumb = record { trace = t; node = record { 0 = n } } in
     any_left (λ u. not (has_claimed group (map plain_claim claims) u)) crumbs crumb
     ∙ (λ i. not (claimed_by group claims apart t i) && known t n i)
@@ -100,7 +100,7 @@ crumbs_left group claims touched crumbs apart free known t n =
     go (Some claim) e = by (same_group group claim.group)
       where
         by : (b : Bool) → (not b && has_node claim.crumbs n) ≡ has_node (option_map_or (λ (claim : Claim). claim.crumbs) (cond b None (Some claim)) (noted_of t touched).crumbs) n
-        by true = sym (ap (λ (noted : Noted ArrivalPlace). has_node noted.crumbs n) (not_noted claims touched t claim free e) ∙ has-no_nodes n)
+        by true = sym (ap (λ (noted : Noted (Tagged L)). has_node noted.crumbs n) (not_noted claims touched t claim free e) ∙ has-no_nodes n)
         by false = refl
 
 -- ---- what is pinned
@@ -111,7 +111,7 @@ module _ {L : Type 0} (kept : Kept L) (point : Point L) (h : Holds kept point) (
       let groups : pinned_groups point.state ≡ groups_of h.memory.pinned =
       ap (filter_map (pinned_for point.state.taken)) (sym h.pins.pinned) ∙ groups-pinned pinned_place point.state.taken h.memory.pinned h.pins.groups in
       ap (λ (gs : List Group). not (list_any (same_group group) gs)) groups
-      ∙ ap not (list_any_map (same_group group) (λ (pin : Pin ArrivalPlace). pin.group) h.memory.pinned)
+      ∙ ap not (list_any_map (same_group group) (λ (pin : Pin (Tagged L)). pin.group) h.memory.pinned)
 
   pub holds_forgot : (next : Kept L) → Remembers next.pins (pins.forgot group h.memory) → next.claims ≡ filter (λ (claim : noted.Claim). not (same_group group claim.group)) kept.claims
       → next ≡ record kept { pins = next.pins; claims = next.claims } → Holds next (with_state (forget_group group point.state) point)
@@ -143,7 +143,7 @@ module _ {L : Type 0} (kept : Kept L) (point : Point L) (h : Holds kept point) (
             traces = h.index.touched.traces;
             apart = h.index.touched.apart;
             free =
-                all_weaker (λ (u : Indexed ArrivalPlace). claim_of h.memory.claims u.trace ≡ None) (λ (u : Indexed ArrivalPlace). claim_of (left group h.memory.claims) u.trace ≡ None)
+                all_weaker (λ (u : Indexed (Tagged L)). claim_of h.memory.claims u.trace ≡ None) (λ (u : Indexed (Tagged L)). claim_of (left group h.memory.claims) u.trace ≡ None)
                 (λ u none. claim_left group h.memory.claims h.remembers.sound.apart u.trace ∙ ap (option_and_then (λ (claim : Claim). cond (same_group group claim.group) None (Some claim))) none)
                 kept.index.touched h.index.touched.free;
             places = h.index.touched.places;
@@ -167,7 +167,6 @@ module _ {L : Type 0} (kept : Kept L) (point : Point L) (h : Holds kept point) (
             ∙ filter_mapped claim_note (λ (claim : noted.Claim). not (same_group group claim.group)) state.claims;
         pages = h.pages;
         reported = h.reported;
-        leases = h.leases;
         buffers = h.buffers;
         each = h.each;
         paged = h.paged;

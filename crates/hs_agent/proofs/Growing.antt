@@ -1,18 +1,13 @@
 -- What stays where a chunk more was taken.
 use Rattle.std.proofs.Common.{◌≡◌, ℕ, ◌<◌, List, [], ◌∷◌, ◌++◌, length, Option, Some, None, slice_get, refl, ap, ◌∙◌}
-use Rattle.hs_agent.proofs.Prelude.{filter_map, AllByRecursion, cons_option, option_map, option_and_then, Left, Group, Mark, PlainSettings, page_bytes, Buffer, Taken, pinning_group, pinned_for, bytes_at, Placed, Pledged, place_of, IsKept, HasPage, with_left}
+use Rattle.hs_agent.proofs.Prelude.{filter_map, AllByRecursion, cons_option, option_map, option_and_then, Left, Group, Mark, PlainSettings, page_bytes, Buffer, Taken, pinning_group, pinned_for, bytes_at, Placed, place_of, IsKept, HasPage, with_left}
 use Rattle.hs_lists.proofs.Places.{get_front, get_front_same}
 use Rattle.hs_agent.proofs.NotedFates.{with_left-later}
 
-module _ {L : Type 0} where
-  pub is_kept-front : (leases more : List (Option (Pledged L))) (buffers others : List (Buffer L)) (placed : Placed) → IsKept leases buffers placed → IsKept (leases ++ more) (buffers ++ others) placed
-  is_kept-front leases more buffers others placed h = record {
-    lease = h.lease;
-    kept = get_front leases more (place_of placed) _ h.kept;
-    came = get_front buffers others (place_of placed) _ h.came;
-  }
+pub is_kept-front : {L : Type 0} (buffers others : List (Buffer L)) (placed : Placed L) → IsKept buffers placed → IsKept (buffers ++ others) placed
+is_kept-front buffers others placed came = get_front buffers others (place_of placed) _ came
 
-pub has_page-front : (settings : PlainSettings) (taken more : List Taken) (placed : Placed) → HasPage settings taken placed → HasPage settings (taken ++ more) placed
+pub has_page-front : {L : Type 0} → (settings : PlainSettings) (taken more : List Taken) (placed : Placed L) → HasPage settings taken placed → HasPage settings (taken ++ more) placed
 has_page-front settings taken more placed h = record { chunk = h.chunk; at = get_front taken more (place_of placed) h.chunk h.at; page = h.page; size = h.size }
 
 pub pages-front : (taken more : List Taken) (reported : List ℕ) → AllByRecursion (λ (place : ℕ). place < length taken) reported → filter_map (bytes_at (taken ++ more)) reported ≡ filter_map (bytes_at taken) reported

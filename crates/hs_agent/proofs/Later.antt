@@ -1,6 +1,6 @@
 -- A trigger that is noted, and counted, after its group has claimed: it comes to the same as before.
 use Rattle.std.proofs.Common.{◌≡◌, ℕ, ◌+◌, Bool, true, false, cond, List, [], ◌∷◌, length, fold, Option, Some, None, nat_lt, refl, sym, ap, ◌∙◌}
-use Rattle.hs_agent.proofs.Prelude.{option_map, option_map_or, TraceId, Ask, Group, Trigger, PlainSettings, Remembered, AgentState, is_claimed, claim_trace, claim_unclaimed, claim_each, traces_of, claim_for, note_trigger, count_admitted, ArrivalPlace}
+use Rattle.hs_agent.proofs.Prelude.{option_map, option_map_or, TraceId, Ask, Group, Trigger, PlainSettings, Remembered, AgentState, is_claimed, claim_trace, claim_unclaimed, claim_each, traces_of, claim_for, note_trigger, count_admitted, Tagged}
 use Rattle.hs_base.specs.declared.settings.TriggerRule.{TriggerRule}
 use Rattle.hs_pins.specs.Buckets.{attempted}
 use Rattle.hs_pins.specs.Remembered.{Tried, admission, answered}
@@ -54,7 +54,7 @@ counted-later settings ask trigger state =
     ∙ sym (claim-put (record { trigger = trigger.trigger; moment = trigger.moment } ∷ state.tried) (state.admitted + 1) settings ask state)
 
 -- the answer to a trigger is the same to who remembers the same rules and triggers
-pub answered-same : (memory other : Remembered ArrivalPlace) (trigger : Trigger) → memory.rules ≡ other.rules → memory.tried ≡ other.tried → memory.admitted ≡ other.admitted
+pub answered-same : {L : Type 0} → (memory other : Remembered (Tagged L)) (trigger : Trigger) → memory.rules ≡ other.rules → memory.tried ≡ other.tried → memory.admitted ≡ other.admitted
     → answered memory trigger.trigger trigger.moment ≡ answered other trigger.trigger trigger.moment
 answered-same memory other trigger rules tried admitted =
     λ i. option_map (λ (rule : TriggerRule). admission (admitted i) (attempted rule.burst rule.rate (pins.moments_of trigger.trigger (tried i)) trigger.moment)) (pins.rule_of (rules i) trigger.trigger)

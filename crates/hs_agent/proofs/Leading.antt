@@ -1,11 +1,11 @@
 -- What is first in the hand is first in the model's hand, as it came last; and it stands there by why it left.
-use Rattle.std.proofs.Common.{◌≡◌, ◌≢◌, ℕ, Bool, true, false, ◌||◌, nat_eq, List, [], ◌∷◌, ◌++◌, map, Option, Some, None, slice_get, refl, sym, ap, subst, ◌∙◌}
-use Rattle.hs_agent.proofs.Prelude.{AllByRecursion, option_map, option_map_or, option_and_then, option_to_list, slice_get-map, ne_eqb, all_back, Buffer, IsInOnePlace, AgentState, Taken, ChunkStanding, Pinned, is_among, Left, Mark, AreLeft, left_at, left_of, mark_of, standing_of, came_back, Placed, Pledged, place_of, leased, IsPledged, IsKept, HasPage, Kept, Holds, Point, point_of, Run, state_of, unoffered, waiting_chunks}
+use Rattle.std.proofs.Common.{◌≡◌, ◌≢◌, ℕ, Bool, false, ◌||◌, List, [], ◌∷◌, ◌++◌, map, Option, Some, None, slice_get, refl, sym, ap, subst, ◌∙◌}
+use Rattle.hs_agent.proofs.Prelude.{AllByRecursion, option_map, option_map_or, option_and_then, option_to_list, slice_get-map, ne_eqb, all_back, IsInOnePlace, Taken, ChunkStanding, Pinned, is_among, Left, Mark, AreLeft, left_at, left_of, mark_of, standing_of, Placed, place_of, IsKept, HasPage, Kept, Holds, point_of, Run, state_of, unoffered, waiting_chunks}
 use Rattle.hs_words.specs.Chunks.{Contents}
 use Rattle.hs_law_agent.specs.Standings.{Indexed}
 use Rattle.hs_law_agent.specs.Standings as standings
 use Rattle.hs_agent.specs.Offering.{Leads}
-use Rattle.hs_agent.specs.Firsts.{IsFirst, standing_at}
+use Rattle.hs_agent.specs.Firsts.{IsFirst}
 use Rattle.hs_agent.proofs.Offered.{in_hand}
 use Rattle.hs_agent.proofs.OwnPlaces.{apart_from_first}
 
@@ -28,20 +28,12 @@ noted taken place left e =
     by None f = cc
     by (Some chunk) f = ap Some (stood chunk.standing left f)
 
-outside : (place : ℕ) (others : List Placed) → AllByRecursion (λ (other : Placed). place ≢ place_of other) others → is_among (map place_of others) place ≡ false
+outside : {L : Type 0} → (place : ℕ) (others : List (Placed L)) → AllByRecursion (λ (other : Placed L). place ≢ place_of other) others → is_among (map place_of others) place ≡ false
 outside place [] apart = refl
 outside place (other ∷ others) apart =
     ap (λ b. b || is_among (map place_of others) place) (ne_eqb (place_of other) place (λ e. apart.0 (sym e))) ∙ outside place others apart.1
 
 module _ {L : Type 0} (kept : Kept L) (run : Run L) (h : Holds kept (point_of run)) (one : (place : ℕ) → IsInOnePlace (state_of run) place) (none : run.offered ≡ None) where
-  -- the chunks of the hand have their leases
-  pub pledged_hand : AllByRecursion (IsPledged kept.leases) kept.hand
-  pledged_hand = pledged kept.hand (all_back (IsKept kept.leases run.buffers) (waiting_chunks kept h.memory.pinned) kept.hand h.each)
-    where
-      pledged : (hand : List Placed) → AllByRecursion (IsKept kept.leases run.buffers) hand → AllByRecursion (IsPledged kept.leases) hand
-      pledged [] all = tt
-      pledged (placed ∷ hand) all = (record { lease = all.0.lease; is = all.0.kept }, pledged hand all.1)
-
   pub none_there : kept.hand ≡ [] → (state_of run).hand ≡ []
   none_there empty = sym (in_hand kept (point_of run) h one none) ∙ ap (map place_of) empty
 
@@ -49,17 +41,14 @@ module _ {L : Type 0} (kept : Kept L) (run : Run L) (h : Holds kept (point_of ru
     abbrev place : ℕ
     place = place_of leads.first
 
-    its : (P : Placed → Type 0) → AllByRecursion P kept.hand → P leads.first
+    its : (P : Placed L → Type 0) → AllByRecursion P kept.hand → P leads.first
     its P all = (subst (AllByRecursion P) leads.is all).0
 
-    kept_first : IsKept kept.leases run.buffers leads.first
-    kept_first = its (IsKept kept.leases run.buffers) (all_back (IsKept kept.leases run.buffers) (waiting_chunks kept h.memory.pinned) kept.hand h.each)
+    kept_first : IsKept run.buffers leads.first
+    kept_first = its (IsKept run.buffers) (all_back (IsKept run.buffers) (waiting_chunks kept h.memory.pinned) kept.hand h.each)
 
     as_it_came : slice_get run.buffers place ≡ Some (record { chunk = chunk; lease = lease })
-    as_it_came =
-        let same : Some (Some (record { lease = lease; number = leads.first.chunk.number })) ≡ Some (Some (record { lease = kept_first.lease; number = leads.first.chunk.number })) = sym leads.lease_is ∙ kept_first.kept in
-        let its_lease : lease ≡ kept_first.lease = ap (λ (o : Option (Option (Pledged L))). option_map_or (λ (p : Option (Pledged L)). option_map_or (λ (q : Pledged L). q.lease) p lease) o lease) same in
-        kept_first.came ∙ (λ i. Some (record { chunk = sym leads.chunk_is i; lease = sym its_lease i }))
+    as_it_came = kept_first ∙ (λ i. Some (record { chunk = sym leads.chunk_is i; lease = sym leads.lease_is i }))
 
     out : kept.offered ≡ None
     out = h.offered ∙ none
@@ -67,13 +56,13 @@ module _ {L : Type 0} (kept : Kept L) (run : Run L) (h : Holds kept (point_of ru
     are_left : AreLeft kept.standings (place ∷ map place_of leads.others) (left ∷ leads.lefts)
     are_left =
         subst (λ ls. AreLeft kept.standings (place ∷ map place_of leads.others) ls) (leads.left_is out)
-        (subst (λ (hand : List Placed). AreLeft kept.standings (map place_of hand) kept.lefts) leads.is
+        (subst (λ (hand : List (Placed L)). AreLeft kept.standings (map place_of hand) kept.lefts) leads.is
         (subst (λ o. AreLeft kept.standings (option_to_list o ++ map place_of kept.hand) kept.lefts) out h.lefts))
 
     apart : is_among (map place_of leads.others) place ≡ false
     apart =
         outside place leads.others
-        (all_back (λ (other : Placed). place ≢ place_of other) (waiting_chunks kept h.memory.pinned) leads.others (apart_from_first kept (point_of run) h one leads.first leads.others leads.is))
+        (all_back (λ (other : Placed L). place ≢ place_of other) (waiting_chunks kept h.memory.pinned) leads.others (apart_from_first kept (point_of run) h one leads.first leads.others leads.is))
 
     its_page : again ≡ false → chunk.page ≡ option_map (λ (taken : Taken). taken.sheet) (slice_get (state_of run).taken place)
     its_page never =
@@ -86,7 +75,7 @@ module _ {L : Type 0} (kept : Kept L) (run : Run L) (h : Holds kept (point_of ru
     pub is_first : IsFirst run chunk lease left again
     is_first = record {
       place = place;
-      first = ap (λ l. slice_get l 0) (sym (in_hand kept (point_of run) h one none)) ∙ ap (λ (hand : List Placed). slice_get (map place_of hand) 0) leads.is;
+      first = ap (λ l. slice_get l 0) (sym (in_hand kept (point_of run) h one none)) ∙ ap (λ (hand : List (Placed L)). slice_get (map place_of hand) 0) leads.is;
       buffer = as_it_came;
       stands = noted (state_of run).taken place left (ap (λ marks. left_at marks place) (sym h.standings) ∙ are_left.1 apart);
       answered = leads.again_is ∙ h.again;

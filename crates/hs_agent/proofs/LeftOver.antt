@@ -1,20 +1,19 @@
--- What is left at the end, with the leases that are kept, is what the model has left, each chunk as it came last.
-use Rattle.std.proofs.Common.{◌≡◌, cond, List, [], ◌∷◌, ◌++◌, map, Option, None, option_map, slice_get, refl, sym, ap, ◌∙◌}
-use Rattle.hs_agent.proofs.Prelude.{ChunkStanding, Pinned, Reported, Evicted, Abandoned, standing_by, mark_of, left_of, fate_of, page_standing, Result, Ok, Err, IfOk, filter_map, flat_map, AllByRecursion, cons_option, option_and_then, option_to_list, map-append, all_weaker, all_append, all_front, all_back, chunks_left, Buffer, PlainAgentBook, Step, Taken, indexed_places, Placed, Pledged, place_of, leased, lent, IsPledged, Kept, Holds, Point, IsKept, waiting_chunks}
+-- What is left at the end is what the model has left, each chunk as it came last.
+use Rattle.std.proofs.Common.{◌≡◌, cond, List, [], ◌∷◌, ◌++◌, map, None, slice_get, refl, sym, ap, ◌∙◌}
+use Rattle.hs_agent.proofs.Prelude.{ChunkStanding, Pinned, Reported, Evicted, Abandoned, standing_by, mark_of, left_of, fate_of, page_standing, Result, Ok, Err, IfOk, filter_map, flat_map, AllByRecursion, cons_option, option_to_list, map-append, all_append, all_front, all_back, chunks_left, Buffer, PlainAgentBook, Step, Taken, indexed_places, Placed, place_of, untagged, Kept, Holds, Point, IsKept, waiting_chunks}
 use Rattle.hs_law_agent.specs.Standings.{Indexed}
 use Rattle.hs_agent.specs.Leaving.{fate_by}
 use Rattle.hs_agent.specs.Points.{book_kept, buffers_left}
 use Rattle.hs_agent.proofs.OwnPlaces.{Traced, HasPlaces, have_places}
 
-module _ {L : Type 0} (leases : List (Option (Pledged L))) (buffers : List (Buffer L)) where
-  kept_lent : (placeds : List Placed) → AllByRecursion (IsKept leases buffers) placeds → filter_map (lent leases) placeds ≡ filter_map (slice_get buffers) (map place_of placeds)
-  kept_lent [] h = refl
-  kept_lent (placed ∷ placeds) h =
-      ap (λ slot. cons_option (option_and_then (λ s. option_map (λ (p : Pledged L). leased placed p.lease) s) slot) (filter_map (lent leases) placeds)) h.0.kept
-      ∙ ap (λ o. cons_option o (filter_map (lent leases) placeds)) (sym h.0.came)
-      ∙ ap (cons_option (slice_get buffers (place_of placed))) (kept_lent placeds h.1)
+module _ {L : Type 0} (buffers : List (Buffer L)) where
+  kept_untagged : (placeds : List (Placed L)) → AllByRecursion (IsKept buffers) placeds → map untagged placeds ≡ filter_map (slice_get buffers) (map place_of placeds)
+  kept_untagged [] h = refl
+  kept_untagged (placed ∷ placeds) h =
+      ap (λ l. untagged placed ∷ l) (kept_untagged placeds h.1)
+      ∙ ap (λ o. cons_option o (filter_map (slice_get buffers) (map place_of placeds))) (sym h.0)
 
-places-left : (taken : List Taken) (ts : List Traced) → AllByRecursion (HasPlaces taken) ts → map place_of (chunks_left ts) ≡ flat_map (indexed_places taken) (map (λ (t : Traced). t.trace) ts)
+places-left : {L : Type 0} → (taken : List Taken) (ts : List (Traced L)) → AllByRecursion (HasPlaces taken) ts → map place_of (chunks_left ts) ≡ flat_map (indexed_places taken) (map (λ (t : Traced L). t.trace) ts)
 places-left taken [] h = refl
 places-left taken (t ∷ ts) h =
     map-append place_of t.noted.chunks (chunks_left ts) ∙ (λ i. h.0 i ++ places-left taken ts h.1 i)
@@ -43,20 +42,15 @@ module _ {L : Type 0} (kept : Kept L) (point : Point L) (h : Holds kept point) w
   pub book_left : (log : List Step) → book_in log kept ≡ record (book_kept point.keeps point.node point.state) { log = log }
   book_left log i = record { node = record { 0 = h.node_is i }; log = log; standings = cond (h.keeps i) ((ap (map standing_by) h.standings ∙ standings-noted point.state.taken) i) []; claims = cond (h.keeps i) (h.claims i) []; sent = cond (h.keeps i) (h.pages i) [] }
 
-  each_left : AllByRecursion (IsKept kept.leases point.buffers) (chunks_left kept.index.touched ++ kept.hand)
+  each_left : AllByRecursion (IsKept point.buffers) (chunks_left kept.index.touched ++ kept.hand)
   each_left =
-      let P = IsKept kept.leases point.buffers in
+      let P = IsKept point.buffers in
       let wait = all_front P (waiting_chunks kept h.memory.pinned) kept.hand h.each in
       all_append P (chunks_left kept.index.touched) kept.hand (all_front P (chunks_left kept.index.touched) _ wait) (all_back P (waiting_chunks kept h.memory.pinned) kept.hand h.each)
 
-  pub pledged_left : AllByRecursion (IsPledged kept.leases) (chunks_left kept.index.touched ++ kept.hand)
-  pledged_left =
-      all_weaker (IsKept kept.leases point.buffers) (IsPledged kept.leases) (λ (placed : Placed) (k : IsKept kept.leases point.buffers placed). record { lease = k.lease; is = k.kept })
-      (chunks_left kept.index.touched ++ kept.hand) each_left
-
-  pub lent_left : point.offered ≡ None → filter_map (lent kept.leases) (chunks_left kept.index.touched ++ kept.hand) ≡ buffers_left point
-  lent_left none =
-      kept_lent kept.leases point.buffers (chunks_left kept.index.touched ++ kept.hand) each_left
+  pub buffers_are_left : point.offered ≡ None → map untagged (chunks_left kept.index.touched ++ kept.hand) ≡ buffers_left point
+  buffers_are_left none =
+      kept_untagged point.buffers (chunks_left kept.index.touched ++ kept.hand) each_left
       ∙ ap (filter_map (slice_get point.buffers))
       (map-append place_of (chunks_left kept.index.touched) kept.hand
       ∙ (λ i.

@@ -27,7 +27,6 @@ pub mod Offered
 pub mod Following
 pub mod Leading
 pub mod Unchanged
-pub mod Leasing
 pub mod LeftOver
 pub mod NextPins
 pub mod Reported

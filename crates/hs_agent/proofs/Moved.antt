@@ -40,7 +40,7 @@ module _ (old new : List Taken) (same : sheets new ≡ sheets old) where
   pages-same (place ∷ places) = ap (λ o. cons_option o (filter_map (bytes_at new) places)) (bytes-same place) ∙ ap (cons_option (bytes_at old place)) (pages-same places)
 
   -- a chunk with its page has it still
-  pub has_page-same : (settings : PlainSettings) (placed : Placed) → HasPage settings old placed → HasPage settings new placed
+  pub has_page-same : {L : Type 0} → (settings : PlainSettings) (placed : Placed L) → HasPage settings old placed → HasPage settings new placed
   has_page-same settings placed h = by (slice_get new (place_of placed)) refl (sheet_at (place_of placed) ∙ ap (option_map (λ (t : Taken). t.sheet)) h.at)
     where
       by : (found : Option Taken) → slice_get new (place_of placed) ≡ found → option_map (λ (t : Taken). t.sheet) found ≡ Some h.chunk.sheet → HasPage settings new placed

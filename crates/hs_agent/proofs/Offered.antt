@@ -1,13 +1,13 @@
 -- What is kept when the first of the hand was offered, and when the pool answered, is what the model says then.
 use Rattle.std.proofs.Common.{◌≡◌, ◌≢◌, ℕ, ◌+◌, ◌<◌, suc, zero, eq-eqb, Bool, true, false, List, [], ◌∷◌, ◌++◌, length, map, Option, Some, None, slice_get, slice_set, refl, sym, ap, subst, ◌∙◌, arith}
-use Rattle.hs_agent.proofs.Prelude.{AllByRecursion, option_map_or, option_and_then, option_to_list, length-map, slice_get_within, Told, Step, Result, Ok, Err, IfOk, OnOk, IfSome, all_weaker, all_append, all_front, all_back, all_and, one_if, Buffer, buffer_of, buffer_in, Share, AgentState, Taken, count_of, IsInOnePlace, Given, note, step_of_answer, give_back, after_gave, Placed, Pledged, place_of, placed_at, leased, Kept, Holds, Point, IsKept, with_state, waiting_chunks, HasPage, AreLeft, Left, Mark, behind, unoffered, back_at, answered}
+use Rattle.hs_agent.proofs.Prelude.{AllByRecursion, option_map_or, option_and_then, option_to_list, length-map, slice_get_within, Told, Step, Result, Ok, Err, IfOk, OnOk, IfSome, all_weaker, all_append, all_front, all_back, all_and, one_if, Buffer, buffer_of, buffer_in, Share, AgentState, Taken, count_of, IsInOnePlace, Given, note, step_of_answer, give_back, after_gave, Placed, place_of, placed_at, Kept, Holds, Point, IsKept, with_state, waiting_chunks, HasPage, AreLeft, Left, Mark, behind, unoffered, back_at, answered}
 use Rattle.std.proofs.lemmas.List.{length-set}
 use Rattle.std.specs.Prelude.{IfNone}
 use Rattle.hs_words.specs.declared.token.Held.{Held}
 use Rattle.hs_law_agent.specs.State.{GivenPlace}
 use Rattle.hs_agent.specs.Offering.{Offers, gone}
 use Rattle.hs_agent.proofs.Parted.{unoffered-out}
-use Rattle.hs_agent.proofs.OwnPlaces.{apart_from_offered, apart_from_first}
+use Rattle.hs_agent.proofs.OwnPlaces.{apart_from_offered}
 
 -- ---- a write in a list
 
@@ -30,15 +30,9 @@ abbrev pub with_rest : List Told → List GivenPlace → List Step → List Shar
 with_rest said given log shares state = record state { said = said; given = given; log = log; shares = shares }
 
 module _ {L : Type 0} where
-  -- a lease that is kept for another chunk
-  kept-other : (leases : List (Option (Pledged L))) (buffers : List (Buffer L)) (place : ℕ) (slot : Option (Pledged L)) (placed : Placed)
-      → IsKept leases buffers placed × (place ≢ place_of placed) → IsKept (slice_set leases place slot) buffers placed
-  kept-other leases buffers place slot placed h = record { lease = h.0.lease; kept = get-other leases place (place_of placed) slot h.1 ∙ h.0.kept; came = h.0.came }
-
-  kept-instead : (leases : List (Option (Pledged L))) (buffers : List (Buffer L)) (place : ℕ) (slot : Option (Pledged L)) (buffer : Buffer L) (placed : Placed)
-      → IsKept leases buffers placed × (place ≢ place_of placed) → IsKept (slice_set leases place slot) (slice_set buffers place buffer) placed
-  kept-instead leases buffers place slot buffer placed h =
-      record { lease = h.0.lease; kept = get-other leases place (place_of placed) slot h.1 ∙ h.0.kept; came = get-other buffers place (place_of placed) buffer h.1 ∙ h.0.came }
+  -- another chunk came back
+  kept-instead : (buffers : List (Buffer L)) (place : ℕ) (buffer : Buffer L) (placed : Placed L) → IsKept buffers placed × (place ≢ place_of placed) → IsKept (slice_set buffers place buffer) placed
+  kept-instead buffers place buffer placed h = get-other buffers place (place_of placed) buffer h.1 ∙ h.0
 
   -- what is kept does not speak of them
   pub holds-rest : (kept : Kept L) (point : Point L) (said : List Told) (given : List GivenPlace) (log : List Step) (shares : List Share) → Holds kept point
@@ -75,7 +69,6 @@ module _ {L : Type 0} where
     standings = h.standings;
     claims = h.claims;
     pages = h.pages;
-    leases = h.leases;
     buffers = h.buffers;
     each = h.each;
     paged = h.paged;
@@ -84,14 +77,14 @@ module _ {L : Type 0} where
     reported = h.reported;
   }
 
-  -- the same with another hand, other leases and buffers, and another chunk offered
-  rehanded : (kept : Kept L) (point : Point L) (h : Holds kept point) (hand : List Placed) (leases : List (Option (Pledged L))) (offered : Option ℕ) (again : Bool) (lefts : List Left) (buffers : List (Buffer L)) (places : List ℕ)
-      → option_to_list offered ++ map place_of hand ≡ places → length leases ≡ length kept.leases → length buffers ≡ length point.buffers
-      → AllByRecursion (IsKept leases buffers) (waiting_chunks kept h.memory.pinned ++ hand)
+  -- the same with another hand, other buffers, and another chunk offered
+  rehanded : (kept : Kept L) (point : Point L) (h : Holds kept point) (hand : List (Placed L)) (offered : Option ℕ) (again : Bool) (lefts : List Left) (buffers : List (Buffer L)) (places : List ℕ)
+      → option_to_list offered ++ map place_of hand ≡ places → length buffers ≡ length point.buffers
+      → AllByRecursion (IsKept buffers) (waiting_chunks kept h.memory.pinned ++ hand)
       → AreLeft kept.standings (option_to_list offered ++ map place_of hand) lefts
       → AllByRecursion (HasPage point.settings point.state.taken) (unoffered offered again hand)
-      → Holds (record kept { hand = hand; leases = leases; offered = offered; again = again; lefts = lefts }) (record point { state = record point.state { hand = places }; buffers = buffers; offered = offered; again = again })
-  rehanded kept point h hand leases offered again lefts buffers places is many came each left untouched = record {
+      → Holds (record kept { hand = hand; offered = offered; again = again; lefts = lefts }) (record point { state = record point.state { hand = places }; buffers = buffers; offered = offered; again = again })
+  rehanded kept point h hand offered again lefts buffers places is came each left untouched = record {
     node_is = h.node_is;
     memory = h.memory;
     remembers = h.remembers;
@@ -123,7 +116,6 @@ module _ {L : Type 0} where
     standings = h.standings;
     claims = h.claims;
     pages = h.pages;
-    leases = many ∙ h.leases;
     buffers = came ∙ h.buffers;
     each = each;
     paged = h.paged;
@@ -143,52 +135,42 @@ module _ {L : Type 0} where
 
     -- the hand is empty
     pub none_first : kept.hand ≡ [] → first_of ≡ None
-    none_first e = ap (λ l. slice_get l 0) (sym in_hand) ∙ ap (λ (l : List Placed). slice_get (map place_of l) 0) e
+    none_first e = ap (λ l. slice_get l 0) (sym in_hand) ∙ ap (λ (l : List (Placed L)). slice_get (map place_of l) 0) e
 
     module _ (buffer : Buffer L) (new : Kept L) (offers : Offers kept buffer new) where
       is_first : first_of ≡ Some (place_of offers.first)
-      is_first = ap (λ l. slice_get l 0) (sym in_hand) ∙ ap (λ (l : List Placed). slice_get (map place_of l) 0) offers.was
+      is_first = ap (λ l. slice_get l 0) (sym in_hand) ∙ ap (λ (l : List (Placed L)). slice_get (map place_of l) 0) offers.was
 
-      first_kept : IsKept kept.leases point.buffers offers.first
-      first_kept = (all_back (IsKept kept.leases point.buffers) (waiting_chunks kept h.memory.pinned) (offers.first ∷ new.hand) (subst (λ hand. AllByRecursion (IsKept kept.leases point.buffers) (waiting_chunks kept h.memory.pinned ++ hand)) offers.was h.each)).0
+      first_kept : IsKept point.buffers offers.first
+      first_kept = (all_back (IsKept point.buffers) (waiting_chunks kept h.memory.pinned) (offers.first ∷ new.hand) (subst (λ hand. AllByRecursion (IsKept point.buffers) (waiting_chunks kept h.memory.pinned ++ hand)) offers.was h.each)).0
 
       -- it is handed out as it came last
       pub as_it_came : Some buffer ≡ option_and_then (λ place. slice_get point.buffers place) first_of
       as_it_came =
-          let same : Some (Some (record { lease = buffer.lease; number = offers.first.chunk.number })) ≡ Some (Some (record { lease = first_kept.lease; number = offers.first.chunk.number })) = sym offers.handed.was ∙ first_kept.kept in
-          let lease : buffer.lease ≡ first_kept.lease = ap (λ (o : Option (Option (Pledged L))). option_map_or (λ (p : Option (Pledged L)). option_map_or (λ (q : Pledged L). q.lease) p buffer.lease) o buffer.lease) same in
-          let is : buffer ≡ leased offers.first first_kept.lease = λ i. record { chunk = offers.handed.chunk i; lease = lease i } in
-          ap Some is ∙ sym first_kept.came ∙ sym (ap (option_and_then (λ place. slice_get point.buffers place)) is_first)
+          ap Some offers.handed ∙ sym first_kept ∙ sym (ap (option_and_then (λ place. slice_get point.buffers place)) is_first)
 
       pub holds-offered : Holds new (record point { offered = first_of })
       holds-offered =
           let p = place_of offers.first in
-          let leases : new.leases ≡ slice_set kept.leases p None = offers.handed.now in
-          let wait : List Placed = waiting_chunks kept h.memory.pinned in
-          let each : AllByRecursion (IsKept kept.leases point.buffers) (wait ++ offers.first ∷ new.hand) = subst (λ hand. AllByRecursion (IsKept kept.leases point.buffers) (wait ++ hand)) offers.was h.each in
-          let others : AllByRecursion (IsKept kept.leases point.buffers) (wait ++ new.hand) =
-          all_append (IsKept kept.leases point.buffers) wait new.hand (all_front (IsKept kept.leases point.buffers) wait (offers.first ∷ new.hand) each)
-          (all_back (IsKept kept.leases point.buffers) wait (offers.first ∷ new.hand) each).1 in
-          let apart = apart_from_first kept point h one offers.first new.hand offers.was in
-          let still : AllByRecursion (IsKept (slice_set kept.leases p None) point.buffers) (wait ++ new.hand) =
-          all_weaker (λ (placed : Placed). IsKept kept.leases point.buffers placed × (p ≢ place_of placed)) (IsKept (slice_set kept.leases p None) point.buffers)
-          (kept-other kept.leases point.buffers p None) (wait ++ new.hand)
-          (all_and (IsKept kept.leases point.buffers) (λ (placed : Placed). p ≢ place_of placed) (wait ++ new.hand) others apart) in
+          let wait : List (Placed L) = waiting_chunks kept h.memory.pinned in
+          let each : AllByRecursion (IsKept point.buffers) (wait ++ offers.first ∷ new.hand) = subst (λ hand. AllByRecursion (IsKept point.buffers) (wait ++ hand)) offers.was h.each in
+          let others : AllByRecursion (IsKept point.buffers) (wait ++ new.hand) =
+          all_append (IsKept point.buffers) wait new.hand (all_front (IsKept point.buffers) wait (offers.first ∷ new.hand) each)
+          (all_back (IsKept point.buffers) wait (offers.first ∷ new.hand) each).1 in
           let places : option_to_list new.offered ++ map place_of new.hand ≡ option_to_list kept.offered ++ map place_of kept.hand =
           ap (λ o. option_to_list o ++ map place_of new.hand) offers.offered ∙ sym (ap (map place_of) offers.was) ∙ sym (ap (λ o. option_to_list o ++ map place_of kept.hand) (h.offered ∙ none)) in
           let never : AllByRecursion (HasPage point.settings point.state.taken) new.hand =
           unoffered-out (HasPage point.settings point.state.taken) p kept.again offers.first new.hand
-          (subst (λ (hand : List Placed). AllByRecursion (HasPage point.settings point.state.taken) (unoffered None kept.again hand)) offers.was
+          (subst (λ (hand : List (Placed L)). AllByRecursion (HasPage point.settings point.state.taken) (unoffered None kept.again hand)) offers.was
           (subst (λ o. AllByRecursion (HasPage point.settings point.state.taken) (unoffered o kept.again kept.hand)) (h.offered ∙ none) h.untouched)) in
-          let made : Holds (record kept { hand = new.hand; leases = new.leases; offered = new.offered; again = kept.again; lefts = kept.lefts }) (record point { offered = new.offered; again = kept.again }) =
-          rehanded kept point h new.hand new.leases new.offered kept.again kept.lefts point.buffers point.state.hand
+          let made : Holds (record kept { hand = new.hand; offered = new.offered; again = kept.again; lefts = kept.lefts }) (record point { offered = new.offered; again = kept.again }) =
+          rehanded kept point h new.hand new.offered kept.again kept.lefts point.buffers point.state.hand
           (ap (λ o. option_to_list o ++ map place_of new.hand) offers.offered ∙ sym (ap (map place_of) offers.was) ∙ in_hand)
-          (ap length leases ∙ length-set kept.leases p None) refl
-          (subst (λ ls. AllByRecursion (IsKept ls point.buffers) (wait ++ new.hand)) (sym leases) still)
+          refl others
           (subst (λ ps. AreLeft kept.standings ps kept.lefts) (sym places) h.lefts)
           (subst (λ o. AllByRecursion (HasPage point.settings point.state.taken) (unoffered o kept.again new.hand)) (sym offers.offered) never) in
           subst (λ o. Holds new (record point { offered = o })) (offers.offered ∙ sym is_first)
-          (subst (λ k. Holds k (record point { offered = new.offered })) (sym offers.others) (subst (λ a. Holds (record kept { hand = new.hand; leases = new.leases; offered = new.offered }) (record point { offered = new.offered; again = a })) h.again made))
+          (subst (λ k. Holds k (record point { offered = new.offered })) (sym offers.others) (subst (λ a. Holds (record kept { hand = new.hand; offered = new.offered }) (record point { offered = new.offered; again = a })) h.again made))
 
   -- ---- an answer
 
@@ -226,7 +208,7 @@ module _ {L : Type 0} where
     pub holds-given : (stamp : ℕ) → Holds (answered None kept) (after_given stamp)
     holds-given stamp =
         let made : Holds (gone kept) (record point { state = record point.state { hand = map place_of kept.hand }; offered = None; again = false }) =
-        rehanded kept point h kept.hand kept.leases None false (behind kept.lefts) point.buffers (map place_of kept.hand) refl refl refl h.each
+        rehanded kept point h kept.hand None false (behind kept.lefts) point.buffers (map place_of kept.hand) refl refl h.each
         (others_left kept.standings place (map place_of kept.hand) kept.lefts behind_it) never in
         subst (λ hand. Holds (gone kept) (record point { state = note (step_of_answer (Given stamp)) (give_back stamp hand point.state); offered = None; again = false })) in_front
         (holds-rest (gone kept) (record point { state = record point.state { hand = map place_of kept.hand }; offered = None; again = false }) point.state.said
@@ -236,23 +218,18 @@ module _ {L : Type 0} where
     pub holds-back : (buffer : Buffer L) (step : Step)
         → Holds (answered (Some buffer) kept) (record point { state = note step point.state; buffers = slice_set point.buffers place buffer; offered = None; again = true })
     holds-back buffer step =
-        let wait : List Placed = waiting_chunks kept h.memory.pinned in
-        let back : Placed = placed_at place buffer in
-        let slot : Option (Pledged L) = Some (record { lease = buffer.lease; number = buffer.chunk.number }) in
-        let P = λ (placed : Placed). IsKept kept.leases point.buffers placed × (place ≢ place_of placed) in
-        let Q = IsKept (slice_set kept.leases place slot) (slice_set point.buffers place buffer) in
+        let wait : List (Placed L) = waiting_chunks kept h.memory.pinned in
+        let back : Placed L = placed_at place buffer in
+        let P = λ (placed : Placed L). IsKept point.buffers placed × (place ≢ place_of placed) in
+        let Q = IsKept (slice_set point.buffers place buffer) in
         let apart = apart_from_offered kept point h one place out in
-        let both : AllByRecursion P (wait ++ kept.hand) = all_and (IsKept kept.leases point.buffers) (λ (placed : Placed). place ≢ place_of placed) (wait ++ kept.hand) h.each apart in
-        let still : AllByRecursion Q (wait ++ kept.hand) = all_weaker P Q (kept-instead kept.leases point.buffers place slot buffer) (wait ++ kept.hand) both in
-        let here : Q back = record {
-          lease = buffer.lease;
-          kept = get-in kept.leases place slot (subst (λ n. place < n) (sym h.leases) below);
-          came = get-in point.buffers place buffer (subst (λ n. place < n) (sym h.buffers) below);
-        } in
+        let both : AllByRecursion P (wait ++ kept.hand) = all_and (IsKept point.buffers) (λ (placed : Placed L). place ≢ place_of placed) (wait ++ kept.hand) h.each apart in
+        let still : AllByRecursion Q (wait ++ kept.hand) = all_weaker P Q (kept-instead point.buffers place buffer) (wait ++ kept.hand) both in
+        let here : Q back = get-in point.buffers place buffer (subst (λ n. place < n) (sym h.buffers) below) in
         let each : AllByRecursion Q (wait ++ back ∷ kept.hand) = all_append Q wait (back ∷ kept.hand) (all_front Q wait kept.hand still) (here, all_back Q wait kept.hand still) in
         let made : Holds (back_at kept place buffer) (record point { state = record point.state { hand = place ∷ map place_of kept.hand }; buffers = slice_set point.buffers place buffer; offered = None; again = true }) =
-        rehanded kept point h (back ∷ kept.hand) (slice_set kept.leases place slot) None true kept.lefts (slice_set point.buffers place buffer) (place ∷ map place_of kept.hand) refl
-        (length-set kept.leases place slot) (length-set point.buffers place buffer) each behind_it never in
+        rehanded kept point h (back ∷ kept.hand) None true kept.lefts (slice_set point.buffers place buffer) (place ∷ map place_of kept.hand) refl
+        (length-set point.buffers place buffer) each behind_it never in
         let noted : Holds (back_at kept place buffer) (record point { state = note step (record point.state { hand = place ∷ map place_of kept.hand }); buffers = slice_set point.buffers place buffer; offered = None; again = true }) =
         holds-rest (back_at kept place buffer) _ point.state.said point.state.given (point.state.log ++ step ∷ []) point.state.shares made in
         subst (λ o. Holds (option_map_or (λ p. back_at kept p buffer) o kept) (record point { state = note step point.state; buffers = slice_set point.buffers place buffer; offered = None; again = true })) (sym (h.offered ∙ out))

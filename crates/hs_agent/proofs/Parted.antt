@@ -1,6 +1,6 @@
 -- That of chunks that leave one after another what is noted last of each is why it left; and which of them were never offered.
-use Rattle.std.proofs.Common.{◌≡◌, ◌≢◌, ℕ, zero, suc, ◌+◌, ◌<◌, Bool, true, false, ◌||◌, nat_eq, eq-eqb, List, [], ◌∷◌, ◌++◌, length, map, Option, Some, None, slice_get, slice_set, refl, sym, ap, subst, ◌∙◌, arith, true≢false, append-nil}
-use Rattle.hs_agent.proofs.Prelude.{AllByRecursion, option_map_or, option_and_then, option_to_list, append_assoc, map-append, map-map, length-append, all_append, all_weaker, all_map, all_unmap, Pin, is_among, ArrivalPlace, Placed, place_of, Left, Mark, AreLeft, left_at, with_left, Going, going_buffer, going_left, behind, unoffered}
+use Rattle.std.proofs.Common.{◌≡◌, ◌≢◌, ℕ, zero, suc, ◌<◌, Bool, true, false, ◌||◌, nat_eq, eq-eqb, List, [], ◌∷◌, ◌++◌, length, map, Option, Some, None, slice_get, slice_set, refl, sym, ap, subst, ◌∙◌, arith, true≢false, append-nil}
+use Rattle.hs_agent.proofs.Prelude.{AllByRecursion, option_map_or, option_and_then, option_to_list, append_assoc, map-append, map-map, length-append, all_append, all_weaker, Pin, is_among, Tagged, Placed, place_of, Left, Mark, AreLeft, left_at, with_left, Going, going_buffer, going_left, behind, unoffered}
 use Rattle.std.proofs.lemmas.List.{length-set}
 use Rattle.hs_lists.proofs.Places.{get_front_same}
 use Rattle.hs_agent.specs.Trying.{lefts_noted}
@@ -92,13 +92,13 @@ left-more marks mark (p ∷ places) (l ∷ lefts) h = (
 
 -- ---- chunks that leave one after another
 
-abbrev pub GoWithin : ℕ → List Going → Type 0
-GoWithin n goings = AllByRecursion (λ (going : Going). place_of going.buffer < n) goings
+abbrev pub GoWithin : {L : Type 0} → ℕ → List (Going L) → Type 0
+GoWithin {L} n goings = AllByRecursion (λ (going : Going L). place_of going.buffer < n) goings
 
-abbrev pub going_places : List Going → List ℕ
-going_places goings = map (λ (going : Going). place_of going.buffer) goings
+abbrev pub going_places : {L : Type 0} → List (Going L) → List ℕ
+going_places {L} goings = map (λ (going : Going L). place_of going.buffer) goings
 
-left-all : (goings : List Going) (marks : List Mark) (places : List ℕ) (lefts : List Left) → GoWithin (length marks) goings → AreLeft marks places lefts
+left-all : {L : Type 0} → (goings : List (Going L)) (marks : List Mark) (places : List ℕ) (lefts : List Left) → GoWithin (length marks) goings → AreLeft marks places lefts
     → AreLeft (lefts_noted marks goings) (places ++ going_places goings) (lefts ++ map going_left goings)
 left-all [] marks places lefts within h = subst (λ ps. AreLeft marks ps (lefts ++ [])) (sym (append-nil places)) (subst (AreLeft marks places) (sym (append-nil lefts)) h)
 left-all (g ∷ goings) marks places lefts within h =
@@ -110,7 +110,7 @@ left-all (g ∷ goings) marks places lefts within h =
     (subst (λ ls. AreLeft (lefts_noted now goings) ((places ++ place_of g.buffer ∷ []) ++ going_places goings) ls) (append_assoc lefts (g.left ∷ []) (map going_left goings)) all)
 
 -- they stand last in the hand
-pub hand-left : (marks : List Mark) (out : Option ℕ) (hand : List Placed) (lefts : List Left) (goings : List Going) → GoWithin (length marks) goings
+pub hand-left : {L : Type 0} → (marks : List Mark) (out : Option ℕ) (hand : List (Placed L)) (lefts : List Left) (goings : List (Going L)) → GoWithin (length marks) goings
     → AreLeft marks (option_to_list out ++ map place_of hand) lefts
     → AreLeft (lefts_noted marks goings) (option_to_list out ++ map place_of (hand ++ map going_buffer goings)) (lefts ++ map going_left goings)
 hand-left marks out hand lefts goings within h =
@@ -120,10 +120,10 @@ hand-left marks out hand lefts goings within h =
     subst (λ ps. AreLeft (lefts_noted marks goings) ps (lefts ++ map going_left goings)) places (left-all goings marks (option_to_list out ++ map place_of hand) lefts within h)
 
 -- pins that go
-pub pins-within : (n : ℕ) (f : Pin ArrivalPlace → Going) → ((pin : Pin ArrivalPlace) → going_buffer (f pin) ≡ pin.chunk) → (pins : List (Pin ArrivalPlace))
-    → AllByRecursion (λ (placed : Placed). place_of placed < n) (map (λ (pin : Pin ArrivalPlace). pin.chunk) pins) → GoWithin n (map f pins)
+pub pins-within : {L : Type 0} → (n : ℕ) (f : Pin (Tagged L) → Going L) → ((pin : Pin (Tagged L)) → going_buffer (f pin) ≡ pin.chunk) → (pins : List (Pin (Tagged L)))
+    → AllByRecursion (λ (placed : Placed L). place_of placed < n) (map (λ (pin : Pin (Tagged L)). pin.chunk) pins) → GoWithin n (map f pins)
 pins-within n f same [] h = tt
-pins-within n f same (pin ∷ pins) h = (subst (λ (placed : Placed). place_of placed < n) (sym (same pin)) h.0, pins-within n f same pins h.1)
+pins-within {L} n f same (pin ∷ pins) h = (subst (λ (placed : Placed L). place_of placed < n) (sym (same pin)) h.0, pins-within n f same pins h.1)
 
 -- ---- what was never offered
 

@@ -5,8 +5,8 @@ pub use Rattle.hs_agent.specs.KeptLayout.{kept_in}
 pub use Rattle.hs_agent.specs.Leaving.{abandoned_for, AreLeft, back_after, came_back, evicted_of, left_at, left_of, mark_of, reported_for, standing_by, standing_of, with_left}
 pub use Rattle.hs_agent.specs.LettingGo.{abandoned_going, evicted_going, let_go, let_go_all, page_in, reported, reported_going}
 pub use Rattle.hs_agent.specs.Offering.{answered, back_at}
-pub use Rattle.hs_agent.specs.Parting.{Going, going_buffer, going_left, going_of, hand_of}
-pub use Rattle.hs_agent.specs.Placing.{HandsOut, HaveOwnPlaces, IsPledged, leased, lent, place_of, Placed, placed_at, Pledged, pledged_of, pledges_in}
+pub use Rattle.hs_agent.specs.Parting.{Going, going_buffer, going_left, going_of, hand_of, sent_pin}
+pub use Rattle.hs_agent.specs.Placing.{place_of, Placed, placed_at, untagged}
 pub use Rattle.hs_agent.specs.Points.{chunk_taken, claimed_for, crumb_taken, sheet_in}
 pub use Rattle.hs_agent.specs.Reporting.{costs_of, id_of, SendsNext}
 pub use Rattle.hs_agent.specs.Runs.{after_offer, Follows, input_of, IsTakable, point_of, Run, StandsAt, state_of, taken_in}
@@ -15,6 +15,7 @@ pub use Rattle.hs_agent.specs.declared.hand.Left.{Left}
 pub use Rattle.hs_agent.specs.declared.hand.Mark.{Mark}
 pub use Rattle.hs_agent.specs.declared.hand.Out.{Out}
 pub use Rattle.hs_agent.specs.declared.placed.ArrivalPlace.{ArrivalPlace}
+pub use Rattle.hs_agent.specs.declared.placed.Tagged.{Tagged}
 pub use Rattle.hs_base.specs.Ids.{same_trace}
 pub use Rattle.hs_base.specs.NodeSetLaws.{has-no_nodes, has-with_node}
 pub use Rattle.hs_base.specs.NodeSets.{has_node, no_nodes, with_node}

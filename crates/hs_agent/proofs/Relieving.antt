@@ -1,6 +1,6 @@
 -- What is kept after an abandonment is what the model says then.
 use Rattle.std.proofs.Common.{◌≡◌, ℕ, ◌<◌, Bool, true, false, cond, not, List, [], ◌∷◌, ◌++◌, length, map, fold, refl, sym, ap, subst, ◌∙◌, arith, append-nil, Some}
-use Rattle.hs_agent.proofs.Prelude.{AreLeft, unoffered, slice_get_within, length-map, going_buffer, going_left, filter_map, AllByRecursion, option_to_list, append_assoc, map-append, map-map, all_weaker, all_append, all_front, all_back, Group, Mark, Pin, pins_for, without_group, is_for, leaving, drops, relieved, Pinning, Remembers, staying_few, chunks_left, AgentState, mark_of, claim_note, bytes_at, has_crumb, ArrivalPlace, Placed, place_of, Kept, Holds, HasPage, IsKept, IsIndexed, RemembersAs, Point, with_state, pinned_place, waiting_chunks, all_held, Going, with_left, let_go, let_go_all, abandoned_going}
+use Rattle.hs_agent.proofs.Prelude.{AreLeft, unoffered, slice_get_within, length-map, going_buffer, going_left, filter_map, AllByRecursion, option_to_list, append_assoc, map-append, map-map, all_weaker, all_append, all_front, all_back, Group, Mark, Pin, pins_for, without_group, is_for, leaving, drops, relieved, Pinning, Remembers, staying_few, chunks_left, AgentState, mark_of, claim_note, bytes_at, has_crumb, Tagged, Placed, place_of, Kept, Holds, HasPage, IsKept, IsIndexed, RemembersAs, Point, with_state, pinned_place, waiting_chunks, all_held, Going, with_left, let_go, let_go_all, abandoned_going}
 use Rattle.hs_pins.specs.Abandoning.{staying, going}
 use Rattle.hs_law_agent.specs.Abandoning as model
 use Rattle.hs_agent.proofs.GivingWay.{HasAbandoned, same_go, note_abandoned}
@@ -9,11 +9,11 @@ use Rattle.hs_agent.proofs.Moved.{length-same, pages-same, has_page-same}
 
 -- ---- what is let go, all at once
 
-abbrev note_going : List Mark → Going → List Mark
+abbrev note_going : {L : Type 0} → List Mark → Going L → List Mark
 note_going standings g = with_left (place_of g.buffer) (Some g.left) standings
 
 -- the fates are noted, the chunks stand last in the hand, and nothing else changes
-pub let_go_all-is : {L : Type 0} (kept : Kept L) (goings : List Going) → let_go_all kept goings ≡ record kept { standings = fold note_going kept.standings goings; hand = kept.hand ++ map going_buffer goings; lefts = kept.lefts ++ map going_left goings }
+pub let_go_all-is : {L : Type 0} (kept : Kept L) (goings : List (Going L)) → let_go_all kept goings ≡ record kept { standings = fold note_going kept.standings goings; hand = kept.hand ++ map going_buffer goings; lefts = kept.lefts ++ map going_left goings }
 let_go_all-is kept [] = λ i. record kept { hand = sym (append-nil kept.hand) i; lefts = sym (append-nil kept.lefts) i }
 let_go_all-is kept (g ∷ goings) =
     let_go_all-is (let_go kept g) goings
@@ -23,7 +23,7 @@ let_go_all-is kept (g ∷ goings) =
       lefts = append_assoc kept.lefts (g.left ∷ []) (map going_left goings) i;
     })
 
-pub fold-goings : {A : Type 0} (f : A → Going) (standings : List Mark) (items : List A) → fold note_going standings (map f items) ≡ fold (λ ss item. note_going ss (f item)) standings items
+pub fold-goings : {L : Type 0} → {A : Type 0} (f : A → Going L) (standings : List Mark) (items : List A) → fold note_going standings (map f items) ≡ fold (λ ss item. note_going ss (f item)) standings items
 fold-goings f standings [] = refl
 fold-goings f standings (item ∷ items) = fold-goings f (note_going standings (f item)) items
 
@@ -34,11 +34,11 @@ module _ {A : Type 0} {P Q : A → Type 0} (f : (x : A) → P x → Q x) where
   all-same [] h = tt
   all-same (x ∷ xs) h = (f x h.0, all-same xs h.1)
 
-abbrev pub chunk_of : Pin ArrivalPlace → Placed
+abbrev pub chunk_of : {L : Type 0} → Pin (Tagged L) → Placed L
 chunk_of pin = pin.chunk
 
-module _ (P : Placed → Type 0) where
-  all-without : (group : Group) (pinned : List (Pin ArrivalPlace)) → AllByRecursion P (map chunk_of pinned) → AllByRecursion P (map chunk_of (without_group group pinned))
+module _ {L : Type 0} (P : Placed L → Type 0) where
+  all-without : (group : Group) (pinned : List (Pin (Tagged L))) → AllByRecursion P (map chunk_of pinned) → AllByRecursion P (map chunk_of (without_group group pinned))
   all-without group [] h = tt
   all-without group (pin ∷ pinned) h = by (is_for group pin) (all-without group pinned h.1)
     where
@@ -46,7 +46,7 @@ module _ (P : Placed → Type 0) where
       by true rest = rest
       by false rest = (h.0, rest)
 
-  all-for : (group : Group) (pinned : List (Pin ArrivalPlace)) → AllByRecursion P (map chunk_of pinned) → AllByRecursion P (map chunk_of (pins_for group pinned))
+  all-for : (group : Group) (pinned : List (Pin (Tagged L))) → AllByRecursion P (map chunk_of pinned) → AllByRecursion P (map chunk_of (pins_for group pinned))
   all-for group [] h = tt
   all-for group (pin ∷ pinned) h = by (is_for group pin) (all-for group pinned h.1)
     where
@@ -54,11 +54,11 @@ module _ (P : Placed → Type 0) where
       by true rest = (h.0, rest)
       by false rest = rest
 
-  all-staying : (groups : List Group) (pinned : List (Pin ArrivalPlace)) → AllByRecursion P (map chunk_of pinned) → AllByRecursion P (map chunk_of (staying groups pinned))
+  all-staying : (groups : List Group) (pinned : List (Pin (Tagged L))) → AllByRecursion P (map chunk_of pinned) → AllByRecursion P (map chunk_of (staying groups pinned))
   all-staying [] pinned h = h
   all-staying (group ∷ groups) pinned h = all-staying groups (without_group group pinned) (all-without group pinned h)
 
-  all-going : (groups : List Group) (pinned : List (Pin ArrivalPlace)) → AllByRecursion P (map chunk_of pinned) → AllByRecursion P (map chunk_of (going groups pinned))
+  all-going : (groups : List Group) (pinned : List (Pin (Tagged L))) → AllByRecursion P (map chunk_of pinned) → AllByRecursion P (map chunk_of (going groups pinned))
   all-going [] pinned h = tt
   all-going (group ∷ groups) pinned h =
       subst (AllByRecursion P) (sym (map-append chunk_of (pins_for group pinned) (going groups (without_group group pinned))))
@@ -66,8 +66,8 @@ module _ (P : Placed → Type 0) where
 
 -- ---- an abandonment
 
-module _ {L : Type 0} (kept : Kept L) (pins : Pinning ArrivalPlace) (point : Point L) (h : Holds kept point) (remembers : Remembers pins (relieved h.memory)) where
-  abbrev pinned : List (Pin ArrivalPlace)
+module _ {L : Type 0} (kept : Kept L) (pins : Pinning (Tagged L)) (point : Point L) (h : Holds kept point) (remembers : Remembers pins (relieved h.memory)) where
+  abbrev pinned : List (Pin (Tagged L))
   pinned = h.memory.pinned
 
   abbrev groups : List Group
@@ -142,13 +142,13 @@ module _ {L : Type 0} (kept : Kept L) (pins : Pinning ArrivalPlace) (point : Poi
       ∙ ap (λ l. l ++ map pinned_place (going groups pinned)) h.hand
       ∙ sym gone.hand
 
-  abbrev index_chunks : List Placed
+  abbrev index_chunks : List (Placed L)
   index_chunks = chunks_left kept.index.touched
 
   -- each lease is kept as before
-  each_kept : AllByRecursion (IsKept kept.leases point.buffers) (all_held left (staying groups pinned))
+  each_kept : AllByRecursion (IsKept point.buffers) (all_held left (staying groups pinned))
   each_kept =
-      let P = IsKept kept.leases point.buffers in
+      let P = IsKept point.buffers in
       let front = all_front P (waiting_chunks kept pinned) kept.hand h.each in
       let hand = all_back P (waiting_chunks kept pinned) kept.hand h.each in
       let indexed = all_front P index_chunks (map chunk_of pinned) front in
@@ -162,7 +162,7 @@ module _ {L : Type 0} (kept : Kept L) (pins : Pinning ArrivalPlace) (point : Poi
       let P = HasPage point.settings old.taken in
       let indexed = all_front P index_chunks (map chunk_of pinned) h.paged in
       let pins_paged = all_back P index_chunks (map chunk_of pinned) h.paged in
-      all-same (λ (placed : Placed) (page : P placed). has_page-same old.taken new.taken gone.pages point.settings placed page)
+      all-same (λ (placed : Placed L) (page : P placed). has_page-same old.taken new.taken gone.pages point.settings placed page)
       (index_chunks ++ map chunk_of (staying groups pinned))
       (all_append P index_chunks (map chunk_of (staying groups pinned)) indexed (all-staying P groups pinned pins_paged))
 
@@ -174,7 +174,7 @@ module _ {L : Type 0} (kept : Kept L) (pins : Pinning ArrivalPlace) (point : Poi
   lefts_now =
       let long : length kept.standings ≡ length old.taken = ap length h.standings ∙ length-map old.taken mark_of in
       let within = pins-within (length kept.standings) abandoned_going (λ pin. refl) (going groups pinned)
-      (all_weaker (HasPage point.settings old.taken) (λ (placed : Placed). place_of placed < length kept.standings) (λ placed page. let below = slice_get_within old.taken (place_of placed) page.chunk page.at in omega (arith, below, long)) (map chunk_of (going groups pinned)) going_paged) in
+      (all_weaker (HasPage point.settings old.taken) (λ (placed : Placed L). place_of placed < length kept.standings) (λ placed page. let below = slice_get_within old.taken (place_of placed) page.chunk page.at in omega (arith, below, long)) (map chunk_of (going groups pinned)) going_paged) in
       subst (λ hand. AreLeft left.standings (option_to_list kept.offered ++ map place_of (kept.hand ++ hand)) left.lefts) same_chunks
       (hand-left kept.standings kept.offered kept.hand kept.lefts (map abandoned_going (going groups pinned)) within h.lefts)
 
@@ -208,7 +208,6 @@ module _ {L : Type 0} (kept : Kept L) (pins : Pinning ArrivalPlace) (point : Poi
         reported =
             subst (AllByRecursion (λ (place : ℕ). place < length new.taken)) (sym (ap (λ (s : AgentState). s.reported) gone.others))
             (all_weaker (λ (place : ℕ). place < length old.taken) (λ (place : ℕ). place < length new.taken) (λ place within. subst (λ n. place < n) (sym long) within) old.reported h.reported);
-        leases = h.leases ∙ sym long;
         buffers = h.buffers ∙ sym long;
         each = each_kept;
         paged = each_paged;

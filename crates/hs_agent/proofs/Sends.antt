@@ -1,6 +1,6 @@
 -- What is kept while a turn sends: the model has reported what was sent so far.
 use Rattle.std.proofs.Common.{◌≡◌, ℕ, ◌≤◌, zero, suc, false, not, List, [], ◌∷◌, ◌++◌, length, map, filter, fold, take, Option, Some, None, slice_get, refl, sym, ap, subst, ◌∙◌, arith, append-nil}
-use Rattle.hs_agent.proofs.Prelude.{reported_for, flat_map, ◌≢◌, AllByRecursion, option_map_or, option_and_then, append_assoc, map-append, length-append, fold-append, all_weaker, all_append, all_front, all_back, all_map, all_unmap, all_and, TraceId, Mark, used_in, used_of, chunks_left, Pin, Remembered, Remembers, waiting, used_bytes, Share, SendsEach, Taken, ChunkStanding, Pinned, Reported, Evicted, Abandoned, indexed_places, indexed_count, pinned_for, pinning_group, is_among, moved, AgentState, mark_of, reported_standing, visit, report, ArrivalPlace, Placed, place_of, Kept, Point, Holds, IsKept, HasPage, pinned_place, waiting_chunks, with_left, SendsNext, costs_of, id_of}
+use Rattle.hs_agent.proofs.Prelude.{reported_for, flat_map, ◌≢◌, AllByRecursion, option_map_or, option_and_then, append_assoc, map-append, length-append, fold-append, all_weaker, all_append, all_front, all_back, all_map, all_unmap, all_and, TraceId, Mark, used_in, used_of, chunks_left, Pin, Remembered, Remembers, waiting, used_bytes, Share, SendsEach, Taken, ChunkStanding, Pinned, Reported, Evicted, Abandoned, indexed_places, indexed_count, pinned_for, pinning_group, is_among, moved, AgentState, mark_of, reported_standing, visit, report, Tagged, Placed, place_of, Kept, Point, Holds, IsKept, HasPage, pinned_place, waiting_chunks, with_left, SendsNext, costs_of, id_of}
 use Rattle.std.specs.Prelude.{replicate}
 use Rattle.hs_pins.specs.Waiting.{taken}
 use Rattle.hs_pins.specs.Waiting as pins
@@ -15,11 +15,11 @@ use Rattle.hs_agent.proofs.NotedFates.{moved_one}
 use Rattle.hs_agent.proofs.Orders.{same_order_of}
 use Rattle.hs_agent.proofs.Reported.{report_one, report_each, report-each, reports_unindexed, moved_one-alike}
 
-abbrev pub chunk_of : Pin ArrivalPlace → Placed
+abbrev pub chunk_of : {L : Type 0} → Pin (Tagged L) → Placed L
 chunk_of pin = pin.chunk
 
 -- the fate of a chunk that was sent is noted
-abbrev pub note_reported : List Mark → Pin ArrivalPlace → List Mark
+abbrev pub note_reported : {L : Type 0} → List Mark → Pin (Tagged L) → List Mark
 note_reported standings pin = with_left (pinned_place pin) (Some (reported_for pin.group)) standings
 
 -- sends, and then others
@@ -29,12 +29,12 @@ sends-split sends (x ∷ xs) ys old new h = let rest = sends-split sends xs ys h
 
 module _ {L : Type 0} (first : Kept L) (point : Point L) (h : Holds first point) where
   -- a chunk with its lease and its page
-  abbrev pub Good : Placed → Type 0
-  Good placed = IsKept first.leases point.buffers placed × HasPage point.settings point.state.taken placed
+  abbrev pub Good : Placed L → Type 0
+  Good placed = IsKept point.buffers placed × HasPage point.settings point.state.taken placed
 
   -- between the sends
   pub record Midway (kept : Kept L) (state : AgentState) : Type 0 where
-    pub memory : Remembered ArrivalPlace
+    pub memory : Remembered (Tagged L)
     pub remembers : Remembers kept.pins memory
     pub memory_is : memory ≡ record h.memory { pinned = memory.pinned }
     pub kept_is : kept ≡ record first { pins = kept.pins; sent = kept.sent }
@@ -54,7 +54,7 @@ module _ {L : Type 0} (first : Kept L) (point : Point L) (h : Holds first point)
 
   pub begins : AreDistinct (map pinned_place h.memory.pinned) → Midway first point.state
   begins apart =
-      let P = IsKept first.leases point.buffers in
+      let P = IsKept point.buffers in
       let Q = HasPage point.settings point.state.taken in
       let chunks = map chunk_of h.memory.pinned in
       record {
@@ -86,13 +86,13 @@ module _ {L : Type 0} (first : Kept L) (point : Point L) (h : Holds first point)
       same_order_of pinned_place state m.memory.pinned (id_of id) m.pinned m.groups ∙ ap (map pinned_place) (sym (m.remembers.waits (id_of id)))
 
   -- a chunk costs what its page takes
-  cost-at : (state : AgentState) (placed : Placed) → sheets state.taken ≡ sheets point.state.taken → HasPage point.settings point.state.taken placed → used_at state.taken (place_of placed) ≡ used_in placed.chunk
+  cost-at : (state : AgentState) (placed : Placed L) → sheets state.taken ≡ sheets point.state.taken → HasPage point.settings point.state.taken placed → used_at state.taken (place_of placed) ≡ used_in placed.chunk
   cost-at state placed same page =
       let now = has_page-same point.state.taken state.taken same point.settings placed page in
       ap (λ o. option_map_or (λ (chunk : Taken). used_of chunk.sheet) o 0) now.at ∙ sym (ap (λ p. option_map_or used_of p 0) now.page)
 
-  costs-at : (state : AgentState) (waits : List (Pin ArrivalPlace)) → sheets state.taken ≡ sheets point.state.taken → AllByRecursion (λ (pin : Pin ArrivalPlace). Good pin.chunk) waits
-      → map (used_at state.taken) (map pinned_place waits) ≡ map (λ (pin : Pin ArrivalPlace). used_bytes pin.chunk) waits
+  costs-at : (state : AgentState) (waits : List (Pin (Tagged L))) → sheets state.taken ≡ sheets point.state.taken → AllByRecursion (λ (pin : Pin (Tagged L)). Good pin.chunk) waits
+      → map (used_at state.taken) (map pinned_place waits) ≡ map (λ (pin : Pin (Tagged L)). used_bytes pin.chunk) waits
   costs-at state [] same good = refl
   costs-at state (pin ∷ waits) same good = (λ i. cost-at state pin.chunk same good.0.1 i ∷ costs-at state waits same good.1 i)
 
@@ -100,13 +100,13 @@ module _ {L : Type 0} (first : Kept L) (point : Point L) (h : Holds first point)
   costs-same kept state id m =
       ap (map (used_at state.taken)) (order-waiting kept state id m)
       ∙ costs-at state (waiting kept.pins (id_of id)) m.pages
-      (subst (AllByRecursion (λ (pin : Pin ArrivalPlace). Good pin.chunk)) (sym (m.remembers.waits (id_of id)))
-      (all-waiting (λ (pin : Pin ArrivalPlace). Good pin.chunk) (id_of id) m.memory.pinned (all_unmap Good chunk_of m.memory.pinned m.waits)))
+      (subst (AllByRecursion (λ (pin : Pin (Tagged L)). Good pin.chunk)) (sym (m.remembers.waits (id_of id)))
+      (all-waiting (λ (pin : Pin (Tagged L)). Good pin.chunk) (id_of id) m.memory.pinned (all_unmap Good chunk_of m.memory.pinned m.waits)))
 
   -- ---- one send
 
   module _ (kept next : Kept L) (state : AgentState) (id : ℕ) (s : SendsNext kept id next) (m : Midway kept state) where
-    abbrev item : Pin ArrivalPlace
+    abbrev item : Pin (Tagged L)
     item = s.moves.item
 
     abbrev place : ℕ
@@ -121,7 +121,7 @@ module _ {L : Type 0} (first : Kept L) (point : Point L) (h : Holds first point)
     front : FirstFor (id_of id) m.memory.pinned item
     front = first-waiting (id_of id) m.memory.pinned item (waiting next.pins (id_of id)) waited
 
-    abbrev left : List (Pin ArrivalPlace)
+    abbrev left : List (Pin (Tagged L))
     left = front.before ++ front.after
 
     left_is : (taken m.memory (id_of id)).pinned ≡ left
@@ -137,16 +137,16 @@ module _ {L : Type 0} (first : Kept L) (point : Point L) (h : Holds first point)
     differ = differ-from place (map pinned_place front.before) (map pinned_place front.after) apart_now
 
     -- what is said of all that was pinned holds of what is left
-    all-left_over : (P : Pin ArrivalPlace → Type 0) → AllByRecursion P m.memory.pinned → AllByRecursion P left
+    all-left_over : (P : Pin (Tagged L) → Type 0) → AllByRecursion P m.memory.pinned → AllByRecursion P left
     all-left_over P all =
         let now = subst (AllByRecursion P) front.is all in
         all_append P front.before front.after (all_front P front.before (item ∷ front.after) now) (all_back P front.before (item ∷ front.after) now).1
 
-    own : (P : Pin ArrivalPlace → Type 0) → AllByRecursion P m.memory.pinned → P item
+    own : (P : Pin (Tagged L) → Type 0) → AllByRecursion P m.memory.pinned → P item
     own P all = (all_back P front.before (item ∷ front.after) (subst (AllByRecursion P) front.is all)).0
 
     its_group : pinned_for state.taken place ≡ Some item.group
-    its_group = own (λ (pin : Pin ArrivalPlace). pinned_for state.taken (pinned_place pin) ≡ Some pin.group) m.groups
+    its_group = own (λ (pin : Pin (Tagged L)). pinned_for state.taken (pinned_place pin) ≡ Some pin.group) m.groups
 
     its_fate : with_left place (Some (reported_for item.group)) (map mark_of state.taken) ≡ map mark_of after.taken
     its_fate = by (slice_get state.taken place) refl its_group
@@ -167,19 +167,19 @@ module _ {L : Type 0} (first : Kept L) (point : Point L) (h : Holds first point)
 
     groups_now : ArePinned pinned_place after.taken left
     groups_now =
-        let both = all_and (λ (pin : Pin ArrivalPlace). pinned_for state.taken (pinned_place pin) ≡ Some pin.group) (λ (pin : Pin ArrivalPlace). is_among (place ∷ []) (pinned_place pin) ≡ false) left
-        (all-left_over (λ (pin : Pin ArrivalPlace). pinned_for state.taken (pinned_place pin) ≡ Some pin.group) m.groups)
+        let both = all_and (λ (pin : Pin (Tagged L)). pinned_for state.taken (pinned_place pin) ≡ Some pin.group) (λ (pin : Pin (Tagged L)). is_among (place ∷ []) (pinned_place pin) ≡ false) left
+        (all-left_over (λ (pin : Pin (Tagged L)). pinned_for state.taken (pinned_place pin) ≡ Some pin.group) m.groups)
         (all_unmap (λ (q : ℕ). is_among (place ∷ []) q ≡ false) pinned_place left (subst (AllByRecursion (λ (q : ℕ). is_among (place ∷ []) q ≡ false)) (sym (map-append pinned_place front.before front.after)) differ)) in
-        all_weaker (λ (pin : Pin ArrivalPlace). (pinned_for state.taken (pinned_place pin) ≡ Some pin.group) × (is_among (place ∷ []) (pinned_place pin) ≡ false)) (λ (pin : Pin ArrivalPlace). pinned_for after.taken (pinned_place pin) ≡ Some pin.group)
+        all_weaker (λ (pin : Pin (Tagged L)). (pinned_for state.taken (pinned_place pin) ≡ Some pin.group) × (is_among (place ∷ []) (pinned_place pin) ≡ false)) (λ (pin : Pin (Tagged L)). pinned_for after.taken (pinned_place pin) ≡ Some pin.group)
         (λ pin e. unmoved (place ∷ []) reported_standing state.taken (pinned_place pin) e.1 ∙ e.0) left both
 
     pub sends-one : Midway next after
     sends-one =
-        let memory : Remembered ArrivalPlace = record m.memory { pinned = left } in
+        let memory : Remembered (Tagged L) = record m.memory { pinned = left } in
         record {
           memory = memory;
           remembers = subst (λ l. Remembers next.pins (record m.memory { pinned = l })) left_is (s.remembers m.memory m.remembers);
-          memory_is = ap (λ (x : Remembered ArrivalPlace). record x { pinned = left }) m.memory_is;
+          memory_is = ap (λ (x : Remembered (Tagged L)). record x { pinned = left }) m.memory_is;
           kept_is = s.others ∙ ap (λ (k : Kept L). record k { pins = next.pins; sent = next.sent }) m.kept_is;
           pinned =
               ap (filter (λ q. not (is_among (place ∷ []) q))) (m.pinned ∙ places_are)
@@ -204,11 +204,11 @@ module _ {L : Type 0} (first : Kept L) (point : Point L) (h : Holds first point)
           places = λ trace. indexed-moved (place ∷ []) reported_standing state.taken (reports_unindexed (place ∷ []) state.taken) trace ∙ m.places trace;
           count = count-moved (place ∷ []) reported_standing state.taken (reports_unindexed (place ∷ []) state.taken) ∙ m.count;
           others = ap (report_one_of after) m.others;
-          waits = all_map Good chunk_of left (all-left_over (λ (pin : Pin ArrivalPlace). Good pin.chunk) (all_unmap Good chunk_of m.memory.pinned m.waits));
+          waits = all_map Good chunk_of left (all-left_over (λ (pin : Pin (Tagged L)). Good pin.chunk) (all_unmap Good chunk_of m.memory.pinned m.waits));
           went =
               subst (λ l. AllByRecursion Good (map chunk_of l)) (sym s.moves.put)
               (subst (AllByRecursion Good) (sym (map-append chunk_of kept.sent (item ∷ [])))
-              (all_append Good (map chunk_of kept.sent) (item.chunk ∷ []) m.went (own (λ (pin : Pin ArrivalPlace). Good pin.chunk) (all_unmap Good chunk_of m.memory.pinned m.waits), tt)));
+              (all_append Good (map chunk_of kept.sent) (item.chunk ∷ []) m.went (own (λ (pin : Pin (Tagged L)). Good pin.chunk) (all_unmap Good chunk_of m.memory.pinned m.waits), tt)));
           few =
               let few = m.few in
               let all = ap length front.is ∙ length-append front.before (item ∷ front.after) in
@@ -259,6 +259,6 @@ module _ {L : Type 0} (first : Kept L) (point : Point L) (h : Holds first point)
       ap (λ l. report (take (count_sent point.settings.size share l) (order_of state id)) state) (costs-same kept state id m ∙ same.0) ∙ report-each (take n (order_of state id)) state in
       let there : Midway mid (visit point.settings state share) = subst (Midway mid) (sym visited) (sends-some n id kept mid state parts.1 m) in
       let still = all_weaker (λ (other : Share). (other.trigger.0 ≢ id) × (costs_of kept other.trigger.0 ≡ costs other.trigger.0)) (λ (other : Share). costs_of mid other.trigger.0 ≡ costs other.trigger.0)
-      (λ other e. ap (map (λ (pin : Pin ArrivalPlace). used_bytes pin.chunk)) (others-wait n id other.trigger.0 kept mid parts.1 e.0) ∙ e.1) shares
+      (λ other e. ap (map (λ (pin : Pin (Tagged L)). used_bytes pin.chunk)) (others-wait n id other.trigger.0 kept mid parts.1 e.0) ∙ e.1) shares
       (all_and (λ (other : Share). other.trigger.0 ≢ id) (λ (other : Share). costs_of kept other.trigger.0 ≡ costs other.trigger.0) shares once.0 same.1) in
       sends-all costs shares mid new (visit point.settings state share) once.1 still parts.2 there

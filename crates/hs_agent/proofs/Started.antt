@@ -1,11 +1,11 @@
 -- What is kept at the beginning.
 use Rattle.std.proofs.Common.{ℕ, Bool, false, [], None, refl, arith}
-use Rattle.hs_agent.proofs.Prelude.{PlainSettings, Pinning, Remembers, ArrivalPlace, Kept, first_point, Holds}
+use Rattle.hs_agent.proofs.Prelude.{PlainSettings, Pinning, Remembers, Tagged, Kept, first_point, Holds}
 use Rattle.hs_pins.specs.Remembered.{fresh}
 use Rattle.hs_index.specs.Index.{new_index}
 use Rattle.hs_agent.proofs.Indexing.{indexed-start}
 
-module _ {L : Type 0} (settings : PlainSettings) (node : ℕ) (keeps : Bool) (pins : Pinning ArrivalPlace) where
+module _ {L : Type 0} (settings : PlainSettings) (node : ℕ) (keeps : Bool) (pins : Pinning (Tagged L)) where
   -- nothing was taken
   abbrev pub nothing_kept : Kept L
   nothing_kept =
@@ -22,7 +22,6 @@ module _ {L : Type 0} (settings : PlainSettings) (node : ℕ) (keeps : Bool) (pi
         claims = [];
         pages = [];
         keeps = keeps;
-        leases = [];
       }
 
   pub holds-start : Remembers pins (fresh node settings.pins settings.triggers) → Holds nothing_kept (first_point settings node keeps)
@@ -42,7 +41,6 @@ module _ {L : Type 0} (settings : PlainSettings) (node : ℕ) (keeps : Bool) (pi
     claims = refl;
     pages = refl;
     reported = tt;
-    leases = refl;
     buffers = refl;
     each = tt;
     paged = tt;

@@ -1,25 +1,25 @@
 -- A chunk that was taken: what is kept then is what the model says.
-use Rattle.std.proofs.Common.{◌≡◌, ◌+◌, ◌≤◌, ◌<◌, ◌^◌, Bool, cond, [], ◌∷◌, ◌++◌, length, map, Some, None, sym, ap, subst, ◌∙◌}
+use Rattle.std.proofs.Common.{◌≡◌, ◌≤◌, Bool, cond, [], ◌∷◌, ◌++◌, length, map, Some, None, sym, ap, subst, ◌∙◌}
 use Rattle.hs_agent.proofs.Prelude.{option_map, option_map_or, option_and_then, by_answer, TraceId, Header, Sheet, used_of, header_of, Buffer, Claim, claim_of, pin_for, arrived, with_pin, Remembers, drops, relieved, AgentState, ClaimedTrace, is_abandoned, abandon, evict, with_indexed, with_pinned, with_abandoned, pin_chunk, take_chunk, Placed, placed_at, Kept, Holds, Point, plain_claim, let_go_all, abandoned_going, abandoned_for, noted, indexed, chunk_taken}
 use Rattle.hs_index.specs.Index as index
 use Rattle.hs_pins.specs.Remembered.{claim_for}
 use Rattle.hs_agent.specs.Trying.{ComesToPins}
-use Rattle.hs_agent.proofs.Arrived.{holds-arrived, holds-pinned, holds-dropped}
+use Rattle.hs_agent.proofs.Arrived.{TakesOne, holds-arrived, holds-pinned, holds-dropped}
 use Rattle.hs_agent.proofs.Crumbed.{claim_known}
 use Rattle.hs_agent.proofs.Relieving.{holds-abandoned}
 use Rattle.hs_agent.proofs.Returning.{back-for, arrived-for, goes-for}
 use Rattle.hs_agent.proofs.Settling.{holds-settled}
 
 module _ {L : Type 0} (old : Kept L) (point : Point L) (h : Holds old point) (buffer : Buffer L) (sheet : Sheet)
-    (page : buffer.chunk.page ≡ Some sheet) (size : used_of sheet ≤ point.settings.size) (room : length point.state.taken + 1 < 2 ^ 32) where
+    (page : buffer.chunk.page ≡ Some sheet) (size : used_of sheet ≤ point.settings.size) (room : TakesOne old point h) where
   abbrev trace : TraceId
   trace = sheet.header.trace
 
-  abbrev placed : Placed
+  abbrev placed : Placed L
   placed = placed_at (length point.state.taken) buffer
 
   abbrev came : Kept L
-  came = noted sheet.header buffer old
+  came = noted sheet.header old
 
   abbrev at : AgentState → Point L
   at state = record point { state = state; buffers = point.buffers ++ buffer ∷ [] }

@@ -1,6 +1,6 @@
 -- What is kept after a turn, and the shares then, are what the model says.
 use Rattle.std.proofs.Common.{◌≡◌, ℕ, ◌<◌, ◌≤◌, Bool, true, false, cond, List, [], ◌∷◌, ◌++◌, length, map, fold, refl, sym, ap, subst, ◌∙◌, arith, All}
-use Rattle.hs_agent.proofs.Prelude.{AreLeft, unoffered, length-map, mark_of, going_buffer, going_left, Placed, filter_map, ◌≢◌, AllByRecursion, cons_option, option_map, option_map_or, option_to_list, is_some, IsSome, append_assoc, map-append, All-from_recursion, recursion_from_All, slice_get_within, map-map, all_weaker, all_append, all_front, all_back, all_map, all_unmap, all_and, used_in, used_of, page_bytes, chunks_left, Pin, Remembered, waiting, used_bytes, Share, SendsEach, visited, Taken, AgentState, has_crumb, claim_note, bytes_at, visit, turn, PlacesMatch, count_of, ArrivalPlace, place_of, Kept, Point, Holds, IsKept, HasPage, IsIndexed, RemembersAs, with_state, pinned_place, plain_claim, waiting_chunks, all_held, let_go_all, reported, reported_going, page_in, SendsNext, costs_of, id_of}
+use Rattle.hs_agent.proofs.Prelude.{AreLeft, unoffered, length-map, mark_of, going_buffer, going_left, Placed, filter_map, ◌≢◌, AllByRecursion, cons_option, option_map, option_map_or, option_to_list, is_some, IsSome, append_assoc, map-append, All-from_recursion, recursion_from_All, slice_get_within, map-map, all_weaker, all_append, all_front, all_back, all_map, all_unmap, all_and, used_in, used_of, page_bytes, chunks_left, Pin, Remembered, waiting, used_bytes, Share, SendsEach, visited, Taken, AgentState, has_crumb, claim_note, bytes_at, visit, turn, PlacesMatch, count_of, Tagged, place_of, Kept, Point, Holds, IsKept, HasPage, IsIndexed, RemembersAs, with_state, pinned_place, plain_claim, waiting_chunks, all_held, let_go_all, reported, reported_going, page_in, SendsNext, costs_of, id_of}
 use Rattle.std.specs.List.{AllPairs}
 use Rattle.std.proofs.lemmas.List.Elements.{filter_map-append}
 use Rattle.hs_lists.proofs.Alls.{pairs_head, pairs_tail}
@@ -33,16 +33,16 @@ module _ {L : Type 0} (first : Kept L) (point : Point L) (h : Holds first point)
   costs-within apart id =
       let m = begins first point h apart in
       All-from_recursion (λ cost. cost ≤ point.settings.size) (costs_of first id)
-      (all_map (λ cost. cost ≤ point.settings.size) (λ (pin : Pin ArrivalPlace). used_bytes pin.chunk) (waiting first.pins (id_of id))
-      (all_weaker (λ (pin : Pin ArrivalPlace). Good first point h pin.chunk) (λ (pin : Pin ArrivalPlace). used_bytes pin.chunk ≤ point.settings.size)
+      (all_map (λ cost. cost ≤ point.settings.size) (λ (pin : Pin (Tagged L)). used_bytes pin.chunk) (waiting first.pins (id_of id))
+      (all_weaker (λ (pin : Pin (Tagged L)). Good first point h pin.chunk) (λ (pin : Pin (Tagged L)). used_bytes pin.chunk ≤ point.settings.size)
       (λ pin good. let is : used_in pin.chunk.chunk ≡ used_of good.1.chunk.sheet = ap (λ p. option_map_or used_of p 0) good.1.page in let most = good.1.size in omega (arith, is, most))
       (waiting first.pins (id_of id))
-      (subst (AllByRecursion (λ (pin : Pin ArrivalPlace). Good first point h pin.chunk)) (sym (h.remembers.waits (id_of id)))
-      (all-waiting (λ (pin : Pin ArrivalPlace). Good first point h pin.chunk) (id_of id) h.memory.pinned (all_unmap (Good first point h) chunk_of h.memory.pinned (good_waits apart))))))
+      (subst (AllByRecursion (λ (pin : Pin (Tagged L)). Good first point h pin.chunk)) (sym (h.remembers.waits (id_of id)))
+      (all-waiting (λ (pin : Pin (Tagged L)). Good first point h pin.chunk) (id_of id) h.memory.pinned (all_unmap (Good first point h) chunk_of h.memory.pinned (good_waits apart))))))
     where
       good_waits : AreDistinct (map pinned_place h.memory.pinned) → AllByRecursion (Good first point h) (map chunk_of h.memory.pinned)
       good_waits apart =
-          let P = IsKept first.leases point.buffers in
+          let P = IsKept point.buffers in
           let Q = HasPage point.settings point.state.taken in
           all_and P Q (map chunk_of h.memory.pinned)
           (all_back P (chunks_left first.index.touched) (map chunk_of h.memory.pinned) (all_front P (waiting_chunks first h.memory.pinned) first.hand h.each))
@@ -77,14 +77,14 @@ module _ {L : Type 0} (first : Kept L) (point : Point L) (h : Holds first point)
     abbrev after : AgentState
     after = turn point.settings point.state
 
-    abbrev sent : List (Pin ArrivalPlace)
+    abbrev sent : List (Pin (Tagged L))
     sent = last.sent
 
     -- each chunk that was sent has its page
-    pub sent-paged : All (λ (pin : Pin ArrivalPlace). IsSome pin.chunk.chunk.page) last.sent
+    pub sent-paged : All (λ (pin : Pin (Tagged L)). IsSome pin.chunk.chunk.page) last.sent
     sent-paged =
-        All-from_recursion (λ (pin : Pin ArrivalPlace). IsSome pin.chunk.chunk.page) last.sent
-        (all_weaker (λ (pin : Pin ArrivalPlace). Good first point h pin.chunk) (λ (pin : Pin ArrivalPlace). IsSome pin.chunk.chunk.page) (λ pin good. ap is_some good.1.page) last.sent (all_unmap (Good first point h) chunk_of last.sent m.went))
+        All-from_recursion (λ (pin : Pin (Tagged L)). IsSome pin.chunk.chunk.page) last.sent
+        (all_weaker (λ (pin : Pin (Tagged L)). Good first point h pin.chunk) (λ (pin : Pin (Tagged L)). IsSome pin.chunk.chunk.page) (λ pin good. ap is_some good.1.page) last.sent (all_unmap (Good first point h) chunk_of last.sent m.went))
 
     abbrev left : Kept L
     left = record first {
@@ -111,21 +111,21 @@ module _ {L : Type 0} (first : Kept L) (point : Point L) (h : Holds first point)
 
     stands_for : RemembersAs point.settings point.node after m.memory
     stands_for = record {
-      node_is = ap (λ (x : Remembered ArrivalPlace). x.node) m.memory_is ∙ h.pins.node_is;
-      rules = ap (λ (x : Remembered ArrivalPlace). x.rules) m.memory_is ∙ h.pins.rules;
-      most = ap (λ (x : Remembered ArrivalPlace). x.most) m.memory_is ∙ h.pins.most;
-      claims = ap (λ (x : Remembered ArrivalPlace). map plain_claim x.claims) m.memory_is ∙ h.pins.claims ∙ sym (ap (λ (s : AgentState). s.claims) m.others);
+      node_is = ap (λ (x : Remembered (Tagged L)). x.node) m.memory_is ∙ h.pins.node_is;
+      rules = ap (λ (x : Remembered (Tagged L)). x.rules) m.memory_is ∙ h.pins.rules;
+      most = ap (λ (x : Remembered (Tagged L)). x.most) m.memory_is ∙ h.pins.most;
+      claims = ap (λ (x : Remembered (Tagged L)). map plain_claim x.claims) m.memory_is ∙ h.pins.claims ∙ sym (ap (λ (s : AgentState). s.claims) m.others);
       pinned = sym m.pinned;
       groups = m.groups;
-      abandoned = ap (λ (x : Remembered ArrivalPlace). x.abandoned) m.memory_is ∙ h.pins.abandoned ∙ sym (ap (λ (s : AgentState). s.abandoned) m.others);
-      tried = ap (λ (x : Remembered ArrivalPlace). x.tried) m.memory_is ∙ h.pins.tried ∙ sym (ap (λ (s : AgentState). s.tried) m.others);
-      admitted = ap (λ (x : Remembered ArrivalPlace). x.admitted) m.memory_is ∙ h.pins.admitted ∙ sym (ap (λ (s : AgentState). s.admitted) m.others);
+      abandoned = ap (λ (x : Remembered (Tagged L)). x.abandoned) m.memory_is ∙ h.pins.abandoned ∙ sym (ap (λ (s : AgentState). s.abandoned) m.others);
+      tried = ap (λ (x : Remembered (Tagged L)). x.tried) m.memory_is ∙ h.pins.tried ∙ sym (ap (λ (s : AgentState). s.tried) m.others);
+      admitted = ap (λ (x : Remembered (Tagged L)). x.admitted) m.memory_is ∙ h.pins.admitted ∙ sym (ap (λ (s : AgentState). s.admitted) m.others);
     }
 
     still_indexed : IsIndexed m.memory.claims after first.index.touched
     still_indexed =
         let was = h.index.touched in
-        subst (λ claims. IsIndexed claims after first.index.touched) (sym (ap (λ (x : Remembered ArrivalPlace). x.claims) m.memory_is))
+        subst (λ claims. IsIndexed claims after first.index.touched) (sym (ap (λ (x : Remembered (Tagged L)). x.claims) m.memory_is))
         (record {
           traces = ap (λ (s : AgentState). s.touched) m.others ∙ was.traces;
           apart = was.apart;
@@ -142,14 +142,14 @@ module _ {L : Type 0} (first : Kept L) (point : Point L) (h : Holds first point)
         ∙ ap (λ l. l ++ map pinned_place sent) h.hand
         ∙ sym m.hand
 
-    its_bytes : (pins : List (Pin ArrivalPlace)) → AllByRecursion (Good first point h) (map chunk_of pins) → filter_map (bytes_at after.taken) (map pinned_place pins) ≡ map page_in pins
+    its_bytes : (pins : List (Pin (Tagged L))) → AllByRecursion (Good first point h) (map chunk_of pins) → filter_map (bytes_at after.taken) (map pinned_place pins) ≡ map page_in pins
     its_bytes [] good = refl
     its_bytes (pin ∷ pins) good =
         let page = has_page-same point.state.taken after.taken m.pages point.settings pin.chunk good.0.1 in
         ap (λ o. cons_option (option_map (λ (chunk : Taken). page_bytes chunk.sheet) o) (filter_map (bytes_at after.taken) (map pinned_place pins))) page.at
         ∙ (λ i. sym (ap (λ p. option_map_or page_bytes p []) page.page) i ∷ its_bytes pins good.1 i)
 
-    within_all : (pins : List (Pin ArrivalPlace)) → AllByRecursion (Good first point h) (map chunk_of pins) → AllByRecursion (λ (place : ℕ). place < length after.taken) (map pinned_place pins)
+    within_all : (pins : List (Pin (Tagged L))) → AllByRecursion (Good first point h) (map chunk_of pins) → AllByRecursion (λ (place : ℕ). place < length after.taken) (map pinned_place pins)
     within_all [] good = tt
     within_all (pin ∷ pins) good =
         let page = has_page-same point.state.taken after.taken m.pages point.settings pin.chunk good.0.1 in
@@ -158,9 +158,9 @@ module _ {L : Type 0} (first : Kept L) (point : Point L) (h : Holds first point)
     long : length after.taken ≡ length point.state.taken
     long = length-same point.state.taken after.taken m.pages
 
-    each_kept : AllByRecursion (IsKept first.leases point.buffers) (all_held left m.memory.pinned)
+    each_kept : AllByRecursion (IsKept point.buffers) (all_held left m.memory.pinned)
     each_kept =
-        let P = IsKept first.leases point.buffers in
+        let P = IsKept point.buffers in
         let front = all_front P (waiting_chunks first h.memory.pinned) first.hand h.each in
         let hand = all_back P (waiting_chunks first h.memory.pinned) first.hand h.each in
         all_append P (waiting_chunks left m.memory.pinned) (first.hand ++ map chunk_of sent)
@@ -182,7 +182,7 @@ module _ {L : Type 0} (first : Kept L) (point : Point L) (h : Holds first point)
     lefts_now =
         let count : length first.standings ≡ length point.state.taken = ap length h.standings ∙ length-map point.state.taken mark_of in
         let within = pins-within (length first.standings) reported_going (λ pin. refl) sent
-        (all_weaker (HasPage point.settings point.state.taken) (λ (placed : Placed). place_of placed < length first.standings)
+        (all_weaker (HasPage point.settings point.state.taken) (λ (placed : Placed L). place_of placed < length first.standings)
         (λ placed page. let below = slice_get_within point.state.taken (place_of placed) page.chunk page.at in omega (arith, below, count)) (map chunk_of sent) sent_pages) in
         subst (λ standings. AreLeft standings (option_to_list first.offered ++ map place_of left.hand) left.lefts) (fold-goings reported_going first.standings sent)
         (subst (λ hand. AreLeft (lefts_noted first.standings (map reported_going sent)) (option_to_list first.offered ++ map place_of (first.hand ++ hand)) left.lefts) (map-map going_buffer reported_going sent)
@@ -219,7 +219,6 @@ module _ {L : Type 0} (first : Kept L) (point : Point L) (h : Holds first point)
           (all_append (λ (place : ℕ). place < length after.taken) point.state.reported (map pinned_place sent)
           (all_weaker (λ (place : ℕ). place < length point.state.taken) (λ (place : ℕ). place < length after.taken) (λ place within. subst (λ n. place < n) (sym long) within) point.state.reported h.reported)
           (within_all sent m.went));
-      leases = h.leases ∙ sym long;
       buffers = h.buffers ∙ sym long;
       each = each_kept;
       paged = each_paged;

@@ -1,7 +1,6 @@
--- What becomes of what is kept when a chunk comes. It is noted, and its lease with it. A chunk of a trace that nobody claimed
+-- What becomes of what is kept when a chunk comes. It is noted. A chunk of a trace that nobody claimed
 -- is indexed, and then what is too much goes.
-use Rattle.std.specs.Prelude.{[], ◌∷◌, ◌++◌, map, Some, None}
-use Rattle.hs_words.specs.Buffers.{Buffer}
+use Rattle.std.specs.Prelude.{[], ◌∷◌, ◌++◌, map, None}
 use Rattle.hs_words.specs.declared.page.Header.{Header}
 use Rattle.hs_index.specs.Index as index
 use Rattle.hs_agent.specs.Placing.{Placed}
@@ -9,12 +8,11 @@ use Rattle.hs_agent.specs.Keeping.{Kept}
 use Rattle.hs_agent.specs.LettingGo.{let_go_all, evicted_going}
 
 -- a chunk with a page of this header was taken, last of all
-abbrev pub noted : {L : Type 0} → Header → Buffer L → Kept L → Kept L
-noted header buffer kept =
+abbrev pub noted : {L : Type 0} → Header → Kept L → Kept L
+noted header kept =
     record kept {
       standings = kept.standings ++ record { client = header.client; page = header.page; left = None } ∷ [];
-      leases = kept.leases ++ Some (record { lease = buffer.lease; number = buffer.chunk.number }) ∷ [];
     }
 
-abbrev pub indexed : {L : Type 0} → Placed → Kept L → Kept L
+abbrev pub indexed : {L : Type 0} → Placed L → Kept L → Kept L
 indexed placed kept = let_go_all (record kept { index = index.settled (index.arrived kept.index placed) }) (map evicted_going (index.going (index.arrived kept.index placed)))

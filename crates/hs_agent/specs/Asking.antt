@@ -8,11 +8,11 @@ use Rattle.hs_index.specs.Index.{Index, count_chunks}
 use Rattle.hs_pins.specs.Queues.{total_of}
 use Rattle.hs_pins.specs.Opens.{Opening, restored}
 use Rattle.hs_pins.specs.PinsLayout.{Pinning}
-use Rattle.hs_agent.specs.declared.placed.ArrivalPlace.{ArrivalPlace}
+use Rattle.hs_agent.specs.declared.placed.Tagged.{Tagged}
 use Rattle.hs_agent.specs.Keeping.{Kept, Point, Holds}
 
 -- It is the group of the ask that claims, and it has room for all that is indexed.
-pub record IsClaiming {L : Type 0} (ask : Ask) (kept : Kept L) (pins : Pinning ArrivalPlace) (index : Index ArrivalPlace) (claims : List Claim) (opening : Opening ArrivalPlace) (point : Point L) : Type 0 where
+pub record IsClaiming {L : Type 0} (ask : Ask) (kept : Kept L) (pins : Pinning (Tagged L)) (index : Index (Tagged L)) (claims : List Claim) (opening : Opening (Tagged L)) (point : Point L) : Type 0 where
   pub holds : Holds (record kept { index = index; claims = claims; pins = restored pins opening }) point
   pub group : opening.group ≡ ask.group
   pub laterals : opening.laterals ≡ ask.laterals

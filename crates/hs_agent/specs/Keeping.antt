@@ -21,20 +21,20 @@ use Rattle.hs_law_agent.specs.Standings.{Taken, indexed_places, indexed_count, p
 use Rattle.hs_law_agent.specs.State.{AgentState, ClaimedTrace, start}
 use Rattle.hs_law_agent.specs.Messages.{has_crumb}
 use Rattle.hs_law_agent.specs.Books.{claim_note, bytes_at}
-use Rattle.hs_agent.specs.declared.placed.ArrivalPlace.{ArrivalPlace}
+use Rattle.hs_agent.specs.declared.placed.Tagged.{Tagged}
 use Rattle.hs_agent.specs.declared.hand.Left.{Left}
 use Rattle.hs_agent.specs.declared.hand.Mark.{Mark}
-use Rattle.hs_agent.specs.Placing.{Placed, Pledged, place_of, leased}
+use Rattle.hs_agent.specs.Placing.{Placed, place_of, untagged}
 use Rattle.hs_agent.specs.Leaving.{mark_of, AreLeft}
 
 -- what an agent keeps of its chunks
 pub record Kept (L : Type 0) : Type 0 where
   pub node : ℕ
-  pub index : Index ArrivalPlace
-  pub pins : Pinning ArrivalPlace
+  pub index : Index (Tagged L)
+  pub pins : Pinning (Tagged L)
   -- what the turn that is under way has sent
-  pub sent : List (Pin ArrivalPlace)
-  pub hand : List Placed
+  pub sent : List (Pin (Tagged L))
+  pub hand : List (Placed L)
   -- the place of the chunk that was offered and not answered
   pub offered : Option ℕ
   -- why these left, the one that was offered and not answered first
@@ -46,8 +46,6 @@ pub record Kept (L : Type 0) : Type 0 where
   pub claims : List noted.Claim
   pub pages : List (List ℕ)
   pub keeps : Bool
-  -- the lease of each chunk that was taken, but of those that are out of the agent's hands
-  pub leases : List (Option (Pledged L))
 
 -- what an agent keeps
 pub record PlainAgent (L : Type 0) : Type 0 where
@@ -60,15 +58,13 @@ pub record PlainAgent (L : Type 0) : Type 0 where
 
 -- ---- where the chunks are
 
--- a lease is kept for the chunk, and with that lease it came last
-pub record IsKept {L : Type 0} (leases : List (Option (Pledged L))) (buffers : List (Buffer L)) (placed : Placed) : Type 0 where
-  pub lease : L
-  pub kept : slice_get leases (place_of placed) ≡ Some (Some (record { lease = lease; number = placed.chunk.number }))
-  pub came : slice_get buffers (place_of placed) ≡ Some (leased placed lease)
+-- the chunk is as it came last, with the lease with which it came
+abbrev pub IsKept : {L : Type 0} → List (Buffer L) → Placed L → Type 0
+IsKept buffers placed = slice_get buffers (place_of placed) ≡ Some (untagged placed)
 
 -- The chunk has the page with which it was taken at its place, which fits the settings' size. That holds until the chunk is
 -- offered to the pool: what comes back may be clear.
-pub record HasPage (settings : PlainSettings) (taken : List Taken) (placed : Placed) : Type 0 where
+pub record HasPage {L : Type 0} (settings : PlainSettings) (taken : List Taken) (placed : Placed L) : Type 0 where
   pub chunk : Taken
   pub at : slice_get taken (place_of placed) ≡ Some chunk
   pub page : placed.chunk.page ≡ Some chunk.sheet
@@ -77,52 +73,52 @@ pub record HasPage (settings : PlainSettings) (taken : List Taken) (placed : Pla
 abbrev pub plain_claim : Claim → ClaimedTrace
 plain_claim claim = record { trace = claim.trace; group = claim.group; laterals = claim.laterals }
 
-abbrev pub pinned_place : Pin ArrivalPlace → ℕ
+abbrev pub pinned_place : {L : Type 0} → Pin (Tagged L) → ℕ
 pinned_place pin = place_of pin.chunk
 
 -- the nodes to which the known crumbs of a trace lead, claimed or not
-abbrev pub crumbs_known : List Claim → List (Indexed ArrivalPlace) → TraceId → NodeSet
+abbrev pub crumbs_known : {L : Type 0} → List Claim → List (Indexed (Tagged L)) → TraceId → NodeSet
 crumbs_known claims touched trace = option_map_or (λ (claim : Claim). claim.crumbs) (claim_of claims trace) (noted_of trace touched).crumbs
 
 -- the pins are those of a node that remembers what the model does
-pub record RemembersAs (settings : PlainSettings) (node : ℕ) (state : AgentState) (memory : Remembered ArrivalPlace) : Type 0 where
+pub record RemembersAs {L : Type 0} (settings : PlainSettings) (node : ℕ) (state : AgentState) (memory : Remembered (Tagged L)) : Type 0 where
   pub node_is : memory.node ≡ node
   pub rules : memory.rules ≡ settings.triggers
   pub most : memory.most ≡ settings.pins
   pub claims : map plain_claim memory.claims ≡ state.claims
   pub pinned : map pinned_place memory.pinned ≡ state.pinned
-  pub groups : AllByRecursion (λ (pin : Pin ArrivalPlace). pinned_for state.taken (pinned_place pin) ≡ Some pin.group) memory.pinned
+  pub groups : AllByRecursion (λ (pin : Pin (Tagged L)). pinned_for state.taken (pinned_place pin) ≡ Some pin.group) memory.pinned
   pub abandoned : memory.abandoned ≡ state.abandoned
   pub tried : memory.tried ≡ state.tried
   pub admitted : memory.admitted ≡ state.admitted
 
 -- each trace stands once
-abbrev pub AreApart : List (Indexed ArrivalPlace) → Type 0
+abbrev pub AreApart : {L : Type 0} → List (Indexed (Tagged L)) → Type 0
 AreApart [] = Unit {0}
-AreApart (t ∷ touched) = AllByRecursion (λ (u : Indexed ArrivalPlace). same_trace t.trace u.trace ≡ false) touched × AreApart touched
+AreApart {L} (t ∷ touched) = AllByRecursion (λ (u : Indexed (Tagged L)). same_trace t.trace u.trace ≡ false) touched × AreApart touched
 
 -- These are the model's indexed traces, where these are the claims: each stands once, and none is claimed; each has its
 -- chunks; and the known crumbs are those of the model.
-pub record IsIndexed (claims : List Claim) (state : AgentState) (touched : List (Indexed ArrivalPlace)) : Type 0 where
-  pub traces : state.touched ≡ map (λ (t : Indexed ArrivalPlace). t.trace) touched
+pub record IsIndexed {L : Type 0} (claims : List Claim) (state : AgentState) (touched : List (Indexed (Tagged L))) : Type 0 where
+  pub traces : state.touched ≡ map (λ (t : Indexed (Tagged L)). t.trace) touched
   pub apart : AreApart touched
-  pub free : AllByRecursion (λ (t : Indexed ArrivalPlace). claim_of claims t.trace ≡ None) touched
+  pub free : AllByRecursion (λ (t : Indexed (Tagged L)). claim_of claims t.trace ≡ None) touched
   pub places : (trace : TraceId) → map place_of (noted_of trace touched).chunks ≡ indexed_places state.taken trace
   pub count : indexed_count state.taken ≡ count_chunks touched
   pub crumbs : (trace : TraceId) (n : ℕ) → has_crumb state.crumbs (record { trace = trace; node = record { 0 = n } }) ≡ has_node (crumbs_known claims touched trace) n
 
 -- the index is that of the model
-pub record IsIndexOf (settings : PlainSettings) (claims : List Claim) (state : AgentState) (index : Index ArrivalPlace) : Type 0 where
+pub record IsIndexOf {L : Type 0} (settings : PlainSettings) (claims : List Claim) (state : AgentState) (index : Index (Tagged L)) : Type 0 where
   pub threshold : index.threshold ≡ settings.threshold
   pub most : index.most ≡ settings.traces
   pub touched : IsIndexed claims state index.touched
 
 -- the chunks that are indexed or pinned
-abbrev pub waiting_chunks : {L : Type 0} → Kept L → List (Pin ArrivalPlace) → List Placed
-waiting_chunks kept pinned = chunks_left kept.index.touched ++ map (λ (pin : Pin ArrivalPlace). pin.chunk) pinned
+abbrev pub waiting_chunks : {L : Type 0} → Kept L → List (Pin (Tagged L)) → List (Placed L)
+waiting_chunks {L} kept pinned = chunks_left kept.index.touched ++ map (λ (pin : Pin (Tagged L)). pin.chunk) pinned
 
 -- all chunks that are indexed, pinned or in the hand
-abbrev pub all_held : {L : Type 0} → Kept L → List (Pin ArrivalPlace) → List Placed
+abbrev pub all_held : {L : Type 0} → Kept L → List (Pin (Tagged L)) → List (Placed L)
 all_held kept pinned = waiting_chunks kept pinned ++ kept.hand
 
 -- the others
@@ -153,7 +149,7 @@ first_point settings node keeps = record { settings = settings; node = node; sta
 -- What is kept is what the model's state says, between two steps.
 pub record Holds {L : Type 0} (kept : Kept L) (point : Point L) : Type 0 where
   pub node_is : kept.node ≡ point.node
-  pub memory : Remembered ArrivalPlace
+  pub memory : Remembered (Tagged L)
   pub remembers : Remembers kept.pins memory
   pub pins : RemembersAs point.settings point.node point.state memory
   pub index : IsIndexOf point.settings memory.claims point.state kept.index
@@ -167,14 +163,14 @@ pub record Holds {L : Type 0} (kept : Kept L) (point : Point L) : Type 0 where
   pub claims : kept.claims ≡ map claim_note point.state.claims
   pub pages : kept.pages ≡ filter_map (bytes_at point.state.taken) point.state.reported
   pub reported : AllByRecursion (λ (place : ℕ). place < length point.state.taken) point.state.reported
-  -- each chunk that was taken has a place for its lease, and came in a buffer
-  pub leases : length kept.leases ≡ length point.state.taken
+  -- each chunk that was taken came in a buffer
   pub buffers : length point.buffers ≡ length point.state.taken
-  pub each : AllByRecursion (IsKept kept.leases point.buffers) (all_held kept memory.pinned)
+  pub each : AllByRecursion (IsKept point.buffers) (all_held kept memory.pinned)
   pub paged : AllByRecursion (HasPage point.settings point.state.taken) (waiting_chunks kept memory.pinned)
   pub untouched : AllByRecursion (HasPage point.settings point.state.taken) (unoffered kept.offered kept.again kept.hand)
-  pub few : count_chunks kept.index.touched + length memory.pinned ≤ length point.state.taken
-  pub fits : length point.state.taken < 2 ^ 32
+  -- the chunks that wait are counted in 32 bits
+  pub few : count_chunks kept.index.touched + length memory.pinned < 2 ^ 32
+  pub fits : length point.state.taken < 2 ^ 64
 
 -- What is kept is that of some point of a run, of which this holds.
 abbrev pub HoldsThat : {L : Type 0} → Kept L → (Point L → Type 0) → Type 0

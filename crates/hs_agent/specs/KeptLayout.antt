@@ -2,13 +2,11 @@
 use Rattle.std.specs.Prelude.{◌≡◌, ◌+◌, ◌<◌, ◌≤◌, ◌++◌, length, map, IsSome}
 use Rattle.std.specs.VecDeque.{deque_len, deque_capacity}
 use Rattle.std.specs.Option.{option_map, option_to_list}
-use Rattle.hs_pins.specs.Remembered.{pin_of}
 use Rattle.hs_pins.specs.PinsLayout.{KnowsThat}
 use Rattle.hs_agent.specs.declared.holdings.Holdings.TheInside.{Inside}
 use Rattle.hs_agent.specs.Keeping.{Kept}
-use Rattle.hs_agent.specs.Placing.{pledges_in}
 use Rattle.hs_agent.specs.declared.hand.Out.{Out}
-use Rattle.hs_agent.specs.Parting.{going_of, going_left, hand_of}
+use Rattle.hs_agent.specs.Parting.{going_of, going_left, hand_of, sent_pin}
 
 abbrev pub kept_in : {L : Type 0} {g : _} → Inside L g → Kept L
 kept_in a =
@@ -16,7 +14,7 @@ kept_in a =
       node = a.node.0;
       index = a.index;
       pins = a.pins;
-      sent = map pin_of a.sent.items;
+      sent = map sent_pin a.sent.items;
       hand = hand_of a.hand.items;
       offered = option_map (λ (out : Out). out.place.0) a.offered;
       lefts = option_to_list (option_map (λ (out : Out). out.left) a.offered) ++ map going_left (map going_of a.hand.items);
@@ -25,7 +23,6 @@ kept_in a =
       claims = a.claims.items;
       pages = a.pages.items;
       keeps = a.standings.keeps;
-      leases = pledges_in a.leases.items;
     }
 
 -- There is room to send all that is pinned, and for an offered chunk to come back. All notes can be had at the end, or none.

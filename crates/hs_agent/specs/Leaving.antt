@@ -1,6 +1,6 @@
 -- Why a chunk left the index or the pins, and what is noted of each chunk that was taken: its client, its page, and why it left,
 -- if it did.
-use Rattle.std.specs.Prelude.{◌≡◌, ◌<◌, ℕ, Bool, true, false, List, [], ◌∷◌, length, map, fold, Option, Some, None, option_map, slice_get, slice_set, refl}
+use Rattle.std.specs.Prelude.{◌≡◌, ◌<◌, ℕ, Bool, true, false, List, [], ◌∷◌, length, map, fold, Option, Some, None, slice_get, slice_set, refl}
 use Rattle.std.specs.Option.{option_map_or, option_and_then}
 use Rattle.hs_base.specs.Ranks.{trace_rank}
 use Rattle.hs_base.specs.declared.told.Fate.{Fate}

@@ -1,5 +1,5 @@
 -- What contracts see of notes of chunks and pages: what was noted, and whether it is kept, with what room; and how the notes go on.
-use Rattle.std.specs.Prelude.{◌≡◌, ℕ, Bool, true, false, List, [], ◌∷◌, ◌++◌, length, map, filter, not, Option, Some, MatchOption}
+use Rattle.std.specs.Prelude.{◌≡◌, ℕ, Bool, true, false, List, [], ◌∷◌, ◌++◌, map, filter, not, Option, Some, MatchOption}
 use Rattle.std.specs.Option.{option_map_or}
 use Rattle.hs_base.specs.Listing.{Listing}
 use Rattle.hs_base.specs.Notes.{Noted}

@@ -1,27 +1,27 @@
 -- What becomes of what is kept when the first of the hand is offered, and when the pool answered. The offered chunk is out
 -- of the agent's hands, with its lease; where it comes back it is the first of the hand again, with the lease that it has then.
-use Rattle.std.specs.Prelude.{◌≡◌, ℕ, Bool, true, false, List, ◌∷◌, Option, Some, None, slice_get, slice_set}
+use Rattle.std.specs.Prelude.{◌≡◌, ℕ, Bool, true, false, List, ◌∷◌, Option, Some, None}
 use Rattle.std.specs.Option.{option_map_or}
 use Rattle.hs_words.specs.Buffers.{Buffer}
 use Rattle.hs_words.specs.Chunks.{Contents}
 use Rattle.hs_agent.specs.declared.hand.Left.{Left}
-use Rattle.hs_agent.specs.Placing.{Placed, HandsOut, placed_at, place_of}
+use Rattle.hs_agent.specs.Placing.{Placed, placed_at, place_of, untagged}
 use Rattle.hs_agent.specs.Keeping.{Kept, behind}
 
 pub record Offers {L : Type 0} (old : Kept L) (buffer : Buffer L) (new : Kept L) : Type 0 where
-  pub first : Placed
+  pub first : Placed L
   pub was : old.hand ≡ first ∷ new.hand
-  pub handed : HandsOut old.leases first buffer new.leases
+  pub handed : buffer ≡ untagged first
   pub offered : new.offered ≡ Some (place_of first)
-  pub others : new ≡ record old { hand = new.hand; leases = new.leases; offered = new.offered }
+  pub others : new ≡ record old { hand = new.hand; offered = new.offered }
 
 -- So is the chunk that is first in the hand, while none is offered.
 pub record Leads {L : Type 0} (kept : Kept L) (chunk : Contents) (lease : L) (left : Left) (again : Bool) : Type 0 where
-  pub first : Placed
-  pub others : List Placed
+  pub first : Placed L
+  pub others : List (Placed L)
   pub is : kept.hand ≡ first ∷ others
   pub chunk_is : chunk ≡ first.chunk
-  pub lease_is : slice_get kept.leases (place_of first) ≡ Some (Some (record { lease = lease; number = first.chunk.number }))
+  pub lease_is : lease ≡ first.lease.lease
   pub lefts : List Left
   pub left_is : kept.offered ≡ None → kept.lefts ≡ left ∷ lefts
   pub again_is : again ≡ kept.again
@@ -31,7 +31,6 @@ abbrev pub back_at : {L : Type 0} → Kept L → ℕ → Buffer L → Kept L
 back_at kept place buffer =
     record kept {
       hand = placed_at place buffer ∷ kept.hand;
-      leases = slice_set kept.leases place (Some (record { lease = buffer.lease; number = buffer.chunk.number }));
       offered = None;
       again = true;
     }

@@ -31,11 +31,20 @@ pub struct Leave {
     pub left: Left,
 }
 
-/// A chunk whose buffer is to be given back.
+/// A chunk whose buffer is to be given back, with the chunk's place.
 #[derive(Drop)]
-pub struct Parting {
-    pub held: Held<ArrivalPlace>,
+pub struct Parting<L: Token> {
+    pub held: Held<L>,
+    pub place: ArrivalPlace,
     pub left: Left,
+}
+
+/// A chunk that a turn sent, with its place and the group that pinned it.
+#[derive(Drop)]
+pub struct Sent<L: Token> {
+    pub held: Held<L>,
+    pub place: ArrivalPlace,
+    pub group: Group,
 }
 
 /// The place of the chunk that was offered to the pool and not answered yet, and why the chunk left.

@@ -1,7 +1,6 @@
 //! The chunks of an agent, wherever they are, and what it notes of them.
 
-ghost use Rattle.std.specs.Prelude.{◌≡◌, ◌+◌, ◌<◌, ◌^◌, ℕ, Bool, true, List, [], ◌∷◌, ◌++◌, length, None, Some, Option, IfOk, IfSome, IfNone, OnOk, OnErr, IsSome, All, Ok, map, filter_map, slice_get, slice_set, ◌≤◌};
-ghost use Rattle.std.specs.List.{AllByRecursion};
+ghost use Rattle.std.specs.Prelude.{◌≡◌, ◌+◌, ◌<◌, ◌^◌, ℕ, Bool, true, List, [], ◌∷◌, ◌++◌, length, None, Some, Option, IfOk, IfSome, IfNone, OnOk, OnErr, IsSome, All, Ok, map, ◌≤◌};
 ghost use Rattle.hs_base.specs.Rules.{AreRules, is_declared};
 ghost use Rattle.hs_records.specs.Plain.{PlainSettings, settings_of};
 ghost use Rattle.hs_words.specs.Buffers.{Buffer, buffer_of, buffer_in};
@@ -16,12 +15,12 @@ ghost use Rattle.hs_index.specs.Index.{leaving_of, chunks_left};
 ghost use Rattle.hs_law_agent.specs.Messages.{told_of, crumb_nodes};
 ghost use Rattle.hs_law_agent.specs.Claiming.{traces_of, claim_unclaimed};
 ghost use Rattle.hs_law_agent.specs.Stepping as model;
-ghost use Rattle.hs_agent.specs.declared.placed.ArrivalPlace.{ArrivalPlace};
+ghost use Rattle.hs_agent.specs.declared.placed.Tagged.{Tagged};
 ghost use Rattle.hs_records.specs.Books.{agent_book_of};
 ghost use Rattle.hs_law_agent.specs.Laws.{IsInOnePlace};
-ghost use Rattle.hs_agent.specs.Placing.{place_of, placed_at, pledges_in, IsPledged, HandsOut, HaveOwnPlaces, lent};
+ghost use Rattle.hs_agent.specs.Placing.{place_of, placed_at, untagged};
 ghost use Rattle.hs_agent.specs.Keeping.{Point, first_point, Holds, HoldsThat, with_state};
-ghost use Rattle.hs_agent.specs.Parting.{going_of, hand_of};
+ghost use Rattle.hs_agent.specs.Parting.{going_of, hand_of, sent_pin};
 ghost use Rattle.hs_agent.specs.LettingGo.{let_go, let_go_all, reported, evicted_going, abandoned_going, reported_going};
 ghost use Rattle.hs_agent.specs.Arriving.{noted, indexed};
 ghost use Rattle.hs_agent.specs.Offering.{Offers, answered, Leads};
@@ -31,11 +30,11 @@ mod claiming;
 mod trying;
 
 use crate::claim_notes::ClaimNotes;
-use crate::hand::{First, Leave, Left, Out, Parting};
+use crate::hand::{First, Leave, Left, Out, Parting, Sent};
 use crate::holdings::trying::evict_into;
 use crate::input::Finished;
 use crate::pages::Pages;
-use crate::placed::{ArrivalPlace, Pledge};
+use crate::placed::{ArrivalPlace, Tagged};
 use crate::standings::Standings;
 use hs_base::limits::MOST_NODES;
 use hs_base::{
@@ -57,12 +56,12 @@ use std::marker::Model;
 pub struct Holdings<L: Token> {
     alloc: Global,
     node: NodeId,
-    index: TraceIndex<ArrivalPlace>,
-    pins: Pins<ArrivalPlace>,
+    index: TraceIndex<Tagged<L>>,
+    pins: Pins<Tagged<L>>,
     /// What the turn that is under way has sent. There is room for all that is pinned.
-    sent: VecDeque<Dropped<ArrivalPlace>>,
+    sent: VecDeque<Sent<L>>,
     /// The chunks whose buffers are to be given back, the next one first, but for the one that was offered.
-    hand: VecDeque<Parting>,
+    hand: VecDeque<Parting<L>>,
     /// The chunk that was offered to the pool and not answered yet. There is room in the hand for it to come back.
     offered: Option<Out>,
     /// Whether the first of the hand was offered before, and came back.
@@ -70,8 +69,6 @@ pub struct Holdings<L: Token> {
     standings: Standings,
     claims: ClaimNotes,
     pages: Pages,
-    /// The lease of each chunk that was taken, but of the one that was offered and not answered, and of those that were given.
-    leases: List<Option<Pledge<L>>>,
 }
 
 impl<L: Token> Model for Holdings<L> {
@@ -149,7 +146,6 @@ impl<L: Token> Holdings<L> {
             standings,
             claims,
             pages,
-            leases: List::new(alloc),
         })
     }
 
@@ -274,11 +270,11 @@ impl<L: Token> Holdings<L> {
     }
 
     /// Notes why a chunk left, and puts it last into the hand, where a place stays free for a chunk that comes back.
-    fn let_go(&mut self, parting: Parting) -> Result<(), Memory>
+    fn let_go(&mut self, parting: Parting<L>) -> Result<(), Memory>
         ensures { OnOk result (self.new ≡ let_go self.old (going_of parting)) }
     {
         self.standings.leave(Leave {
-            place: parting.held.lease,
+            place: parting.place,
             left: parting.left,
         });
         self.hand.reserve(2)?;
@@ -292,11 +288,11 @@ impl<L: Token> Holdings<L> {
         requires { All (λ pin. IsSome pin.chunk.chunk.page) self.old.sent }
         ensures { OnOk result (self.new ≡ reported self.old) }
     {
-        while let Some(dropped) = self.sent.pop_front() {
-            let Dropped { held, group } = dropped;
+        while let Some(sent) = self.sent.pop_front() {
+            let Sent { held, place, group } = sent;
             self.pages.append(self.alloc, &held.chunk)?;
             let left = Left::Reported(group);
-            self.let_go(Parting { held, left })?;
+            self.let_go(Parting { held, place, left })?;
         }
         Ok(())
     }
@@ -305,24 +301,20 @@ impl<L: Token> Holdings<L> {
     /// empty.
     pub fn offer(&mut self) -> Result<Option<Held<L>>, Memory>
         requires none { self.old.offered ≡ None }
-        requires pledged { AllByRecursion (IsPledged self.old.leases) self.old.hand }
         ensures some { IfOk result (λ first. IfSome first (λ held. Offers self.old (buffer_of held) self.new)) }
         ensures none { IfOk result (λ first. IfNone first ((self.old.hand ≡ []) × (self.new ≡ self.old))) }
     {
         self.hand.reserve(1)?;
-        let Some(Parting { held, left }) = self.hand.pop_front() else {
+        let Some(Parting { held, place, left }) = self.hand.pop_front() else {
             return Ok(None);
         };
-        self.offered = Some(Out {
-            place: held.lease,
-            left,
-        });
-        Ok(Some(with_lease(&mut self.leases, held)))
+        self.offered = Some(Out { place, left });
+        Ok(Some(held))
     }
 
     /// Takes the chunk that was offered first into the hand again, with its new lease, if it came back.
     pub fn answer(&mut self, back: Option<Held<L>>)
-        requires { IfSome self.old.offered (λ place. place < length self.old.leases) × IsSome self.old.offered }
+        requires { IsSome self.old.offered }
         ensures { self.new ≡ answered (buffer_in back) self.old }
     {
         let Some(Out { place, left }) = self.offered.take() else {
@@ -333,20 +325,18 @@ impl<L: Token> Holdings<L> {
             return;
         };
         self.again = true;
-        let held = put_lease(&mut self.leases, place, held);
-        self.hand.push_front_reserved(Parting { held, left });
+        self.hand.push_front_reserved(Parting { held, place, left });
     }
 
     /// The first of the hand, with the lease with which it came last. `None` where the hand is empty.
     pub fn first(&self) -> Option<First<'_, L>>
-        requires { AllByRecursion (IsPledged self.now.leases) self.now.hand }
         ensures some { IfSome result (λ first. Leads self.now first.chunk.now first.lease.now first.left first.again) }
         ensures none { IfNone result (self.now.hand ≡ []) }
     {
         let parting = self.hand.front()?;
         Some(First {
             chunk: &parting.held.chunk,
-            lease: lease_of(&self.leases, &parting.held),
+            lease: &parting.held.lease,
             left: parting.left,
             again: self.again,
         })
@@ -354,14 +344,14 @@ impl<L: Token> Holdings<L> {
 
     /// How many triggers were admitted.
     pub fn admitted(&self) -> u32
-        ensures { (memory : Remembered ArrivalPlace) → Remembers self.now.pins memory → result ≡ memory.admitted }
+        ensures { (memory : Remembered (Tagged L)) → Remembers self.now.pins memory → result ≡ memory.admitted }
     {
         self.pins.admitted()
     }
 
     /// How many chunks are pinned.
     pub fn pinned(&self) -> u32
-        ensures { (memory : Remembered ArrivalPlace) → Remembers self.now.pins memory → result ≡ length memory.pinned }
+        ensures { (memory : Remembered (Tagged L)) → Remembers self.now.pins memory → result ≡ length memory.pinned }
     {
         self.pins.chunks()
     }
@@ -386,7 +376,7 @@ impl<L: Token> Holdings<L> {
             claims: self.claims.into_list(self.alloc),
             sent: self.pages.into_list(self.alloc),
         };
-        let rest = rest_of(self.alloc, self.index, self.hand, self.leases);
+        let rest = rest_of(self.alloc, self.index, self.hand);
         finished(book, rest)
     }
 }
@@ -404,60 +394,38 @@ impl<L: Token> Queues for Holdings<L> {
 
     fn send_next(&mut self, trigger: TriggerId) {
         match self.pins.take_next(trigger) {
-            Some(dropped) => self.sent.push_back_reserved(dropped),
+            Some(dropped) => self.sent.push_back_reserved(sent_of(dropped)),
             None => unreachable!(),
         }
     }
 }
 
-/// The lease with which a chunk came last.
-fn lease_of<'a, L: Token>(leases: &'a List<Option<Pledge<L>>>, held: &Held<ArrivalPlace>) -> &'a L
-    requires { IsPledged (pledges_in leases.now.items) (buffer_of held.now) }
-    ensures { slice_get (pledges_in leases.now.items) held.now.lease.0 ≡ Some (Some (record { lease = result.now; number = held.now.chunk.number })) }
-{
-    match leases.get(held.lease.0 as usize) {
-        Some(Some(pledge)) => &pledge.lease,
-        _ => unreachable!(),
-    }
-}
-
-/// A chunk whose lease is kept at its place from now on.
-fn put_lease<L: Token>(
-    leases: &mut List<Option<Pledge<L>>>,
-    place: ArrivalPlace,
-    held: Held<L>,
-) -> Held<ArrivalPlace>
-    requires { place.0 < length leases.old.items }
-    ensures chunk { buffer_of result ≡ placed_at place.0 (buffer_of held) }
-    ensures leases { pledges_in leases.new.items ≡ slice_set (pledges_in leases.old.items) place.0
-        (Some (record { lease = held.lease; number = held.chunk.number })) }
+/// A chunk with its place beside its lease.
+pub(super) fn with_place<L: Token>(place: ArrivalPlace, held: Held<L>) -> Held<Tagged<L>>
+    ensures { buffer_of result ≡ placed_at place.0 (buffer_of held) }
 {
     let Held { chunk, lease } = held;
-    let number = chunk.number();
-    let leases = leases.as_mut_slice();
-    leases[place.0 as usize] = Some(Pledge { lease, number });
-    Held {
-        chunk,
-        lease: place,
-    }
+    let lease = Tagged { lease, place };
+    Held { chunk, lease }
 }
 
-/// A chunk with the lease with which it came last, which is taken out.
-fn with_lease<L: Token>(leases: &mut List<Option<Pledge<L>>>, held: Held<ArrivalPlace>) -> Held<L>
-    requires within { held.lease.0 < length leases.old.items }
-    requires pledged { IsPledged (pledges_in leases.old.items) (buffer_of held) }
-    ensures { HandsOut (pledges_in leases.old.items) (buffer_of held) (buffer_of result)
-        (pledges_in leases.new.items) }
+/// A chunk with its lease alone, and its place.
+fn apart<L: Token>(held: Held<Tagged<L>>) -> (Held<L>, ArrivalPlace)
+    ensures held { buffer_of result.0 ≡ untagged (buffer_of held) }
+    ensures place { result.1.0 ≡ place_of (buffer_of held) }
 {
-    let Held {
-        chunk,
-        lease: place,
-    } = held;
-    let leases = leases.as_mut_slice();
-    match leases[place.0 as usize].take() {
-        Some(Pledge { lease, number: _ }) => Held { chunk, lease },
-        None => unreachable!(),
-    }
+    let Held { chunk, lease } = held;
+    let Tagged { lease, place } = lease;
+    (Held { chunk, lease }, place)
+}
+
+/// A chunk that the pins sent.
+fn sent_of<L: Token>(dropped: Dropped<Tagged<L>>) -> Sent<L>
+    ensures { sent_pin result ≡ pin_of dropped }
+{
+    let Dropped { held, group } = dropped;
+    let (held, place) = apart(held);
+    Sent { held, place, group }
 }
 
 /// A book with what is left, where memory was found for that.
@@ -474,64 +442,48 @@ fn finished<L: Token>(
     }
 }
 
-/// What is left: the chunks of the index and then those of the hand, each with the lease with which it came last. No two
-/// have one place.
+/// What is left: the chunks of the index and then those of the hand, each with the lease with which it came last.
 fn rest_of<L: Token>(
     alloc: Global,
-    index: TraceIndex<ArrivalPlace>,
-    hand: VecDeque<Parting>,
-    leases: List<Option<Pledge<L>>>,
+    index: TraceIndex<Tagged<L>>,
+    hand: VecDeque<Parting<L>>,
 ) -> Result<List<Held<L>>, Memory>
-    requires apart { HaveOwnPlaces (chunks_left index.touched ++ hand_of hand.items) }
-    requires pledged { AllByRecursion (IsPledged (pledges_in leases.items)) (chunks_left index.touched ++ hand_of hand.items) }
-    ensures { IfOk result (λ rest. map buffer_of rest.items ≡ filter_map (lent (pledges_in leases.items)) (chunks_left index.touched ++ hand_of hand.items)) }
-{
-    let indexed = index.finish()?;
-    let hand = chunks_of(alloc, hand)?;
-    let all = put_before(indexed, hand)?;
-    with_leases(alloc, leases, all)
-}
-
-/// The chunks of the hand.
-fn chunks_of(
-    alloc: Global,
-    mut hand: VecDeque<Parting>,
-) -> Result<VecDeque<Held<ArrivalPlace>>, Memory>
-    ensures { IfOk result (λ chunks. map buffer_of chunks.items ≡ hand_of hand.items) }
-{
-    let mut chunks = VecDeque::new(alloc);
-    while let Some(Parting { held, left: _ }) = hand.pop_front() {
-        chunks.push_back(held)?;
-    }
-    Ok(chunks)
-}
-
-/// Puts chunks before those of the hand.
-fn put_before(
-    mut chunks: List<Held<ArrivalPlace>>,
-    mut hand: VecDeque<Held<ArrivalPlace>>,
-) -> Result<VecDeque<Held<ArrivalPlace>>, Memory>
-    ensures { IfOk result (λ all. map buffer_of all.items ≡ map buffer_of chunks.items ++ map buffer_of hand.items) }
-{
-    while let Some(held) = chunks.pop() {
-        hand.push_front(held)?;
-    }
-    Ok(hand)
-}
-
-/// The chunks, each with the lease with which it came last. No two have one place.
-fn with_leases<L: Token>(
-    alloc: Global,
-    mut leases: List<Option<Pledge<L>>>,
-    mut chunks: VecDeque<Held<ArrivalPlace>>,
-) -> Result<List<Held<L>>, Memory>
-    requires apart { HaveOwnPlaces (map buffer_of chunks.items) }
-    requires pledged { AllByRecursion (IsPledged (pledges_in leases.items)) (map buffer_of chunks.items) }
-    ensures { IfOk result (λ rest. map buffer_of rest.items ≡ filter_map (lent (pledges_in leases.items)) (map buffer_of chunks.items)) }
+    ensures { IfOk result (λ rest. map buffer_of rest.items ≡ map untagged (chunks_left index.touched ++ hand_of hand.items)) }
 {
     let mut rest = List::new(alloc);
-    while let Some(held) = chunks.pop_front() {
-        rest.append(with_lease(&mut leases, held))?;
-    }
+    take_indexed(&mut rest, index.finish()?)?;
+    take_hand(&mut rest, hand)?;
     Ok(rest)
+}
+
+/// Puts the chunks of an index behind others.
+fn take_indexed<L: Token>(
+    rest: &mut List<Held<L>>,
+    indexed: List<Held<Tagged<L>>>,
+) -> Result<(), Memory>
+    ensures { OnOk result (map buffer_of rest.new.items ≡ map buffer_of rest.old.items ++ map untagged (map buffer_of indexed.items)) }
+{
+    for held in indexed.into_vec() {
+        let (held, _) = apart(held);
+        rest.append(held)?;
+    }
+    Ok(())
+}
+
+/// Puts the chunks of the hand behind others.
+fn take_hand<L: Token>(
+    rest: &mut List<Held<L>>,
+    mut hand: VecDeque<Parting<L>>,
+) -> Result<(), Memory>
+    ensures { OnOk result (map buffer_of rest.new.items ≡ map buffer_of rest.old.items ++ map untagged (hand_of hand.items)) }
+{
+    while let Some(parting) = hand.pop_front() {
+        let Parting {
+            held,
+            place: _,
+            left: _,
+        } = parting;
+        rest.append(held)?;
+    }
+    Ok(())
 }

@@ -1,24 +1,24 @@
-//! Places that stand for leases.
+//! Leases with the places of their chunks.
 
-ghost use Rattle.std.specs.Prelude.{true, None, IsTrue};
+ghost use Rattle.std.specs.Prelude.{ℕ, Bool, Option};
+ghost use Rattle.hs_words.specs.Pools.{PoolName};
 
 use hs_words::Token;
 
-/// The lease with which a chunk of this number came, which is kept until the chunk is handed out.
+/// A chunk's place in the order of arrival.
+#[derive(Clone, Copy)]
+pub struct ArrivalPlace(pub u64);
+
+/// The lease with which a chunk came last, and the chunk's place in the order of arrival. In the index and among the pins the
+/// chunk has both, so chunks with equal pages are told apart there.
 #[derive(Drop)]
-pub struct Pledge<L: Token> {
+pub struct Tagged<L: Token> {
     pub lease: L,
-    pub number: u32,
-    pub ghost fits: { IsTrue (L.fits lease number) },
+    pub place: ArrivalPlace,
 }
 
-/// A chunk's place in the order of arrival. In the index and among the pins it stands for the lease with which the chunk
-/// came, which the agent keeps; so chunks with equal pages are told apart there.
-#[derive(Clone, Copy)]
-pub struct ArrivalPlace(pub u32);
+impl<L: Token> Token for Tagged<L> {
+    ghost fits = { λ tagged number. L.fits tagged.lease number };
 
-impl Token for ArrivalPlace {
-    ghost fits = { λ place number. true };
-
-    ghost pool = { λ place. None };
+    ghost pool = { λ tagged. L.pool tagged.lease };
 }

@@ -4,6 +4,7 @@ ghost use Rattle.std.specs.Prelude.{◌≡◌, ◌+◌, ◌<◌, ◌≤◌, true
 ghost use Rattle.hs_base.specs.Rules.{is_declared};
 ghost use Rattle.hs_pins.specs.PinsLayout.{Pinning};
 ghost use Rattle.hs_law_agent.specs.Claiming.{claim_each, claim_unclaimed};
+ghost use Rattle.hs_agent.specs.declared.placed.Tagged.{Tagged};
 ghost use Rattle.hs_agent.specs.Asking.{IsClaiming};
 ghost use Rattle.hs_agent.specs.Keeping.{Kept, Point, Holds, HoldsThat, with_state};
 ghost use Rattle.hs_agent.specs.Points.{claimed_for};
@@ -11,7 +12,7 @@ ghost use Rattle.hs_agent.specs.Points.{claimed_for};
 use super::Holdings;
 use super::trying::drop_into;
 use crate::claim_notes::ClaimNotes;
-use crate::placed::ArrivalPlace;
+use crate::placed::Tagged;
 use hs_base::{Ask, Memory, TraceId};
 use hs_index::TraceIndex;
 use hs_pins::{Claiming, Taken2};
@@ -42,15 +43,15 @@ impl<L: Token> Holdings<L> {
 
 /// Claims the lead and the laterals that nobody claimed. There is room.
 fn claim_all<L: Token>(
-    index: &mut TraceIndex<ArrivalPlace>,
+    index: &mut TraceIndex<Tagged<L>>,
     notes: &mut ClaimNotes,
-    claiming: &mut Claiming<ArrivalPlace>,
+    claiming: &mut Claiming<Tagged<L>>,
     ask: &Ask,
 )
-    requires known { (kept : Kept L) × (pins : Pinning ArrivalPlace) × (point : Point L) × IsClaiming ask.now kept pins index.old notes.old.items claiming.old point }
+    requires known { (kept : Kept L) × (pins : Pinning (Tagged L)) × (point : Point L) × IsClaiming ask.now kept pins index.old notes.old.items claiming.old point }
     requires traces { length ask.now.laterals + 1 ≤ claiming.old.traces }
     requires notes { notes.old.keeps ≡ true → length notes.old.items + (length ask.now.laterals + 1) ≤ notes.old.room }
-    ensures after { (kept : Kept L) (pins : Pinning ArrivalPlace) (point : Point L) → IsClaiming ask.now kept pins index.old notes.old.items claiming.old point
+    ensures after { (kept : Kept L) (pins : Pinning (Tagged L)) (point : Point L) → IsClaiming ask.now kept pins index.old notes.old.items claiming.old point
         → IsClaiming ask.now kept pins index.new notes.new.items claiming.new (with_state (claim_each ask.now point.state) point) }
     ensures ready { claiming.new.ready ≡ claiming.old.ready }
     ensures keeps { notes.new.keeps ≡ notes.old.keeps }
@@ -66,16 +67,16 @@ fn claim_all<L: Token>(
 
 /// Claims a trace, unless it is claimed already. There is room.
 fn claim_one<L: Token>(
-    index: &mut TraceIndex<ArrivalPlace>,
+    index: &mut TraceIndex<Tagged<L>>,
     notes: &mut ClaimNotes,
-    claiming: &mut Claiming<ArrivalPlace>,
+    claiming: &mut Claiming<Tagged<L>>,
     ask: &Ask,
     trace: TraceId,
 )
-    requires known { (kept : Kept L) × (pins : Pinning ArrivalPlace) × (point : Point L) × IsClaiming ask.now kept pins index.old notes.old.items claiming.old point }
+    requires known { (kept : Kept L) × (pins : Pinning (Tagged L)) × (point : Point L) × IsClaiming ask.now kept pins index.old notes.old.items claiming.old point }
     requires traces { 1 ≤ claiming.old.traces }
     requires notes { notes.old.keeps ≡ true → length notes.old.items < notes.old.room }
-    ensures after { (kept : Kept L) (pins : Pinning ArrivalPlace) (point : Point L) → IsClaiming ask.now kept pins index.old notes.old.items claiming.old point
+    ensures after { (kept : Kept L) (pins : Pinning (Tagged L)) (point : Point L) → IsClaiming ask.now kept pins index.old notes.old.items claiming.old point
         → IsClaiming ask.now kept pins index.new notes.new.items claiming.new (with_state (claim_unclaimed ask.now point.state trace) point) }
     ensures traces { claiming.old.traces ≤ claiming.new.traces + 1 }
     ensures notes { length notes.new.items ≤ length notes.old.items + 1 }

@@ -1,8 +1,8 @@
-use Rattle.std.proofs.Common.{◌≡◌, Option, Some, None, sym, ap, subst, ◌∙◌}
+use Rattle.std.proofs.Common.{Option, Some, None, sym, subst}
 use Rattle.std.specs.Prelude.{IfNone}
-use Rattle.hs_agent.proofs.Prelude.{AllByRecursion, IfSome, IsPledged, PlainAgent, Holds, point_of}
+use Rattle.hs_agent.proofs.Prelude.{IfSome, PlainAgent, Holds, point_of}
 use Rattle.hs_agent.proofs.Following.{one_place}
-use Rattle.hs_agent.proofs.Leading.{pledged_hand, none_there, is_first}
+use Rattle.hs_agent.proofs.Leading.{none_there, is_first}
 use Rattle.hs_agent.proofs.agent.Agent.first.Goals as goal
 
 if_some-then : {A : Type 0} {P Q : A → Type 0} (o : Option A) → ((x : A) → P x → Q x) → IfSome o P → IfSome o Q
@@ -12,12 +12,6 @@ if_some-then (Some x) f p = f x p
 if_none-then : {A : Type 0} {P Q : Type 0} (o : Option A) → (P → Q) → IfNone o P → IfNone o Q
 if_none-then None f p = f p
 if_none-then (Some x) f p = tt
-
-pub first-requires : goal.first-requires
-first-requires g c =
-    let known = c.requires (sym (ap (λ (k : PlainAgent g.row.L.Denot). k.spent) c.self.view_is) ∙ c.if-self.false) in
-    let one = one_place c.lists_go_on.ensures c.args.self.now known.0 known.1 in
-    subst (λ (k : PlainAgent g.row.L.Denot). AllByRecursion (IsPledged k.kept.leases) k.kept.hand) (sym c.self.view_is) (pledged_hand c.args.self.now.kept known.0 known.1.stands.chunks one known.2)
 
 pub returns-clause-first : goal.returns-clause-first
 returns-clause-first g c = λ run follows none.

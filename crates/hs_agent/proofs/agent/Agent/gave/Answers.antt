@@ -1,14 +1,13 @@
-use Rattle.std.proofs.Common.{◌<◌, [], ◌∷◌, ◌++◌, length, IsSome, sym, ap, subst, ◌∙◌}
-use Rattle.hs_agent.proofs.Prelude.{IfSome, PlainAgent, answered, point_of}
-use Rattle.hs_agent.proofs.Following.{offered-within, follows-answered, one_place}
+use Rattle.std.proofs.Common.{IsSome, sym, ap, subst, ◌∙◌}
+use Rattle.hs_agent.proofs.Prelude.{PlainAgent, answered, point_of}
+use Rattle.hs_agent.proofs.Following.{offered-some, follows-answered, one_place}
 use Rattle.hs_agent.specs.Runs.{logged}
 use Rattle.hs_agent.proofs.agent.Agent.gave.Goals as goal
 
 pub answer-requires : goal.answer-requires
 answer-requires g c =
     let known = c.requires (sym (ap (λ (k : PlainAgent g.row.L.Denot). k.spent) c.self.view_is) ∙ c.if-self.false) in
-    subst (λ (k : PlainAgent g.row.L.Denot). IfSome k.kept.offered (λ place. place < length k.kept.leases) × IsSome k.kept.offered) (sym c.self.view_is)
-    (offered-within c.args.self.now.kept (point_of known.0) known.1.stands.chunks (one_place c.lists_go_on.ensures c.args.self.now known.0 known.1) known.2)
+    subst (λ (k : PlainAgent g.row.L.Denot). IsSome k.kept.offered) (sym c.self.view_is) (offered-some c.args.self.now.kept (point_of known.0) known.1.stands.chunks known.2)
 
 pub returns-clause-after : goal.returns-clause-after
 returns-clause-after g c = λ run follows.

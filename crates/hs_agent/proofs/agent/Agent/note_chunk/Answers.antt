@@ -1,4 +1,4 @@
-use Rattle.std.proofs.Common.{◌≡◌, [], ◌∷◌, ◌++◌, refl, sym, ap, subst, ◌∙◌}
+use Rattle.std.proofs.Common.{◌≡◌, refl, sym, ap, subst, ◌∙◌}
 use Rattle.hs_records.specs.declared.journal.Step.TheVariants as steps
 use Rattle.hs_agent.proofs.Prelude.{Schedule, buffer_of, Input, PlainAgent, sheet_in, chunk_taken, StandsAt, point_of, state_of}
 use Rattle.hs_agent.specs.declared.input.Input.TheVariants as inputs

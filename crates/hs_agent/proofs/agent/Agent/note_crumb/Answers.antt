@@ -1,4 +1,4 @@
-use Rattle.std.proofs.Common.{[], ◌∷◌, ◌++◌, append-nil, refl, sym, ap, subst, ◌∙◌, arith}
+use Rattle.std.proofs.Common.{append-nil, refl, sym, ap, subst, ◌∙◌, arith}
 use Rattle.hs_records.specs.declared.journal.Step.TheVariants as steps
 use Rattle.hs_agent.proofs.Prelude.{Input, PlainAgent, Holds, crumb_taken, Follows, StandsAt, point_of, state_of}
 use Rattle.hs_agent.specs.declared.input.Input.TheVariants as inputs

@@ -1,4 +1,4 @@
-use Rattle.std.proofs.Common.{[], ◌∷◌, ◌++◌, sym, ap, subst, ◌∙◌}
+use Rattle.std.proofs.Common.{sym, ap, subst, ◌∙◌}
 use Rattle.hs_agent.proofs.Prelude.{PlainAgent, Holds, StandsAt, point_of}
 use Rattle.hs_agent.proofs.Following.{follows-taken, places_now}
 use Rattle.hs_agent.specs.Runs.{logged}

@@ -1,17 +1,8 @@
 use Rattle.std.proofs.Common.{◌≡◌, None, sym, ap, subst, ◌∙◌}
-use Rattle.hs_agent.proofs.Prelude.{AllByRecursion, on_ok_weaker, all_weaker, all_back, Placed, IsPledged, PlainAgent, Holds, IsKept, waiting_chunks, point_of}
+use Rattle.hs_agent.proofs.Prelude.{on_ok_weaker, PlainAgent, Holds, point_of}
 use Rattle.hs_agent.proofs.Offered.{offers-first, offers-empty, offers-holds}
 use Rattle.hs_agent.proofs.Following.{follows-offered, one_place}
 use Rattle.hs_agent.proofs.agent.Agent.take_first.Goals as goal
-
-pub offer-requires-clause-pledged : goal.offer-requires-clause-pledged
-offer-requires-clause-pledged g c =
-    let run = c.requires.0 in
-    let kept = c.args.self.now.kept in
-    let h : Holds kept (point_of run) = c.requires.1.stands.chunks in
-    let each = all_back (IsKept kept.leases run.buffers) (waiting_chunks kept h.memory.pinned) kept.hand h.each in
-    subst (λ (k : PlainAgent g.row.L.Denot). AllByRecursion (IsPledged k.kept.leases) k.kept.hand) (sym c.self.view_is)
-    (all_weaker (IsKept kept.leases run.buffers) (IsPledged kept.leases) (λ (placed : Placed) (k : IsKept kept.leases run.buffers placed). record { lease = k.lease; is = k.kept }) kept.hand each)
 
 pub returns-clause-first : goal.returns-clause-first
 returns-clause-first g c = λ run follows.

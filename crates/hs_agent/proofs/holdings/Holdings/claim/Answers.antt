@@ -1,6 +1,6 @@
 use Rattle.std.proofs.Common.{◌≡◌, ◌≤◌, List, ◌++◌, true, length, map, sym, ap, subst, ◌∙◌, arith}
 use Rattle.hs_base.specs.Rules.{is_declared}
-use Rattle.hs_agent.proofs.Prelude.{option_map, option_to_list, Left, Out, Going, going_buffer, going_left, going_of, hand_of, pin_of, leaving, relieved, staying_few, drops, claim_each, Kept, Holds, Point, with_state, kept_in, abandoned_going, claimed_for}
+use Rattle.hs_agent.proofs.Prelude.{option_map, option_to_list, Left, Out, Going, going_buffer, going_left, going_of, hand_of, pin_of, sent_pin, leaving, relieved, staying_few, drops, Remembers, claim_each, Kept, Holds, Point, with_state, kept_in, abandoned_going, claimed_for}
 use Rattle.hs_pins.specs.Opens.{restored}
 use Rattle.hs_agent.specs.Asking.{IsClaiming}
 use Rattle.hs_agent.specs.Trying.{lefts_noted}
@@ -114,12 +114,55 @@ returns-clause-after g c = λ point known.
     let opened : Kept g.row.L.Denot = record kept { index = c.claim_all.new.index; claims = c.claim_all.new.notes.items; pins = restored c.open.new.self c.claim_all.new.claiming } in
     let goings : map abandoned_going (map pin_of c.close-gone.result.items) ≡ map abandoned_going (drops memory) = ap (map abandoned_going) (c.close-gone.ensures.gone memory k.holds.remembers) in
     let standings : c.drop_into.new.standings.items ≡ lefts_noted kept.standings (map abandoned_going (drops memory)) = c.drop_into.ensures.lefts ∙ ap (lefts_noted kept.standings) goings in
-    let goes : List Going = map abandoned_going (drops memory) in
+    let goes : List (Going g.row.L.Denot) = map abandoned_going (drops memory) in
     let out : List Left = option_to_list (option_map (λ (o : Out). o.left) c.self.inside.offered) in
     let now : map going_of c.drop_into.new.hand.items ≡ map going_of c.self.inside.hand.items ++ goes = c.drop_into.ensures.hand ∙ (λ i. map going_of (c.reserve-3.ensures.items i) ++ goings i) in
     let hand : hand_of c.drop_into.new.hand.items ≡ kept.hand ++ map going_buffer goes = hand_more (map going_of c.drop_into.new.hand.items) (map going_of c.self.inside.hand.items) goes now in
     let lefts : out ++ map going_left (map going_of c.drop_into.new.hand.items) ≡ kept.lefts ++ map going_left goes = lefts_more out (map going_of c.drop_into.new.hand.items) (map going_of c.self.inside.hand.items) goes now in
     subst (λ (kk : Kept g.row.L.Denot). Holds kk (claimed_for ask point))
     (let_go_parts (record opened { pins = c.close-gone.new.self }) (map abandoned_going (drops memory))
-    ∙ (λ i. record opened { pins = c.close-gone.new.self; sent = map pin_of (sym c.reserve-2.ensures.items i); standings = sym standings i; hand = sym hand i; lefts = sym lefts i; keeps = sym c.drop_into.ensures.keeps i }))
+    ∙ (λ i. record opened { pins = c.close-gone.new.self; sent = map sent_pin (sym c.reserve-2.ensures.items i); standings = sym standings i; hand = sym hand i; lefts = sym lefts i; keeps = sym c.drop_into.ensures.keeps i }))
     (holds-abandoned opened c.close-gone.new.self next k.holds (c.close-gone.ensures.after memory k.holds.remembers))
+
+pub invariant_of-self-in_err-reserve-2 : goal.invariant_of-self-in_err-reserve-2
+invariant_of-self-in_err-reserve-2 g c =
+    let room = c.self.invariant.sent in
+    let fits = room.2 in
+    let len = c.reserve-2.ensures.len in
+    let capacity = c.reserve-2.ensures.capacity in
+    record {
+      sent = (room.0, room.1, omega (arith, fits, len, capacity));
+      hand = c.self.invariant.hand;
+      claims = c.reserve.ensures.keeps ∙ c.self.invariant.claims;
+      pages = c.self.invariant.pages;
+    }
+
+pub invariant_of-self-in_err-reserve-3 : goal.invariant_of-self-in_err-reserve-3
+invariant_of-self-in_err-reserve-3 g c =
+    let room = c.self.invariant.sent in
+    let fits = room.2 in
+    let len = c.reserve-2.ensures.len in
+    let capacity = c.reserve-2.ensures.capacity in
+    let hand_len = c.reserve-3.ensures.len in
+    let hand_capacity = c.reserve-3.ensures.capacity in
+    record {
+      sent = (room.0, room.1, omega (arith, fits, len, capacity));
+      hand = λ out. let free = c.self.invariant.hand out in omega (arith, free, hand_len, hand_capacity);
+      claims = c.reserve.ensures.keeps ∙ c.self.invariant.claims;
+      pages = c.self.invariant.pages;
+    }
+
+pub invariant_of-self-in_err-claiming : goal.invariant_of-self-in_err-claiming
+invariant_of-self-in_err-claiming g c =
+    let room = c.self.invariant.sent in
+    let fits = room.2 in
+    let len = c.reserve-2.ensures.len in
+    let capacity = c.reserve-2.ensures.capacity in
+    let hand_len = c.reserve-3.ensures.len in
+    let hand_capacity = c.reserve-3.ensures.capacity in
+    record {
+      sent = (room.0, subst (λ p. Remembers p room.0) (sym c.in_err-claiming.ensures.same) room.1, omega (arith, fits, len, capacity));
+      hand = λ out. let free = c.self.invariant.hand out in omega (arith, free, hand_len, hand_capacity);
+      claims = c.reserve.ensures.keeps ∙ c.self.invariant.claims;
+      pages = c.self.invariant.pages;
+    }

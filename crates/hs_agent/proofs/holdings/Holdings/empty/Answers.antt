@@ -1,5 +1,5 @@
 use Rattle.std.proofs.Common.{None, false, map, sym, subst}
-use Rattle.hs_agent.proofs.Prelude.{pin_of, going_left, going_of, hand_of, Kept, first_point, Holds, pledges_in}
+use Rattle.hs_agent.proofs.Prelude.{sent_pin, going_left, going_of, hand_of, Kept, first_point, Holds}
 use Rattle.hs_records.specs.Plain.{settings_of}
 use Rattle.hs_agent.proofs.Started.{holds-start}
 use Rattle.hs_agent.proofs.holdings.Holdings.empty.Goals as goal
@@ -13,7 +13,7 @@ returns g c =
       node = c.args.node.0;
       index = sym c.in_ok-make.ensures i;
       pins = c.in_ok-make-2.field-0;
-      sent = map pin_of (sym c.new.ensures.items i);
+      sent = map sent_pin (sym c.new.ensures.items i);
       hand = hand_of (sym c.new-2.ensures.items i);
       offered = None;
       lefts = map going_left (map going_of (sym c.new-2.ensures.items i));
@@ -22,6 +22,5 @@ returns g c =
       claims = sym c.requires.claims.0 i;
       pages = sym c.requires.pages.0 i;
       keeps = keeps;
-      leases = pledges_in {L = g.row.L.Denot} {g = g.L.Token} (sym c.new-3.ensures.items i);
     })
     (holds-start settings c.args.node.0 keeps c.in_ok-make-2.field-0 c.in_ok-make-2.ensures.fresh)

@@ -1,16 +1,7 @@
-use Rattle.std.proofs.Common.{◌≡◌, cond, [], ◌++◌, map, sym, ap, subst, ◌∙◌}
-use Rattle.hs_agent.proofs.Prelude.{standing_by, Result, IfOk, filter_map, AllByRecursion, buffer_of, agent_book_of, chunks_left, IsPledged, HaveOwnPlaces, lent, Kept, kept_in}
-use Rattle.hs_agent.proofs.OwnPlaces.{own_left}
-use Rattle.hs_agent.proofs.LeftOver.{if_ok-then, book_in, book_left, pledged_left, lent_left}
+use Rattle.std.proofs.Common.{◌≡◌, cond, [], ◌++◌, map, ap, subst, ◌∙◌}
+use Rattle.hs_agent.proofs.Prelude.{standing_by, Result, IfOk, buffer_of, agent_book_of, chunks_left, untagged, Kept, kept_in}
+use Rattle.hs_agent.proofs.LeftOver.{if_ok-then, book_in, book_left, buffers_are_left}
 use Rattle.hs_agent.proofs.holdings.Holdings.finish.Goals as goal
-
-pub rest_of-rest-requires-clause-apart : goal.rest_of-rest-requires-clause-apart
-rest_of-rest-requires-clause-apart g c =
-    subst (λ (k : Kept g.row.L.Denot). HaveOwnPlaces (chunks_left k.index.touched ++ k.hand)) (sym c.self.view_is) (own_left c.args.self c.requires.0 c.requires.1 c.requires.2.1)
-
-pub rest_of-rest-requires-clause-pledged : goal.rest_of-rest-requires-clause-pledged
-rest_of-rest-requires-clause-pledged g c =
-    subst (λ (k : Kept g.row.L.Denot). AllByRecursion (IsPledged k.leases) (chunks_left k.index.touched ++ k.hand)) (sym c.self.view_is) (pledged_left c.args.self c.requires.0 c.requires.1)
 
 pub returns-clause-book : goal.returns-clause-book
 returns-clause-book g c = λ point h.
@@ -29,5 +20,5 @@ returns-clause-book g c = λ point h.
 pub returns-clause-rest : goal.returns-clause-rest
 returns-clause-rest g c = λ point h none.
     if_ok-then c.finished.result (λ finished is.
-    subst (λ (r : Result _ _). IfOk r (λ rest. map (buffer_of {L = g.row.L.Denot} {g = g.L.Token}) rest.items ≡ filter_map (lent (kept_in c.self.inside).leases) (chunks_left (kept_in c.self.inside).index.touched ++ (kept_in c.self.inside).hand))) is c.rest_of-rest.ensures
-    ∙ ap (λ (k : Kept g.row.L.Denot). filter_map (lent k.leases) (chunks_left k.index.touched ++ k.hand)) c.self.view_is ∙ lent_left c.args.self point h none) c.finished.ensures.rest
+    subst (λ (r : Result _ _). IfOk r (λ rest. map (buffer_of {L = g.row.L.Denot} {g = g.L.Token}) rest.items ≡ map untagged (chunks_left (kept_in c.self.inside).index.touched ++ (kept_in c.self.inside).hand))) is c.rest_of-rest.ensures
+    ∙ ap (λ (k : Kept g.row.L.Denot). map untagged (chunks_left k.index.touched ++ k.hand)) c.self.view_is ∙ buffers_are_left c.args.self point h none) c.finished.ensures.rest

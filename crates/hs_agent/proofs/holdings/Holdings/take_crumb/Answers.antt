@@ -21,7 +21,7 @@ returns-in_default-clause-after g c = λ point known.
     let h : Holds kept point = subst (λ k. Holds k point) (sym c.self.view_is) known in
     let free = none_mapped (λ (claim : Claim). claim.group) (claim_of h.memory.claims c.args.crumb.trace) c.owner.result (c.owner.ensures h.memory h.remembers) (ap is_some c.in_default.is) in
     let touched = with_state (with_touched c.args.crumb point.state) point in
-    let goes : List Going = map evicted_going (map leaving_of c.in_ok-gone.gone.items) in
+    let goes : List (Going g.row.L.Denot) = map evicted_going (map leaving_of c.in_ok-gone.gone.items) in
     let out : List Left = option_to_list (option_map (λ (o : Out). o.left) c.self.inside.offered) in
     let now : map going_of c.evict_into.new.hand.items ≡ map going_of c.self.inside.hand.items ++ goes = c.evict_into.ensures.hand ∙ (λ i. map going_of (c.reserve.ensures.items i) ++ goes) in
     subst (λ k. Holds k (crumb_taken c.args.crumb point))
@@ -79,3 +79,23 @@ returns-clause-after g c = λ point known.
     let h : Holds kept point = subst (λ k. Holds k point) (sym c.self.view_is) known in
     let found = some_mapped (λ (claim : Claim). claim.group) (claim_of h.memory.claims c.args.crumb.trace) c.owner.result (c.owner.ensures h.memory h.remembers) (ap is_some c.in-Some.is) in
     holds-late kept point h c.args.crumb found.0 found.1 c.crumb-2.new.self (c.crumb-2.ensures.after h.memory h.remembers)
+
+pub invariant_of-self-then-not-crumb : goal.invariant_of-self-then-not-crumb
+invariant_of-self-then-not-crumb g c =
+    let room = c.self.invariant.sent in
+    record {
+      sent = (crumbed room.0 c.args.crumb.trace c.args.crumb.node, c.crumb-2.ensures.after room.0 room.1, room.2);
+      hand = c.self.invariant.hand;
+      claims = c.self.invariant.claims;
+      pages = c.self.invariant.pages;
+    }
+
+pub invariant_of-self-2 : goal.invariant_of-self-2
+invariant_of-self-2 g c =
+    let room = c.self.invariant.sent in
+    record {
+      sent = (crumbed room.0 c.args.crumb.trace c.args.crumb.node, c.crumb-2.ensures.after room.0 room.1, room.2);
+      hand = c.self.invariant.hand;
+      claims = c.self.invariant.claims;
+      pages = c.self.invariant.pages;
+    }

@@ -83,3 +83,13 @@ returns-clause-after g c = λ point h0.
     (holds-admitted next c.admit-2.new.self (claimed_for ask point) claimed trigger (c.admit-2.ensures.after claimed.memory claimed.remembers) c.in-Admitted.number again) in
     subst (λ b. Holds (record next { pins = c.admit-2.new.self }) (with_state (cond b (admit point.settings point.node trigger noted) noted) point)) (sym yes)
     (holds-rest (record next { pins = c.admit-2.new.self }) (with_state state point) (state.said ++ told_of noted.crumbs ask Fired ∷ []) state.given state.log state.shares counted)
+
+pub invariant_of-self : goal.invariant_of-self
+invariant_of-self g c =
+    let room = c.self.invariant.sent in
+    record {
+      sent = (tried_at room.0 c.args.trigger.now.trigger c.args.trigger.now.moment, c.admit.ensures.after room.0 room.1, room.2);
+      hand = c.self.invariant.hand;
+      claims = c.self.invariant.claims;
+      pages = c.self.invariant.pages;
+    }

@@ -6,9 +6,9 @@ use Rattle.hs_agent.proofs.holdings.trying.drop_into.Given as goal
 
 -- what went so far has its fates and is in the hand, which has room for the rest
 abbrev pub invariant-loop-dropped : goal.invariant-loop-dropped
-invariant-loop-dropped l =
-    (goal.iterator-loop-dropped).can_next l.dropped-iterator ×
-    (goal.iterator-loop-dropped).is_finite l.dropped-iterator ×
+invariant-loop-dropped g l =
+    (goal.iterator-loop-dropped g).can_next l.dropped-iterator ×
+    (goal.iterator-loop-dropped g).is_finite l.dropped-iterator ×
     (l.standings.keeps ≡ l.fn.standings.keeps) ×
     (l.standings.items ≡ lefts_noted l.fn.standings.items (map abandoned_going (map pin_of l.yielded))) ×
     (map going_of l.hand.items ≡ map going_of l.fn.hand.items ++ map abandoned_going (map pin_of l.yielded)) ×
