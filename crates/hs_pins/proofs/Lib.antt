@@ -11,6 +11,7 @@ pub mod Queued
 pub mod Choice
 pub mod Leaving
 pub mod Noted
+pub mod Parties
 pub mod Sound
 pub mod Remembering
 pub mod LookBack

@@ -1,6 +1,6 @@
 -- The parts of a claim: a party is a group with its laterals, and stands once for the traces that it claims one after
 -- another; of each trace the place of its party is noted, and the nodes to which its crumbs lead.
-use Rattle.std.specs.Prelude.{◌≡◌, ℕ, ◌<◌, List, [], length, slice_get, Option, Some, unwrap_or}
+use Rattle.std.specs.Prelude.{◌≡◌, ◌==◌, ◌+◌, ℕ, ◌<◌, List, [], length, slice_get, Option, Some, unwrap_or, if◌then◌else◌}
 use Rattle.std.specs.List.{AllByRecursion}
 use Rattle.hs_base.specs.declared.ids.TraceId.{TraceId}
 use Rattle.hs_base.specs.declared.node_set.NodeSet.{NodeSet}
@@ -37,3 +37,14 @@ claim_from parties noted = claim_by (party_at parties noted.1.party) noted.0 not
 -- each noted party is there
 abbrev pub AreNoted : List Party → List (TraceId × ClaimNote) → Type 0
 AreNoted parties notes = AllByRecursion (λ (noted : TraceId × ClaimNote). noted.1.party < length parties) notes
+
+-- ---- a party that goes
+
+-- The party at a place goes, and the last one takes the place.
+pub record LastTakes (place : ℕ) (old new : List Party) : Type 0 where
+  pub shorter : length new + 1 ≡ length old
+  pub at : (k : ℕ) → k < length new → party_at new k ≡ party_at old (if k == place then length new else k)
+
+-- what is noted then of a claim of another party
+abbrev pub note_moved : ℕ → ℕ → ClaimNote → ClaimNote
+note_moved place last note = record note { party = if note.party == last then place else note.party }

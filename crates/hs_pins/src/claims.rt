@@ -1,10 +1,9 @@
 //! The claims of a node.
 
-ghost use Rattle.std.specs.Prelude.{◌≡◌, ◌<◌, ◌≤◌, ℕ, [], ◌∷◌, ◌++◌, ◌+◌, ◌-◌, length, slice_get, not, filter, true, IsSome, Some, None, OnOk, option_map};
+ghost use Rattle.std.specs.Prelude.{◌≡◌, ◌==◌, ◌<◌, ◌≤◌, ℕ, [], ◌∷◌, ◌++◌, ◌+◌, ◌-◌, length, map, slice_get, not, filter, true, IsSome, Some, None, OnOk, option_map};
 ghost use Rattle.std.specs.Bool.{OnTrue};
-ghost use Rattle.hs_pins.specs.Priorities.{same_group};
 ghost use Rattle.hs_pins.specs.Remembered.{claim_of, has_crumb, with_crumb, is_of_group};
-ghost use Rattle.hs_pins.specs.ClaimsLayout.{party_at, claim_by, HasSeat};
+ghost use Rattle.hs_pins.specs.ClaimsLayout.{party_at, claim_by, claim_from, AreNoted, HasSeat, note_moved, LastTakes};
 
 use crate::priority::is_group;
 use hs_base::limits::MOST_NODES;
@@ -132,16 +131,69 @@ impl Claims {
         fresh
     }
 
-    /// Drops the claims of a group. It takes no memory.
+    /// Drops the claims of a group, and its parties. It takes no memory.
     pub fn forget(&mut self, group: Group)
         ensures { self.new.claims ≡ filter (λ claim. not (is_of_group group claim)) self.old.claims }
     {
-        let parties = self.parties.as_slice();
-        self.notes.retain(
-            |_trace: &TraceId, note: &mut ClaimNote| -> bool
-                ensures { (result ≡ not (same_group group (party_at parties.entry.now note.old.party).group)) × (note.new ≡ note.old) }
-            { !is_group(&group, &group_at(parties, note.party)) },
-        );
+        drop_parties(&mut self.notes, &mut self.parties, &group);
+    }
+}
+
+/// Drops the parties of a group, with their claims.
+fn drop_parties(notes: &mut IndexMap<TraceId, ClaimNote>, parties: &mut List<Party>, group: &Group)
+    requires { AreNoted parties.old.items notes.old.entries }
+    ensures noted { AreNoted parties.new.items notes.new.entries }
+    ensures claims { map (claim_from parties.new.items) notes.new.entries ≡ filter (λ claim. not (is_of_group group.now claim)) (map (claim_from parties.old.items) notes.old.entries) }
+{
+    let mut place = parties.len();
+    while place > 0 {
+        place -= 1;
+        if is_group(group, &group_at(parties.as_slice(), place)) {
+            drop_party(notes, parties, place);
+        }
+    }
+}
+
+/// Drops the party at a place, with its claims. The last party takes the place.
+fn drop_party(notes: &mut IndexMap<TraceId, ClaimNote>, parties: &mut List<Party>, place: usize)
+    requires within { place < length parties.old.items }
+    requires noted { AreNoted parties.old.items notes.old.entries }
+    ensures noted { AreNoted parties.new.items notes.new.entries }
+    ensures claims { map (claim_from parties.new.items) notes.new.entries ≡ map (claim_from parties.old.items) (filter (λ noted. not (noted.1.party == place)) notes.old.entries) }
+    ensures parties { LastTakes place parties.old.items parties.new.items }
+{
+    let last = parties.len() - 1;
+    notes.retain(
+        |_trace: &TraceId, note: &mut ClaimNote| -> bool
+            ensures { (result ≡ not (note.old.party == place)) × (note.new ≡ note_moved place last note.old) }
+        { move_note(note, place, last) },
+    );
+    give_place(parties, place);
+}
+
+/// Notes that the party at the last place takes this one. Answers whether the note is not of the party that was there.
+fn move_note(note: &mut ClaimNote, place: usize, last: usize) -> bool
+    ensures stays { result ≡ not (note.old.party == place) }
+    ensures moved { note.new ≡ note_moved place last note.old }
+{
+    let stays = note.party != place;
+    if note.party == last {
+        note.party = place;
+    }
+    stays
+}
+
+/// Gives a place to the last party, and takes the party there out.
+fn give_place(parties: &mut List<Party>, place: usize)
+    requires { place < length parties.old.items }
+    ensures { LastTakes place parties.old.items parties.new.items }
+{
+    let Some(party) = parties.pop() else {
+        unreachable!()
+    };
+    let parties = parties.as_mut_slice();
+    if place < parties.len() {
+        parties[place] = party;
     }
 }
 
