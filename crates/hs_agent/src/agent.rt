@@ -92,6 +92,13 @@ impl<L: Token> Agent<L> {
         })
     }
 
+    /// Takes the memory for so many claims more now, each of a group of its own, so that they ask for none when they come.
+    pub fn reserve_claims(&mut self, claims: u32) -> Result<(), Memory>
+        ensures { self.new ≡ self.old }
+    {
+        self.holdings.reserve_claims(claims)
+    }
+
     /// Takes an input, and notes one step in the log. Answers what is to be told to the coordinator, if anything.
     pub fn step(&mut self, input: Input<L>) -> Result<Option<Told>, Memory>
         requires { Knows self.old (λ run. IsTakable (point_of run) input) }

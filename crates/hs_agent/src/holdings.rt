@@ -119,6 +119,13 @@ impl<L: Token> Holdings<L> {
         Ok(())
     }
 
+    /// Takes the memory for so many claims more, each of a group of its own.
+    pub fn reserve_claims(&mut self, claims: u32) -> Result<(), Memory>
+        ensures { self.new ≡ self.old }
+    {
+        self.pins.reserve_claims(claims as usize)
+    }
+
     /// Nothing, with these notes, which are empty.
     fn empty(
         alloc: Global,

@@ -1,10 +1,12 @@
 -- Parties that go with their claims: how what is noted changes, and what stays claimed.
-use Rattle.std.proofs.Common.{◌≡◌, ◌≢◌, ℕ, ◌+◌, ◌<◌, ◌≤◌, Bool, true, false, cond, not, List, [], ◌∷◌, length, map, refl, sym, ap, subst, ◌∙◌, arith, true≢false}
+use Rattle.std.proofs.Common.{◌≡◌, ◌≢◌, ℕ, ◌+◌, ◌<◌, ◌≤◌, Bool, true, false, cond, not, List, [], ◌∷◌, length, map, refl, sym, ap, subst, ◌∙◌, arith, true≢false, ◌++◌, ◌||◌, Some}
 use Rattle.std.proofs.lemmas.Bool.{eqb-false}
+use Rattle.std.proofs.Math.Bool.{or-true}
 use Rattle.std.proofs.Math.Numerals.{lt_of_le_of_ne}
 use Rattle.std.specs.Map.Calls.{RetainsPairs}
 use Rattle.hs_lists.proofs.Bools.{by_answer}
-use Rattle.hs_pins.proofs.Prelude.{◌==◌, filter, eqb-true, eq-eqb, TraceId, ClaimNote, Group, Claim, same_group, party_at, claim_from, AreNoted}
+use Rattle.hs_lists.proofs.Numbers.{nat_eq_below, nat_eq_above}
+use Rattle.hs_pins.proofs.Prelude.{◌==◌, filter, eqb-true, eq-eqb, TraceId, ClaimNote, Group, Claim, same_group, party_at, claim_from, AreNoted, AreNamed, is_named, lookup, set_value, same_trace}
 use Rattle.hs_pins.specs.declared.claims.Party.{Party}
 use Rattle.hs_pins.specs.Remembered.{is_of_group}
 use Rattle.hs_pins.specs.ClaimsLayout.{claim_by, note_moved, LastTakes}
@@ -85,6 +87,97 @@ module _ (place last : ℕ) (old new : List Party) (t : LastTakes place old new)
       (λ i. claim_by (same_party n.1.party all.0 (another n y) i) n.0 n.1.crumbs ∷ claims_after notes all.1 i))
       (λ no. subst (λ b. map (claim_from new) (map (noted_anew place last) (cond b (n ∷ filter (is_another place) notes) (filter (is_another place) notes))) ≡ map (claim_from old) (cond b (n ∷ filter (is_another place) notes) (filter (is_another place) notes))) (sym no)
       (claims_after notes all.1))
+
+  -- which party comes to a place
+  abbrev came : ℕ → ℕ
+  came k = cond (k == place) (length new) k
+
+  came_other : (k : ℕ) → k < length new → (came k == place) ≡ false
+  came_other k below = by_answer (k == place) at_place elsewhere
+    where
+      at_place : (k == place) ≡ true → (came k == place) ≡ false
+      at_place e =
+          let same : k ≡ place = eqb-true k place e in
+          ap (λ b. cond b (length new) k == place) e ∙ nat_eq_above (length new) place (omega (arith, same, below))
+
+      elsewhere : (k == place) ≡ false → (came k == place) ≡ false
+      elsewhere e = ap (λ b. cond b (length new) k == place) e ∙ e
+
+  moved_came : (k : ℕ) → k < length new → moved (came k) ≡ k
+  moved_came k below = by_answer (k == place) at_place elsewhere
+    where
+      at_place : (k == place) ≡ true → moved (came k) ≡ k
+      at_place e =
+          ap (λ b. cond (cond b (length new) k == last) place (cond b (length new) k)) e
+          ∙ ap (λ b. cond b place (length new)) (eq-eqb (length new) last (sym is_last))
+          ∙ sym (eqb-true k place e)
+
+      elsewhere : (k == place) ≡ false → moved (came k) ≡ k
+      elsewhere e =
+          ap (λ b. cond (cond b (length new) k == last) place (cond b (length new) k)) e
+          ∙ ap (λ b. cond b place k) (nat_eq_below k last (omega (arith, below, is_last)))
+
+  still_named : (notes : Notes) (k : ℕ) → (k == place) ≡ false → is_named notes k ≡ true → is_named (map (noted_anew place last) (filter (is_another place) notes)) (moved k) ≡ true
+  still_named [] k other named = named
+  still_named (n ∷ notes) k other named =
+      by_answer (n.1.party == k)
+      (λ y.
+      let same : n.1.party ≡ k = eqb-true n.1.party k y in
+      let stays : is_another place n ≡ true = ap (λ j. not (j == place)) same ∙ ap not other in
+      ap (λ b. is_named (map (noted_anew place last) (cond b (n ∷ filter (is_another place) notes) (filter (is_another place) notes))) (moved k)) stays
+      ∙ ap (λ b. b || is_named (map (noted_anew place last) (filter (is_another place) notes)) (moved k)) (eq-eqb (moved n.1.party) (moved k) (ap moved same)))
+      (λ no.
+      let rest = still_named notes k other (sym (ap (λ b. b || is_named notes k) no) ∙ named) in
+      by_answer (is_another place n)
+      (λ y.
+      ap (λ b. is_named (map (noted_anew place last) (cond b (n ∷ filter (is_another place) notes) (filter (is_another place) notes))) (moved k)) y
+      ∙ ap (λ b. (moved n.1.party == moved k) || b) rest
+      ∙ or-true (moved n.1.party == moved k))
+      (λ out. ap (λ b. is_named (map (noted_anew place last) (cond b (n ∷ filter (is_another place) notes) (filter (is_another place) notes))) (moved k)) out ∙ rest))
+
+  pub named_after : (notes : Notes) → AreNamed old notes → AreNamed new (map (noted_anew place last) (filter (is_another place) notes))
+  named_after notes named k below =
+      subst (λ j. is_named (map (noted_anew place last) (filter (is_another place) notes)) j ≡ true) (moved_came k below)
+      (still_named notes (came k) (came_other k below) (named (came k) (within_came k below)))
+    where
+      within_came : (k : ℕ) → k < length new → came k < length old
+      within_came k below =
+          by_answer (k == place)
+          (λ y. let shorter = t.shorter in subst (λ b. cond b (length new) k < length old) (sym y) (omega (arith, shorter)))
+          (λ no. let shorter = t.shorter in subst (λ b. cond b (length new) k < length old) (sym no) (omega (arith, shorter, below)))
+
+-- ---- a note more, and a note anew
+
+-- the place is named by what is noted more
+named-more : (notes : Notes) (n : TraceId × ClaimNote) (k : ℕ) → (n.1.party == k) ≡ true → is_named (notes ++ n ∷ []) k ≡ true
+named-more [] n k e = ap (λ b. b || false) e
+named-more (m ∷ notes) n k e = ap (λ b. (m.1.party == k) || b) (named-more notes n k e) ∙ or-true (m.1.party == k)
+
+-- or as before
+named-before : (notes : Notes) (n : TraceId × ClaimNote) (k : ℕ) → is_named notes k ≡ true → is_named (notes ++ n ∷ []) k ≡ true
+named-before [] n k e = absurd (true≢false (sym e))
+named-before (m ∷ notes) n k e =
+    by_answer (m.1.party == k)
+    (λ y. ap (λ b. b || is_named (notes ++ n ∷ []) k) y)
+    (λ no. ap (λ b. b || is_named (notes ++ n ∷ []) k) no ∙ named-before notes n k (sym (ap (λ b. b || is_named notes k) no) ∙ e))
+
+pub are_named-more : (old new : List Party) (notes : Notes) (n : TraceId × ClaimNote) → AreNamed old notes → ((k : ℕ) → k < length new → k ≢ n.1.party → k < length old) → AreNamed new (notes ++ n ∷ [])
+are_named-more old new notes n named others k below =
+    by_answer (n.1.party == k)
+    (λ y. named-more notes n k y)
+    (λ no. named-before notes n k (named k (others k below (λ e. eqb-false n.1.party k no (sym e)))))
+
+named-set : (notes : Notes) (trace : TraceId) (was now : ClaimNote) (k : ℕ) → lookup (same_trace trace) notes ≡ Some was → now.party ≡ was.party → is_named (set_value (same_trace trace) notes now) k ≡ is_named notes k
+named-set [] trace was now k found same = refl
+named-set (n ∷ notes) trace was now k found same = at (same_trace trace n.0) found (λ f. named-set notes trace was now k f same)
+  where
+    at : (b : Bool) → cond b (Some n.1) (lookup (same_trace trace) notes) ≡ Some was → (lookup (same_trace trace) notes ≡ Some was → is_named (set_value (same_trace trace) notes now) k ≡ is_named notes k)
+        → is_named (cond b ((n.0, now) ∷ notes) (n ∷ set_value (same_trace trace) notes now)) k ≡ is_named (n ∷ notes) k
+    at true found rest = let own : was ≡ n.1 = cc in ap (λ p. (p == k) || is_named notes k) (same ∙ ap (λ (m : ClaimNote). m.party) own)
+    at false found rest = ap (λ b. (n.1.party == k) || b) (rest found)
+
+pub are_named-set : (parties : List Party) (notes : Notes) (trace : TraceId) (was now : ClaimNote) → AreNamed parties notes → lookup (same_trace trace) notes ≡ Some was → now.party ≡ was.party → AreNamed parties (set_value (same_trace trace) notes now)
+are_named-set parties notes trace was now named found same k below = named-set notes trace was now k found same ∙ named k below
 
 -- ---- the parties of a group
 

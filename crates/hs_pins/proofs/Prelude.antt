@@ -14,7 +14,7 @@ pub use Rattle.hs_lists.proofs.Bools.{bool_same}
 pub use Rattle.hs_pins.specs.Abandoning.{fullest_id, going, id_cmp, least_of_id, leaving, next_to_go, relieved, staying}
 pub use Rattle.hs_pins.specs.Buckets.{attempted, BucketState, fresh_bucket, level_found}
 pub use Rattle.hs_pins.specs.Choosing.{least, ordered_by, put_by}
-pub use Rattle.hs_pins.specs.ClaimsLayout.{AreNoted, claim_from, ClaimList, nobody, party_at}
+pub use Rattle.hs_pins.specs.ClaimsLayout.{AreNamed, AreNoted, claim_from, is_named, ClaimList, nobody, party_at}
 pub use Rattle.hs_pins.specs.Counting.{HaveChunks, IsCounted, IsKept}
 pub use Rattle.hs_pins.specs.Groups.{chunks_of, count_of, greatest_of, Groups, pinned}
 pub use Rattle.hs_pins.specs.PinsLayout.{chunks_at, fresh_buckets_of, HasLanes, HasPinned, HasQueues, in_order, Remembers, with_mark}

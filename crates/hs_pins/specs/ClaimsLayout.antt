@@ -1,7 +1,7 @@
 -- The parts of a claim: a party is a group with its laterals, and stands once for the traces that it claims one after
 -- another; of each trace the place of its party is noted, and the nodes to which its crumbs lead.
-use Rattle.std.specs.Prelude.{◌≡◌, ◌==◌, ◌+◌, ℕ, ◌<◌, List, [], length, slice_get, Option, Some, unwrap_or, if◌then◌else◌}
-use Rattle.std.specs.List.{AllByRecursion}
+use Rattle.std.specs.Prelude.{◌≡◌, ◌==◌, ◌+◌, ℕ, ◌<◌, Bool, true, List, [], length, slice_get, Option, Some, unwrap_or, if◌then◌else◌}
+use Rattle.std.specs.List.{AllByRecursion, list_any}
 use Rattle.hs_base.specs.declared.ids.TraceId.{TraceId}
 use Rattle.hs_base.specs.declared.node_set.NodeSet.{NodeSet}
 use Rattle.hs_pins.specs.declared.claims.Party.{Party}
@@ -37,6 +37,14 @@ claim_from parties noted = claim_by (party_at parties noted.1.party) noted.0 not
 -- each noted party is there
 abbrev pub AreNoted : List Party → List (TraceId × ClaimNote) → Type 0
 AreNoted parties notes = AllByRecursion (λ (noted : TraceId × ClaimNote). noted.1.party < length parties) notes
+
+-- a claim is noted of the party at the place
+abbrev pub is_named : List (TraceId × ClaimNote) → ℕ → Bool
+is_named notes place = list_any (λ (noted : TraceId × ClaimNote). noted.1.party == place) notes
+
+-- of each party a claim is noted
+abbrev pub AreNamed : List Party → List (TraceId × ClaimNote) → Type 0
+AreNamed parties notes = (place : ℕ) → place < length parties → is_named notes place ≡ true
 
 -- ---- a party that goes
 

@@ -2,7 +2,7 @@
 use Rattle.std.specs.Prelude.{◌-◌, length, map, slice_get}
 use Rattle.indexmap.specs.IndexMap.{spare}
 use Rattle.hs_pins.specs.declared.claims.Claims.TheInside.{Inside}
-use Rattle.hs_pins.specs.ClaimsLayout.{ClaimList, claim_from, AreNoted}
+use Rattle.hs_pins.specs.ClaimsLayout.{ClaimList, claim_from, AreNoted, AreNamed}
 
 abbrev pub claims_in : Inside → ClaimList
 claims_in a =
@@ -13,5 +13,7 @@ claims_in a =
       last = slice_get a.parties.items (length a.parties.items - 1);
     }
 
-abbrev pub IsClaims : Inside → Type 0
-IsClaims a = AreNoted a.parties.items a.notes.entries
+-- Each noted party is there, and none is there without a claim.
+pub record IsClaims (a : Inside) : Type 0 where
+  pub noted : AreNoted a.parties.items a.notes.entries
+  pub named : AreNamed a.parties.items a.notes.entries

@@ -1,9 +1,9 @@
 //! The claims of a node.
 
-ghost use Rattle.std.specs.Prelude.{◌≡◌, ◌==◌, ◌<◌, ◌≤◌, ℕ, [], ◌∷◌, ◌++◌, ◌+◌, ◌-◌, length, map, slice_get, not, filter, true, IsSome, Some, None, OnOk, option_map};
+ghost use Rattle.std.specs.Prelude.{◌≡◌, ◌≢◌, ◌==◌, ◌<◌, ◌≤◌, ℕ, [], ◌∷◌, ◌++◌, ◌+◌, ◌-◌, length, map, slice_get, not, filter, true, IsSome, Some, None, OnOk, option_map};
 ghost use Rattle.std.specs.Bool.{OnTrue};
 ghost use Rattle.hs_pins.specs.Remembered.{claim_of, has_crumb, with_crumb, is_of_group};
-ghost use Rattle.hs_pins.specs.ClaimsLayout.{party_at, claim_by, claim_from, AreNoted, HasSeat, note_moved, LastTakes};
+ghost use Rattle.hs_pins.specs.ClaimsLayout.{party_at, claim_by, claim_from, AreNoted, AreNamed, HasSeat, note_moved, LastTakes};
 
 use crate::priority::is_group;
 use hs_base::limits::MOST_NODES;
@@ -100,6 +100,14 @@ impl Claims {
         self.parties.reserve(1)
     }
 
+    /// Makes room for so many claims more, each of a party of its own.
+    pub fn reserve_each(&mut self, more: usize) -> Result<(), Memory>
+        ensures { self.new.claims ≡ self.old.claims }
+    {
+        self.notes.reserve(more)?;
+        self.parties.reserve(more)
+    }
+
     /// Adds the claim of a trace that is not claimed. There is room.
     pub fn add(&mut self, trace: TraceId, party: Party, crumbs: NodeSet)
         requires unclaimed { claim_of self.old.claims trace ≡ None }
@@ -141,8 +149,10 @@ impl Claims {
 
 /// Drops the parties of a group, with their claims.
 fn drop_parties(notes: &mut IndexMap<TraceId, ClaimNote>, parties: &mut List<Party>, group: &Group)
-    requires { AreNoted parties.old.items notes.old.entries }
+    requires noted { AreNoted parties.old.items notes.old.entries }
+    requires named { AreNamed parties.old.items notes.old.entries }
     ensures noted { AreNoted parties.new.items notes.new.entries }
+    ensures named { AreNamed parties.new.items notes.new.entries }
     ensures claims { map (claim_from parties.new.items) notes.new.entries ≡ filter (λ claim. not (is_of_group group.now claim)) (map (claim_from parties.old.items) notes.old.entries) }
 {
     let mut place = parties.len();
@@ -158,7 +168,9 @@ fn drop_parties(notes: &mut IndexMap<TraceId, ClaimNote>, parties: &mut List<Par
 fn drop_party(notes: &mut IndexMap<TraceId, ClaimNote>, parties: &mut List<Party>, place: usize)
     requires within { place < length parties.old.items }
     requires noted { AreNoted parties.old.items notes.old.entries }
+    requires named { AreNamed parties.old.items notes.old.entries }
     ensures noted { AreNoted parties.new.items notes.new.entries }
+    ensures named { AreNamed parties.new.items notes.new.entries }
     ensures claims { map (claim_from parties.new.items) notes.new.entries ≡ map (claim_from parties.old.items) (filter (λ noted. not (noted.1.party == place)) notes.old.entries) }
     ensures parties { LastTakes place parties.old.items parties.new.items }
 {
@@ -219,6 +231,7 @@ fn place_of(parties: &mut List<Party>, party: Party) -> usize
     ensures kept { (k : ℕ) → k < length parties.old.items
         → party_at parties.new.items k ≡ party_at parties.old.items k }
     ensures longer { length parties.old.items ≤ length parties.new.items }
+    ensures others { (k : ℕ) → k < length parties.new.items → k ≢ result → k < length parties.old.items }
     ensures last { slice_get parties.new.items (length parties.new.items - 1) ≡ Some party }
 {
     let count = parties.len();

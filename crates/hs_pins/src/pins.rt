@@ -83,6 +83,16 @@ impl<L: Token> Pins<L> {
         })
     }
 
+    /// Takes the memory for so many claims more, each of a group of its own, and for the marks of as many groups that are
+    /// abandoned.
+    pub fn reserve_claims(&mut self, claims: usize) -> Result<(), Memory>
+        ensures { self.new ≡ self.old }
+    {
+        self.claims.reserve_each(claims)?;
+        self.abandoned.reserve(claims)?;
+        Ok(())
+    }
+
     /// Takes a trigger of a declared id at a moment in microseconds, and answers whether it is admitted.
     pub fn admit(&mut self, trigger: TriggerId, moment: u64) -> Admitted
         requires declared { KnowsThat self.old (λ memory. is_declared memory.rules trigger ≡ true) }

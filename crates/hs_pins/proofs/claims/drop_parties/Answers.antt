@@ -17,6 +17,7 @@ loop-place-preserved-then-is_group c =
     record {
       within = omega (arith, some, within, shorter);
       noted = c.drop_party.ensures.noted;
+      named = c.drop_party.ensures.named;
       none = none_left group old c.drop_party.new.parties.items c.loop-place.place before (omega (arith, some)) c.drop_party.ensures.parties c.loop-place.invariant.none;
       stay = ap (filter (stays group)) c.drop_party.ensures.claims ∙ none_of_party group old before c.loop-place.notes.entries own ∙ c.loop-place.invariant.stay;
     }

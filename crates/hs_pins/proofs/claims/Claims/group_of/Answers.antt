@@ -11,7 +11,7 @@ returns-in_err-note c =
 
 pub unreachable-requires : goal.unreachable-requires
 unreachable-requires c =
-    party_there c.self.inside.parties.items c.self.inside.notes.entries c.args.trace c.in_ok-note.note.now c.self.invariant (sym c.in_ok-note.ensures.value) (sym c.in-None.ensures)
+    party_there c.self.inside.parties.items c.self.inside.notes.entries c.args.trace c.in_ok-note.note.now c.self.invariant.noted (sym c.in_ok-note.ensures.value) (sym c.in-None.ensures)
 
 pub returns : goal.returns
 returns c =
