@@ -1,0 +1,422 @@
+-- Over any deeds: what was said last of each claim is its latest news.
+use Rattle.std.proofs.Common.{◌≡◌, ◌⊎◌, inl, inr, ℕ, zero, suc, ◌+◌, Bool, true, false, cond, not, ◌&&◌, ◌||◌, List, [], ◌∷◌, ◌++◌, length, map, fold, flat_map, replicate, drop, set, position, slice_get, Option, Some, None, is_some, refl, sym, ap, subst, arith, ◌∙◌}
+use Rattle.std.specs.Prelude.{if◌then◌else◌, nat_lt, nat_eq}
+use Rattle.std.specs.List.{list_any, position_or_len}
+use Rattle.std.specs.Option.{option_map_or}
+use Rattle.std.proofs.lemmas.Bool.{eqb-true, eq-eqb, and_parts, and_from}
+use Rattle.std.proofs.lemmas.Option.{same_Some}
+use Rattle.std.proofs.lemmas.List.{length-replicate}
+use Rattle.std.proofs.lemmas.List.Concat.{flat_map-append}
+use Rattle.hs_lists.proofs.Bools.{by_answer, first_false, second_false, first_true, second_true}
+use Rattle.hs_lists.proofs.Places.{get_map, get_unmap, get_set_cases, get_push_cases, map_set, set_same}
+use Rattle.hs_lists.proofs.Parts.{map_append, map_drop, drop_front}
+use Rattle.hs_base.specs.declared.ids.TraceId.{TraceId}
+use Rattle.hs_base.specs.declared.ids.GroupId.{GroupId}
+use Rattle.hs_base.specs.Ids.{same_trace}
+use Rattle.hs_wire.specs.declared.message.Standing.{Standing}
+use Rattle.hs_claimed.specs.declared.answers.Claim.{Claim}
+use Rattle.hs_claimed.specs.declared.answers.Claimant.{Claimant}
+use Rattle.hs_claimed.specs.Claims.{PlainClaims, no_claims, same_group, is_the, with_other, traces_of, claim_of, claimant, is_known, is_full_for, with_claims, after_claim, with_number, noted_at, after_spoke, is_about, is_news_of, is_news_in, with_said, after_said, without_oldest, after_forget}
+use Rattle.hs_claimed.specs.Lives.{Deed, Claims, Speaks, Says, LooksOn, Forgets, after, claims_after, news_by, latest_news, same_claim, AreKept}
+
+-- ---- ids
+
+group_refl : (a : GroupId) → same_group a a ≡ true
+group_refl a = and_from _ _ (eq-eqb a.node a.node refl) (eq-eqb a.number a.number refl)
+
+group_same : (a b : GroupId) → same_group a b ≡ true → a ≡ b
+group_same a b e =
+    let parts = and_parts (nat_eq a.node b.node) (nat_eq a.number b.number) e in
+    λ i. record { node = eqb-true a.node b.node parts.0 i; number = eqb-true a.number b.number parts.1 i }
+
+trace_refl : (a : TraceId) → same_trace a a ≡ true
+trace_refl a = eq-eqb a.0 a.0 refl
+
+trace_same : (a b : TraceId) → same_trace a b ≡ true → a ≡ b
+trace_same a b e = ap (λ (m : ℕ). record { 0 = m }) (eqb-true a.0 b.0 e)
+
+-- ---- lists
+
+-- what stands in one of two lists
+pub record IsBehind {A : Type 0} (xs ys : List A) (i : ℕ) (x : A) : Type 0 where
+  pub place : ℕ
+  pub is : i ≡ length xs + place
+  pub there : slice_get ys place ≡ Some x
+
+get_both : {A : Type 0} (xs ys : List A) (i : ℕ) (x : A) → slice_get (xs ++ ys) i ≡ Some x → (slice_get xs i ≡ Some x) ⊎ IsBehind xs ys i x
+get_both [] ys i x at = inr (record { place = i; is = omega arith; there = at })
+get_both (z ∷ xs) ys zero x at = inl at
+get_both (z ∷ xs) ys (suc i) x at =
+    elim (get_both xs ys i x at) [ inl h ↦ inl h | inr h ↦ inr (record { place = h.place; is = (let is = h.is in omega (arith, is)); there = h.there }) ]
+
+get_drop : {A : Type 0} (n : ℕ) (xs : List A) (i : ℕ) (x : A) → slice_get (drop n xs) i ≡ Some x → slice_get xs (n + i) ≡ Some x
+get_drop zero xs i x at = let same : 0 + i ≡ i = omega arith in ap (slice_get xs) same ∙ at
+get_drop (suc n) [] i x at = let none : None ≡ Some x = at in absurd cc
+get_drop (suc n) (y ∷ xs) i x at = let same : suc n + i ≡ suc (n + i) = omega arith in ap (slice_get (y ∷ xs)) same ∙ get_drop n xs i x at
+
+get_same : {A : Type 0} (n : ℕ) (y : A) (i : ℕ) (x : A) → slice_get (replicate n y) i ≡ Some x → y ≡ x
+get_same zero y i x at = let none : None ≡ Some x = at in absurd cc
+get_same (suc n) y zero x at = same_Some y x at
+get_same (suc n) y (suc i) x at = get_same n y i x at
+
+positioned : {A : Type 0} (p : A → Bool) (xs : List A) → is_some (position p xs) ≡ list_any p xs
+positioned {A = A} p xs = shown (nat_lt (position_or_len p xs) (length xs)) (position_or_len p xs) ∙ below xs
+  where
+    shown : (b : Bool) (n : ℕ) → is_some (cond b (Some n) None) ≡ b
+    shown true n = refl
+    shown false n = refl
+
+    below : (ys : List A) → nat_lt (position_or_len p ys) (length ys) ≡ list_any p ys
+    below [] = refl
+    below (y ∷ ys) = at (p y) (below ys)
+      where
+        at : (b : Bool) → nat_lt (position_or_len p ys) (length ys) ≡ list_any p ys → nat_lt (cond (not b) (1 + position_or_len p ys) 0) (suc (length ys)) ≡ (b || list_any p ys)
+        at true rest = grind arith
+        at false rest = grind (arith, rest)
+
+or_first : (a b : Bool) → a ≡ true → (a || b) ≡ true
+or_first true b on = refl
+or_first false b on = let never : false ≡ true = on in absurd cc
+
+or_second : (a b : Bool) → b ≡ true → (a || b) ≡ true
+or_second true b on = refl
+or_second false b on = on
+
+-- ---- claims stand group by group
+
+abbrev group_of : Claim → GroupId
+group_of claim = claim.group
+
+abbrev ids_of : Claimant → List GroupId
+ids_of one = replicate one.traces one.group
+
+any_in : (groups : List Claimant) (i : ℕ) (group : GroupId) → slice_get (flat_map ids_of groups) i ≡ Some group → list_any (is_the group) groups ≡ true
+any_in [] i group at = let none : None ≡ Some group = at in absurd cc
+any_in (one ∷ groups) i group at =
+    elim (get_both (ids_of one) (flat_map ids_of groups) i group at) [
+      | inl h ↦
+          let same : one.group ≡ group = get_same one.traces one.group i group h in
+          or_first (same_group group one.group) (list_any (is_the group) groups) (subst (λ (x : GroupId). same_group x one.group ≡ true) same (group_refl one.group))
+      | inr h ↦ or_second (same_group group one.group) (list_any (is_the group) groups) (any_in groups h.place group h.there)
+    ]
+
+abbrev AreTogether : PlainClaims → Type 0
+AreTogether s = map group_of s.claims ≡ flat_map ids_of s.groups
+
+known_at : (s : PlainClaims) → AreTogether s → (place : ℕ) (claim : Claim) → slice_get s.claims place ≡ Some claim → is_known s claim.group ≡ true
+known_at s together place claim at =
+    positioned (is_the claim.group) s.groups
+    ∙ any_in s.groups place claim.group (ap (λ (ids : List GroupId). slice_get ids place) (sym together) ∙ get_map group_of s.claims place claim at)
+
+-- ---- each claim once
+
+abbrev AreOnce : List Claim → Type 0
+AreOnce claims = (place other : ℕ) (a b : Claim) → slice_get claims place ≡ Some a → slice_get claims other ≡ Some b → same_claim a b ≡ true → place ≡ other
+
+abbrev AreApart : List TraceId → Type 0
+AreApart traces = (place other : ℕ) (a b : TraceId) → slice_get traces place ≡ Some a → slice_get traces other ≡ Some b → same_trace a b ≡ true → place ≡ other
+
+not_there : (traces : List TraceId) (trace : TraceId) (place : ℕ) (x : TraceId) → list_any (same_trace trace) traces ≡ false → slice_get traces place ≡ Some x → same_trace trace x ≡ false
+not_there [] trace place x none at = let never : None ≡ Some x = at in absurd cc
+not_there (y ∷ traces) trace zero x none at = ap (same_trace trace) (sym (same_Some y x at)) ∙ first_false (same_trace trace y) (list_any (same_trace trace) traces) none
+not_there (y ∷ traces) trace (suc place) x none at = not_there traces trace place x (second_false (same_trace trace y) (list_any (same_trace trace) traces) none) at
+
+apart_push : (traces : List TraceId) (trace : TraceId) → AreApart traces → list_any (same_trace trace) traces ≡ false → AreApart (traces ++ trace ∷ [])
+apart_push traces trace apart none place other a b first second same =
+    elim (get_push_cases traces trace a place first) [
+      | inl old ↦
+          elim (get_push_cases traces trace b other second) [
+            | inl older ↦ apart place other a b old older same
+            | inr new ↦
+                let on : same_trace trace a ≡ true = subst (λ (x : TraceId). same_trace x a ≡ true) (trace_same a b same ∙ sym new.1) (trace_refl a) in
+                let off = not_there traces trace place a none old in
+                let never : true ≡ false = sym on ∙ off in
+                absurd cc
+          ]
+      | inr new ↦
+          elim (get_push_cases traces trace b other second) [
+            | inl older ↦
+                let on : same_trace trace b ≡ true = subst (λ (x : TraceId). same_trace x b ≡ true) (sym new.1) same in
+                let off = not_there traces trace other b none older in
+                let never : true ≡ false = sym on ∙ off in
+                absurd cc
+            | inr newer ↦ sym new.0 ∙ newer.0
+          ]
+    ]
+
+apart_more : (lead : TraceId) (own laterals : List TraceId) → AreApart (lead ∷ own) → AreApart (lead ∷ fold (with_other lead) own laterals)
+apart_more lead own [] apart = apart
+apart_more lead own (trace ∷ laterals) apart = apart_more lead (with_other lead own trace) laterals (at (same_trace trace lead || list_any (same_trace trace) own) refl)
+  where
+    at : (b : Bool) → (same_trace trace lead || list_any (same_trace trace) own) ≡ b → AreApart (lead ∷ (if b then own else own ++ trace ∷ []))
+    at true is = apart
+    at false is = apart_push (lead ∷ own) trace apart is
+
+one_apart : (lead : TraceId) → AreApart (lead ∷ [])
+one_apart lead zero zero a b first second same = refl
+one_apart lead zero (suc other) a b first second same = let never : None ≡ Some b = second in absurd cc
+one_apart lead (suc place) other a b first second same = let never : None ≡ Some a = first in absurd cc
+
+traces_apart : (lead : TraceId) (laterals : List TraceId) → AreApart (traces_of lead laterals)
+traces_apart lead laterals = apart_more lead [] laterals (one_apart lead)
+
+-- ---- a group claims its traces
+
+abbrev SaidBy : (GroupId → TraceId → Option Standing) → List Claim → Type 0
+SaidBy word claims = (place : ℕ) (claim : Claim) → slice_get claims place ≡ Some claim → claim.said ≡ word claim.group claim.trace
+
+-- what holds of the claims, where this is what was said last of each
+record Hold (word : GroupId → TraceId → Option Standing) (s : PlainClaims) : Type 0 where
+  together : AreTogether s
+  once : AreOnce s.claims
+  said : SaidBy word s.claims
+
+new_ids : (group : GroupId) (traces : List TraceId) → map group_of (map (claim_of group) traces) ≡ replicate (length traces) group
+new_ids group [] = refl
+new_ids group (trace ∷ traces) = ap (λ (ids : List GroupId). group ∷ ids) (new_ids group traces)
+
+nothing_behind : {A : Type 0} (xs : List A) → xs ++ [] ≡ xs
+nothing_behind [] = refl
+nothing_behind {A = A} (x ∷ xs) = ap (λ (ys : List A). x ∷ ys) (nothing_behind xs)
+
+together_new : (s : PlainClaims) (group : GroupId) (traces : List TraceId) → AreTogether s → AreTogether (with_claims s group traces)
+together_new s group traces together =
+    map_append group_of s.claims (map (claim_of group) traces)
+    ∙ ap (λ (ids : List GroupId). ids ++ map group_of (map (claim_of group) traces)) together
+    ∙ ap (λ (ids : List GroupId). flat_map ids_of s.groups ++ ids) (new_ids group traces ∙ sym (nothing_behind (replicate (length traces) group)))
+    ∙ sym (flat_map-append ids_of s.groups (claimant group (length traces) ∷ []))
+
+-- the claims of a group that is not known
+module _ (s : PlainClaims) (group : GroupId) (traces : List TraceId) (unknown : is_known s group ≡ false) (together : AreTogether s) where
+  other_group : (place : ℕ) (claim : Claim) → slice_get s.claims place ≡ Some claim → same_group claim.group group ≡ false
+  other_group place claim at =
+      by_answer (same_group claim.group group)
+      (λ y. let known : is_known s group ≡ true = subst (λ (x : GroupId). is_known s x ≡ true) (group_same claim.group group y) (known_at s together place claim at) in
+      let never : true ≡ false = sym known ∙ unknown in
+      absurd cc)
+      (λ n. n)
+
+  new_claim : (place : ℕ) (claim : Claim) → slice_get (map (claim_of group) traces) place ≡ Some claim → (trace : TraceId) × (slice_get traces place ≡ Some trace) × (claim_of group trace ≡ claim)
+  new_claim place claim at = get_unmap (claim_of group) traces place claim at
+
+  once_new : AreApart traces → AreOnce s.claims → AreOnce (s.claims ++ map (claim_of group) traces)
+  once_new apart once place other a b first second same =
+      elim (get_both s.claims (map (claim_of group) traces) place a first) [
+        | inl old ↦
+            elim (get_both s.claims (map (claim_of group) traces) other b second) [
+              | inl older ↦ once place other a b old older same
+              | inr new ↦
+                  let n = new_claim new.place b new.there in
+                  let on : same_group a.group group ≡ true = ap (λ (c : Claim). same_group a.group c.group) n.2 ∙ first_true (same_group a.group b.group) (same_trace a.trace b.trace) same in
+                  let never : true ≡ false = sym on ∙ other_group place a old in
+                  absurd cc
+            ]
+        | inr new ↦
+            let n = new_claim new.place a new.there in
+            elim (get_both s.claims (map (claim_of group) traces) other b second) [
+              | inl older ↦
+                  let both : a.group ≡ b.group = group_same a.group b.group (first_true (same_group a.group b.group) (same_trace a.trace b.trace) same) in
+                  let on : same_group b.group group ≡ true = ap (λ (x : GroupId). same_group b.group x) (ap (λ (c : Claim). c.group) n.2 ∙ both) ∙ group_refl b.group in
+                  let never : true ≡ false = sym on ∙ other_group other b older in
+                  absurd cc
+              | inr newer ↦
+                  let m = new_claim newer.place b newer.there in
+                  let on : same_trace n.0 m.0 ≡ true = ap (λ (c : Claim). same_trace c.trace m.0) n.2 ∙ ap (λ (c : Claim). same_trace a.trace c.trace) m.2 ∙ second_true (same_group a.group b.group) (same_trace a.trace b.trace) same in
+                  let places = apart new.place newer.place n.0 m.0 n.1 m.1 on in
+                  let one = new.is in
+                  let two = newer.is in
+                  omega (arith, places, one, two)
+            ]
+      ]
+
+  -- of a claim of another group the word stays, and of this one there is none
+  abbrev anew : (GroupId → TraceId → Option Standing) → GroupId → TraceId → Option Standing
+  anew word other trace = if same_group other group && not (is_known s group) then None else word other trace
+
+  said_old : (word : GroupId → TraceId → Option Standing) → SaidBy word s.claims → SaidBy (anew word) s.claims
+  said_old word said place claim at = said place claim at ∙ sym (ap (λ b. if b && not (is_known s group) then None else word claim.group claim.trace) (other_group place claim at))
+
+  said_new : (word : GroupId → TraceId → Option Standing) → SaidBy word s.claims → SaidBy (anew word) (s.claims ++ map (claim_of group) traces)
+  said_new word said place claim at =
+      elim (get_both s.claims (map (claim_of group) traces) place claim at) [
+        | inl old ↦ said_old word said place claim old
+        | inr new ↦
+            let n = new_claim new.place claim new.there in
+            let none : claim.said ≡ None = ap (λ (c : Claim). c.said) (sym n.2) in
+            let on : (same_group claim.group group && not (is_known s group)) ≡ true =
+            and_from _ _ (ap (λ (c : Claim). same_group c.group group) (sym n.2) ∙ group_refl group) (ap not unknown) in
+            none ∙ sym (ap (λ b. if b then None else word claim.group claim.trace) on)
+      ]
+
+claims_any : (word : GroupId → TraceId → Option Standing) (s : PlainClaims) (group : GroupId) (lead : TraceId) (laterals : List TraceId) → Hold word s
+    → Hold (λ other trace. if same_group other group && not (is_known s group) then None else word other trace) (after_claim s group (traces_of lead laterals))
+claims_any word s group lead laterals hold = at (is_known s group) (is_full_for s (traces_of lead laterals)) refl
+  where
+    and_off : (b : Bool) → (b && false) ≡ false
+    and_off true = refl
+    and_off false = refl
+
+    at : (known full : Bool) → is_known s group ≡ known
+        → Hold (λ other trace. if same_group other group && not (is_known s group) then None else word other trace) (if known || full then s else with_claims s group (traces_of lead laterals))
+    at true full known = record {
+      together = hold.together;
+      once = hold.once;
+      said = λ place claim is.
+          hold.said place claim is
+          ∙ sym (ap (λ b. if b then None else word claim.group claim.trace) (ap (λ b. same_group claim.group group && not b) known ∙ and_off (same_group claim.group group)));
+    }
+    at false true unknown = record {
+      together = hold.together;
+      once = hold.once;
+      said = said_old s group (traces_of lead laterals) unknown hold.together word hold.said;
+    }
+    at false false unknown = record {
+      together = together_new s group (traces_of lead laterals) hold.together;
+      once = once_new s group (traces_of lead laterals) unknown hold.together (traces_apart lead laterals) hold.once;
+      said = said_new s group (traces_of lead laterals) unknown hold.together word hold.said;
+    }
+
+-- ---- a message speaks of a group
+
+spoken_ids : (number : ℕ) (groups : List Claimant) (place : ℕ) (one : Claimant) → slice_get groups place ≡ Some one → flat_map ids_of (set groups place (with_number number one)) ≡ flat_map ids_of groups
+spoken_ids number [] place one at = refl
+spoken_ids number (first ∷ groups) zero one at = ap (λ (c : Claimant). ids_of c ++ flat_map ids_of groups) (sym (same_Some first one at))
+spoken_ids number (first ∷ groups) (suc place) one at = ap (λ (ids : List GroupId). ids_of first ++ ids) (spoken_ids number groups place one at)
+
+same_ids : (number : ℕ) (groups : List Claimant) (o : Option ℕ) → flat_map ids_of (option_map_or (noted_at number groups) o groups) ≡ flat_map ids_of groups
+same_ids number groups None = refl
+same_ids number groups (Some place) = at (slice_get groups place) refl
+  where
+    at : (o : Option Claimant) → slice_get groups place ≡ o → flat_map ids_of (option_map_or (λ one. set groups place (with_number number one)) o groups) ≡ flat_map ids_of groups
+    at None is = refl
+    at (Some one) is = spoken_ids number groups place one is
+
+together_spoke : (s : PlainClaims) (group : GroupId) (number : ℕ) → AreTogether s → AreTogether (after_spoke s group number)
+together_spoke s group number together = together ∙ sym (same_ids number s.groups (position (is_the group) s.groups))
+
+-- ---- a standing is said of the claim that is looked at
+
+abbrev said_again : (GroupId → TraceId → Option Standing) → Bool → Standing → GroupId → TraceId → Option Standing
+said_again word taken standing group trace = if taken && (same_group standing.group group && same_trace standing.trace trace) then Some standing else word group trace
+
+module _ (word : GroupId → TraceId → Option Standing) (s : PlainClaims) (hold : Hold word s) (standing : Standing) (number : ℕ) (claim : Claim) (here : slice_get s.claims s.place ≡ Some claim) (about : is_about standing claim ≡ true) where
+  abbrev spoken : Claim
+  spoken = record claim { said = Some standing }
+
+  -- what stood at a place before
+  record Was (place : ℕ) (x : Claim) : Type 0 where
+    item : Claim
+    there : slice_get s.claims place ≡ Some item
+    group_is : item.group ≡ x.group
+    trace_is : item.trace ≡ x.trace
+
+  was : (place : ℕ) (x : Claim) → slice_get (set s.claims s.place spoken) place ≡ Some x → Was place x
+  was place x at =
+      elim (get_set_cases s.claims s.place place claim spoken x here at) [
+        | inl h ↦ record { item = claim; there = ap (slice_get s.claims) (sym h.0) ∙ here; group_is = ap (λ (c : Claim). c.group) h.1; trace_is = ap (λ (c : Claim). c.trace) h.1 }
+        | inr h ↦ record { item = x; there = h.1; group_is = refl; trace_is = refl }
+      ]
+
+  once_said : AreOnce (set s.claims s.place spoken)
+  once_said place other a b first second same =
+      let one = was place a first in
+      let two = was other b second in
+      hold.once place other one.item two.item one.there two.there
+      (and_from _ _ (ap (λ (g : GroupId). same_group g two.item.group) one.group_is ∙ ap (same_group a.group) two.group_is ∙ first_true (same_group a.group b.group) (same_trace a.trace b.trace) same)
+      (ap (λ (t : TraceId). same_trace t two.item.trace) one.trace_is ∙ ap (same_trace a.trace) two.trace_is ∙ second_true (same_group a.group b.group) (same_trace a.trace b.trace) same))
+
+  said_said : SaidBy (said_again word true standing) (set s.claims s.place spoken)
+  said_said place x at =
+      elim (get_set_cases s.claims s.place place claim spoken x here at) [
+        | inl h ↦
+            let on : (same_group standing.group x.group && same_trace standing.trace x.trace) ≡ true = ap (λ (c : Claim). same_group standing.group c.group && same_trace standing.trace c.trace) (sym h.1) ∙ about in
+            let now : x.said ≡ Some standing = ap (λ (c : Claim). c.said) (sym h.1) in
+            now ∙ sym (ap (λ b. if b then Some standing else word x.group x.trace) on)
+        | inr h ↦
+            let off : (same_group standing.group x.group && same_trace standing.trace x.trace) ≡ false =
+            by_answer (same_group standing.group x.group && same_trace standing.trace x.trace)
+            (λ y. let g : standing.group ≡ x.group = group_same standing.group x.group (first_true (same_group standing.group x.group) (same_trace standing.trace x.trace) y) in
+            let t : standing.trace ≡ x.trace = trace_same standing.trace x.trace (second_true (same_group standing.group x.group) (same_trace standing.trace x.trace) y) in
+            let c : standing.group ≡ claim.group = group_same standing.group claim.group (first_true (same_group standing.group claim.group) (same_trace standing.trace claim.trace) about) in
+            let u : standing.trace ≡ claim.trace = trace_same standing.trace claim.trace (second_true (same_group standing.group claim.group) (same_trace standing.trace claim.trace) about) in
+            let both : same_claim claim x ≡ true =
+            and_from _ _ (ap (λ (a : GroupId). same_group a x.group) (sym c ∙ g) ∙ group_refl x.group) (ap (λ (a : TraceId). same_trace a x.trace) (sym u ∙ t) ∙ trace_refl x.trace) in
+            absurd (h.0 (hold.once s.place place claim x here h.1 both)))
+            (λ n. n) in
+            hold.said place x h.1 ∙ sym (ap (λ b. if b then Some standing else word x.group x.trace) off)
+      ]
+
+  together_said : AreTogether (after_spoke (with_said s standing claim) standing.group number)
+  together_said =
+      together_spoke (with_said s standing claim) standing.group number
+      (map_set group_of s.claims s.place spoken ∙ set_same (map group_of s.claims) s.place claim.group (get_map group_of s.claims s.place claim here) ∙ hold.together)
+
+says_any : (word : GroupId → TraceId → Option Standing) (s : PlainClaims) (standing : Standing) (number : ℕ) → Hold word s → Hold (said_again word (is_news_in s standing) standing) (after_said s standing number)
+says_any word s standing number hold = at (slice_get s.claims s.place) refl
+  where
+    same : Hold (said_again word false standing) s
+    same = record { together = hold.together; once = hold.once; said = hold.said }
+
+    taken : (claim : Claim) → slice_get s.claims s.place ≡ Some claim → (b : Bool) → is_news_of standing claim ≡ b
+        → Hold (said_again word b standing) (if b then after_spoke (with_said s standing claim) standing.group number else s)
+    taken claim here true news =
+        let about = first_true (is_about standing claim) _ news in
+        record {
+          together = together_said word s hold standing number claim here about;
+          once = once_said word s hold standing number claim here about;
+          said = said_said word s hold standing number claim here about;
+        }
+    taken claim here false news = same
+
+    at : (o : Option Claim) → slice_get s.claims s.place ≡ o
+        → Hold (said_again word (option_map_or (is_news_of standing) o false) standing)
+        (option_map_or (λ claim. if is_news_of standing claim then after_spoke (with_said s standing claim) standing.group number else s) o s)
+    at None is = same
+    at (Some claim) is = taken claim is (is_news_of standing claim) refl
+
+-- ---- the group that claimed first is forgotten
+
+forgets_any : (word : GroupId → TraceId → Option Standing) (s : PlainClaims) → Hold word s → Hold word (after_forget s)
+forgets_any word s hold = at s.groups refl
+  where
+    rest_ids : (groups : List Claimant) (one : Claimant) → drop one.traces (ids_of one ++ flat_map ids_of groups) ≡ flat_map ids_of groups
+    rest_ids groups one =
+        ap (λ n. drop n (ids_of one ++ flat_map ids_of groups)) (sym (length-replicate one.traces one.group)) ∙ drop_front (ids_of one) (flat_map ids_of groups)
+
+    at : (groups : List Claimant) → s.groups ≡ groups → Hold word (option_map_or (without_oldest s) (slice_get groups 0) s)
+    at [] is = hold
+    at (one ∷ groups) is = record {
+      together =
+          map_drop group_of one.traces s.claims
+          ∙ ap (drop one.traces) (hold.together ∙ ap (flat_map ids_of) is)
+          ∙ rest_ids groups one
+          ∙ sym (ap (λ (gs : List Claimant). flat_map ids_of (drop 1 gs)) is);
+      once = λ place other a b first second same.
+          (let places = hold.once (one.traces + place) (one.traces + other) a b (get_drop one.traces s.claims place a first) (get_drop one.traces s.claims other b second) same in omega (arith, places));
+      said = λ place claim found. hold.said (one.traces + place) claim (get_drop one.traces s.claims place claim found);
+    }
+
+-- ---- and any deeds
+
+none_hold : (most : ℕ) → Hold (λ group trace. None) (no_claims most)
+none_hold most = record {
+  together = refl;
+  once = λ place other a b first second same. (let never : None ≡ Some a = first in absurd cc);
+  said = λ place claim found. (let never : None ≡ Some claim = found in absurd cc);
+}
+
+by_deed : (word : GroupId → TraceId → Option Standing) (s : PlainClaims) (deed : Deed) → Hold word s → Hold (λ group trace. news_by s group trace deed (word group trace)) (after s deed)
+by_deed word s (Claims group lead laterals) hold = claims_any word s group lead laterals hold
+by_deed word s (Speaks group number) hold = record { together = together_spoke s group number hold.together; once = hold.once; said = hold.said }
+by_deed word s (Says standing number) hold = says_any word s standing number hold
+by_deed word s LooksOn hold = record { together = hold.together; once = hold.once; said = hold.said }
+by_deed word s Forgets hold = forgets_any word s hold
+
+all_hold : (most : ℕ) (deeds : List Deed) → Hold (λ group trace. latest_news most group trace deeds) (claims_after most deeds)
+all_hold most [] = none_hold most
+all_hold most (deed ∷ deeds) = by_deed (λ group trace. latest_news most group trace deeds) (claims_after most deeds) deed (all_hold most deeds)
+
+pub are_kept : (most : ℕ) (deeds : List Deed) → AreKept most deeds
+are_kept most deeds =
+    let hold = all_hold most deeds in
+    record { said = hold.said; once = hold.once; known = known_at (claims_after most deeds) hold.together }

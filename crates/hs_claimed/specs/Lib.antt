@@ -1,0 +1,4 @@
+pub mod News
+pub mod Claims
+pub mod ClaimsLayout
+pub mod Lives

@@ -1,0 +1,80 @@
+-- The life of a list of claims: calls in any order and number, the latest one first, and what was said last of each claim.
+use Rattle.std.specs.Prelude.{◌≡◌, ℕ, zero, suc, ◌<◌, Bool, true, not, ◌&&◌, List, [], ◌∷◌, length, slice_get, Option, Some, None, if◌then◌else◌, refl}
+use Rattle.hs_base.specs.declared.ids.TraceId.{TraceId}
+use Rattle.hs_base.specs.declared.ids.GroupId.{GroupId}
+use Rattle.hs_base.specs.Ids.{same_trace}
+use Rattle.hs_base.specs.Samples.{t}
+use Rattle.hs_wire.specs.declared.message.Standing.{Standing}
+use Rattle.hs_wire.specs.declared.message.Wholeness.TheVariants.{WholeSince, UnheardSince}
+use Rattle.hs_claimed.specs.declared.answers.Claim.{Claim}
+use Rattle.hs_claimed.specs.News.{word}
+use Rattle.hs_claimed.specs.Claims.{PlainClaims, no_claims, same_group, traces_of, is_known, after_claim, after_spoke, is_news_in, after_said, advanced, after_forget, g}
+
+pub data Deed : Type 0 where
+  Claims : (group : GroupId) → (lead : TraceId) → (laterals : List TraceId) → Deed
+  Speaks : (group : GroupId) → (number : ℕ) → Deed
+  Says : (standing : Standing) → (number : ℕ) → Deed
+  LooksOn : Deed
+  Forgets : Deed
+
+abbrev pub after : PlainClaims → Deed → PlainClaims
+after s (Claims group lead laterals) = after_claim s group (traces_of lead laterals)
+after s (Speaks group number) = after_spoke s group number
+after s (Says standing number) = after_said s standing number
+after s LooksOn = advanced s
+after s Forgets = after_forget s
+
+-- the claims after these deeds
+abbrev pub claims_after : ℕ → List Deed → PlainClaims
+claims_after most [] = no_claims most
+claims_after most (deed ∷ deeds) = after (claims_after most deeds) deed
+
+-- what was said last of a trace and a group behind a deed, where this was before it: nothing behind a new claim
+abbrev pub news_by : PlainClaims → GroupId → TraceId → Deed → Option Standing → Option Standing
+news_by s group trace (Claims other lead laterals) before = if same_group group other && not (is_known s other) then None else before
+news_by s group trace (Speaks other number) before = before
+news_by s group trace (Says standing number) before = if is_news_in s standing && (same_group standing.group group && same_trace standing.trace trace) then Some standing else before
+news_by s group trace LooksOn before = before
+news_by s group trace Forgets before = before
+
+-- the latest standing of a trace and a group that was news and was said, since the group claimed
+abbrev pub latest_news : ℕ → GroupId → TraceId → List Deed → Option Standing
+latest_news most group trace [] = None
+latest_news most group trace (deed ∷ deeds) = news_by (claims_after most deeds) group trace deed (latest_news most group trace deeds)
+
+-- whether two claims are of one group and trace
+abbrev pub same_claim : Claim → Claim → Bool
+same_claim a b = same_group a.group b.group && same_trace a.trace b.trace
+
+-- What holds of the claims after these deeds.
+pub record AreKept (most : ℕ) (deeds : List Deed) : Type 0 where
+  -- what was said last of each is its latest news
+  pub said : (place : ℕ) (claim : Claim) → slice_get (claims_after most deeds).claims place ≡ Some claim → claim.said ≡ latest_news most claim.group claim.trace deeds
+  -- a group claims a trace once
+  pub once : (place other : ℕ) (a b : Claim) → slice_get (claims_after most deeds).claims place ≡ Some a → slice_get (claims_after most deeds).claims other ≡ Some b → same_claim a b ≡ true → place ≡ other
+  -- the group of each is known, so it is forgotten with its claims
+  pub known : (place : ℕ) (claim : Claim) → slice_get (claims_after most deeds).claims place ≡ Some claim → is_known (claims_after most deeds) claim.group ≡ true
+
+-- so many steps on
+abbrev pub steps_on : ℕ → PlainClaims → PlainClaims
+steps_on zero s = s
+steps_on (suc n) s = advanced (steps_on n s)
+
+-- The claim at a place is looked at after fewer steps than there are claims.
+pub record ComesRound (s : PlainClaims) (place : ℕ) : Type 0 where
+  pub steps : ℕ
+  pub few : steps < length s.claims
+  pub there : (steps_on steps s).place ≡ place
+
+-- ---- worked examples: group 7 claims trace 9
+
+abbrev life : List Deed
+life = Says (word WholeSince 6 1) 5 ∷ Says (word UnheardSince 2 0) 4 ∷ Says (word UnheardSince 0 0) 3 ∷ Claims (g 7) (t 9) [] ∷ []
+
+-- the second word was no news
+latest : (latest_news 4 (g 7) (t 9) life ≡ Some (word WholeSince 6 1)) × (latest_news 4 (g 7) (t 8) life ≡ None)
+latest = (refl, refl)
+
+-- nothing was said of it since it was claimed anew
+anew : latest_news 4 (g 7) (t 9) (Claims (g 7) (t 9) [] ∷ Forgets ∷ life) ≡ None
+anew = refl

@@ -1,0 +1,31 @@
+//! What the calls take and answer.
+
+use hs_base::{GroupId, TraceId};
+use hs_wire::Standing;
+
+/// A trace that a group claims, with the standing that was said of it last, if one was.
+#[derive(Clone, Copy, Debug, PartialEq, Eq)]
+pub struct Claim {
+    pub group: GroupId,
+    pub trace: TraceId,
+    pub said: Option<Standing>,
+}
+
+/// A group that claims traces: how many, and the greatest number of a message that speaks of it, if one does.
+#[derive(Clone, Copy, Debug, PartialEq, Eq)]
+pub struct Claimant {
+    pub group: GroupId,
+    pub traces: u32,
+    pub last: Option<u64>,
+}
+
+/// What became of a group that claims traces.
+#[derive(Clone, Copy, Debug, PartialEq, Eq)]
+pub enum Claiming {
+    /// Each of its traces is claimed from now on.
+    Claimed,
+    /// It claims some already.
+    Known,
+    /// There are more traces than free places.
+    Full,
+}
