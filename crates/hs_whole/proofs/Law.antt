@@ -1,20 +1,17 @@
 -- Over any deeds, what is said to be whole is so.
-use Rattle.std.proofs.Common.{◌≡◌, inl, ℕ, zero, suc, ◌+◌, ◌<◌, ◌≤◌, ◌^◌, eqb-true, Bool, true, false, not, ◌||◌, List, [], ◌∷◌, ◌++◌, length, slice_get, unwrap_or, replicate, count_by, Option, Some, None, refl, sym, ap, subst, arith, ◌∙◌}
+use Rattle.std.proofs.Common.{◌≡◌, inl, ℕ, zero, suc, ◌+◌, ◌<◌, ◌≤◌, ◌^◌, eqb-true, Bool, true, false, not, ◌||◌, List, [], ◌∷◌, ◌++◌, length, slice_get, unwrap_or, replicate, Option, Some, None, refl, sym, ap, subst, arith, ◌∙◌}
 use Rattle.std.specs.Prelude.{nat_lt, ◌==◌, if◌then◌else◌}
 use Rattle.std.specs.Option.{option_map_or}
-use Rattle.hs_lists.proofs.Counts.{one_if, count_cons}
-use Rattle.hs_lists.proofs.Bools.{by_answer}
 use Rattle.hs_base.specs.declared.ids.TraceId.{TraceId}
 use Rattle.hs_wire.specs.declared.message.Wholeness.TheVariants.{WholeSince, Lost, UnheardSince, Unknown, Open}
 use Rattle.hs_whole.specs.declared.answers.NoteLimits.{NoteLimits}
-use Rattle.hs_whole.specs.declared.track.Track.{Track}
 use Rattle.hs_whole.specs.declared.kept.Kept.{Kept}
 use Rattle.hs_whole.specs.Tracks.{no_notes, is_open}
 use Rattle.hs_whole.specs.Kept.{wholeness}
 use Rattle.hs_whole.specs.Notes.{AreOut, no_notes_in, kept_of, open_segments, wholeness_of}
-use Rattle.hs_whole.specs.History.{Deed, Opens, Closes, Loses, HandsOut, Misses, IsOfClient, AreOfClients, notes_after, opens, segments, hands_out, handed_out_of, IsWholeSince}
-use Rattle.hs_whole.proofs.Standings.{most, IsKept, Stands}
-use Rattle.hs_whole.proofs.Steps.{IsLike, any_deed, like_after}
+use Rattle.hs_whole.specs.History.{Deed, Opens, Closes, Loses, HandsOut, Misses, Waits, IsOfClient, AreOfClients, HavePlaces, notes_after, opens, segments, hands_out, handed_out_of, IsWholeSince}
+use Rattle.hs_whole.proofs.Standings.{most, IsKept, Stands, all_announced}
+use Rattle.hs_whole.proofs.Steps.{IsLike, none_open_at, any_deed, like_after}
 
 -- ---- counts of deeds
 
@@ -24,6 +21,7 @@ opens_one (Closes client number trace report) = omega arith
 opens_one (Loses trace loss count) = omega arith
 opens_one (HandsOut trace) = omega arith
 opens_one Misses = omega arith
+opens_one (Waits trace) = omega arith
 
 segments_few : (deeds : List Deed) → segments deeds ≤ length deeds
 segments_few [] = omega arith
@@ -39,6 +37,7 @@ hands_one trace (Closes client number other report) = omega arith
 hands_one trace (Loses other loss count) = omega arith
 hands_one trace (HandsOut other) = if_one _
 hands_one trace Misses = omega arith
+hands_one trace (Waits other) = omega arith
 
 handed_few : (trace : TraceId) (deeds : List Deed) → handed_out_of trace deeds ≤ length deeds
 handed_few trace [] = omega arith
@@ -71,7 +70,7 @@ like_first limits in_range = record {
   few = omega arith;
   clients = replicate_long limits.clients;
   heard = refl;
-  tracks = λ client low. none_at_first limits.clients client;
+  tracks = λ client. none_at_first limits.clients client;
 }
 
 -- ---- and after any deeds
@@ -80,16 +79,16 @@ record AllHold (limits : NoteLimits) (trace : TraceId) (deeds : List Deed) : Typ
   like : IsLike limits deeds (notes_after limits deeds)
   stands : Stands false false trace deeds (notes_after limits deeds).horizon (kept_of (notes_after limits deeds) trace)
 
-all_hold : (limits : NoteLimits) (trace : TraceId) → (AreOut limits → ⊥) → (deeds : List Deed) → AreOfClients limits.clients deeds → length deeds < 2 ^ 63 → AllHold limits trace deeds
-all_hold limits trace in_range [] of bound = record { like = like_first limits in_range; stands = (refl, omega arith) }
-all_hold limits trace in_range (deed ∷ deeds) of bound =
-    let rest = all_hold limits trace in_range deeds of.1 (omega (arith, bound)) in
+all_hold : (limits : NoteLimits) (trace : TraceId) → (AreOut limits → ⊥) → (deeds : List Deed) → AreOfClients limits.clients deeds → HavePlaces limits deeds → length deeds < 2 ^ 63 → AllHold limits trace deeds
+all_hold limits trace in_range [] of places bound = record { like = like_first limits in_range; stands = (refl, omega arith, record { settled = omega arith; closed = λ client. refl }) }
+all_hold limits trace in_range (deed ∷ deeds) of places bound =
+    let rest = all_hold limits trace in_range deeds of.1 places.1 (omega (arith, bound)) in
     let few = segments_few deeds in
     let low : segments deeds + 1 ≤ most = omega (arith, few, bound) in
     let there : IsOfClient (notes_after limits deeds).limits.clients deed = subst (λ (l : NoteLimits). IsOfClient l.clients deed) (sym rest.like.limits) of.0 in
     record {
       like = like_after limits deeds (notes_after limits deeds) rest.like deed there low;
-      stands = any_deed limits deeds (notes_after limits deeds) rest.like deed trace there low rest.stands;
+      stands = any_deed limits deeds (notes_after limits deeds) rest.like deed trace there places.0 low rest.stands;
     }
 
 -- ---- what is said to be whole
@@ -115,16 +114,6 @@ says_whole count k is =
 none_below : (n : ℕ) → nat_lt 0 n ≡ false → n ≡ 0
 none_below n off = grind (arith, off)
 
-none_open_at : (trace : TraceId) (tracks : List Track) (place : ℕ) → count_by (is_open trace) tracks ≡ 0 → is_open trace (unwrap_or (slice_get tracks place) no_notes) ≡ false
-none_open_at trace [] zero none = refl
-none_open_at trace [] (suc place) none = refl
-none_open_at trace (track ∷ tracks) zero none =
-    by_answer (is_open trace track)
-    (λ y. let counted = count_cons (is_open trace) track tracks in let one : one_if (is_open trace track) ≡ 1 = ap one_if y in absurd (omega (arith, counted, one, none)))
-    (λ n. n)
-none_open_at trace (track ∷ tracks) (suc place) none =
-    none_open_at trace tracks place (let counted = count_cons (is_open trace) track tracks in omega (arith, counted, none))
-
 heard_all : (limits : NoteLimits) (trace : TraceId) (deeds : List Deed) (k : Kept) → length deeds < 2 ^ 63 → IsLike limits deeds (notes_after limits deeds)
     → IsKept false trace deeds (notes_after limits deeds).horizon k → SaysWhole (open_segments (notes_after limits deeds) trace) k → IsWholeSince (notes_after limits deeds).horizon limits.clients trace deeds
 heard_all limits trace deeds k bound like stands says = record {
@@ -132,11 +121,11 @@ heard_all limits trace deeds k bound like stands says = record {
   earlier = stands.earlier;
   parts = stands.parts;
   horizon_holds = stands.before;
+  over = stands.over;
   heard = stands.heard says.not_missed;
   in_order = stands.in_order says.not_missed;
   closed = λ client low.
-      let clients : (notes_after limits deeds).limits.clients ≡ limits.clients = ap (λ (l : NoteLimits). l.clients) like.limits in
-      ap (is_open trace) (sym (like.tracks client (omega (arith, low, clients))))
+      ap (is_open trace) (sym (like.tracks client))
       ∙ none_open_at trace (notes_after limits deeds).tracks client (none_below (open_segments (notes_after limits deeds) trace) says.none_open);
   handed_out = (
       let few = handed_few trace stands.later in
@@ -144,16 +133,17 @@ heard_all limits trace deeds k bound like stands says = record {
       let same : length deeds ≡ length (stands.later ++ stands.earlier) = ap length stands.parts in
       let equal = eqb-true k.sent k.handed_out says.all_out in
       let sent = stands.sent in
+      let all = all_announced trace stands.later stands.earlier (stands.in_order says.not_missed) in
       let out = stands.out in
-      omega (arith, few, part, same, equal, sent, out, bound)
+      omega (arith, few, part, same, equal, sent, all, out, bound)
       );
   nothing_lost = stands.lost says.not_lost;
 }
 
-pub said_whole : (limits : NoteLimits) (trace : TraceId) (deeds : List Deed) → (AreOut limits → ⊥) → AreOfClients limits.clients deeds → length deeds < 2 ^ 63
+pub said_whole : (limits : NoteLimits) (trace : TraceId) (deeds : List Deed) → (AreOut limits → ⊥) → AreOfClients limits.clients deeds → HavePlaces limits deeds → length deeds < 2 ^ 63
     → wholeness_of (notes_after limits deeds) trace ≡ WholeSince → IsWholeSince (notes_after limits deeds).horizon limits.clients trace deeds
-said_whole limits trace deeds in_range of bound =
-    let all = all_hold limits trace in_range deeds of bound in
+said_whole limits trace deeds in_range of places bound =
+    let all = all_hold limits trace in_range deeds of places bound in
     at (kept_of (notes_after limits deeds) trace) all.like all.stands
   where
     at : (o : Option Kept) → IsLike limits deeds (notes_after limits deeds) → Stands false false trace deeds (notes_after limits deeds).horizon o

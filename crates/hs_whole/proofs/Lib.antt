@@ -1,4 +1,5 @@
 pub mod Looking
+pub mod Searching
 pub mod Standings
 pub mod Steps
 pub mod Law

@@ -128,6 +128,7 @@ length-promoted other es = at (lookup_entry (same_trace other) es) refl
 -- the trace was the last of the list
 pub record IsLast (trace : TraceId) (es : Traces) (n : ℕ) : Type 0 where
   pub last : TraceId × Kept
+  pub named : same_trace trace last.0 ≡ true
   pub there : slice_get es n ≡ Some last
   pub was : found trace es ≡ Some last.1
   pub gone : found trace (take n es) ≡ None
@@ -137,7 +138,7 @@ dropped trace [] zero few = inl refl
 dropped trace [] (suc n) few = inl refl
 dropped trace (e ∷ []) zero few =
     by_answer (same_trace trace e.0)
-    (λ y. inr (record { last = e; there = refl; was = ap (λ b. cond b (Some e.1) None) y; gone = refl }))
+    (λ y. inr (record { last = e; named = y; there = refl; was = ap (λ b. cond b (Some e.1) None) y; gone = refl }))
     (λ n. inl (sym (ap (λ b. cond b (Some e.1) None) n)))
 dropped trace (e ∷ f ∷ es) zero few = absurd (omega (arith, few))
 dropped trace (e ∷ es) (suc n) few =
@@ -147,6 +148,7 @@ dropped trace (e ∷ es) (suc n) few =
       | inl same ↦ inl (ap (λ o. cond (same_trace trace e.0) (Some e.1) o) same)
       | inr gone ↦ inr (record {
         last = gone.last;
+        named = gone.named;
         there = gone.there;
         was = ap (λ b. cond b (Some e.1) (found trace es)) no ∙ gone.was;
         gone = ap (λ b. cond b (Some e.1) (found trace (take n es))) no ∙ gone.gone;

@@ -1,14 +1,23 @@
 -- What a node keeps of one trace, against what it heard: a later part of the deeds is counted in what is kept, and no segment before
 -- that part is behind the horizon.
-use Rattle.std.proofs.Common.{◌≡◌, ℕ, ◌+◌, ◌-◌, ◌≤◌, ◌^◌, min, max, Bool, true, false, ◌||◌, List, [], ◌∷◌, ◌++◌, Option, Some, None, option_map, refl, ap, subst, arith, ◌∙◌}
-use Rattle.std.specs.Prelude.{if◌then◌else◌}
+use Rattle.std.proofs.Common.{◌≡◌, ℕ, ◌+◌, ◌-◌, ◌<◌, ◌≤◌, ◌^◌, min, max, Bool, true, false, ◌||◌, ◌&&◌, List, [], ◌∷◌, ◌++◌, Option, Some, None, option_map, refl, sym, ap, subst, arith, ◌∙◌}
+use Rattle.std.specs.Prelude.{if◌then◌else◌, nat_lt, nat_le}
+use Rattle.hs_lists.proofs.Bools.{first_true, second_true}
 use Rattle.hs_base.specs.declared.ids.TraceId.{TraceId}
 use Rattle.hs_whole.specs.declared.kept.Kept.{Kept}
-use Rattle.hs_whole.specs.Kept.{fresh, misses}
-use Rattle.hs_whole.specs.History.{Deed, opens, opens_of, segments, latest_of, has_segment, sends, sent_of, hands_out, handed_out_of, loses_some, is_lost_in, IsInOrder, AreInOrder}
+use Rattle.hs_whole.specs.Kept.{fresh, misses, is_settled}
+use Rattle.hs_whole.specs.History.{Deed, Opens, Closes, Loses, HandsOut, Misses, Waits, opens, opens_of, segments, latest_of, has_segment, sends, sent_of, announces, announced_of, hands_out, handed_out_of, lets_go, let_go_of, track_after, loses_some, is_lost_in, IsInOrder, AreInOrder, IsOver}
+use Rattle.hs_whole.specs.Tracks.{is_open, ends_next}
+use Rattle.hs_base.specs.Ids.{same_trace}
+use Rattle.hs_whole.specs.declared.answers.SegmentReport.{SegmentReport}
 
 abbrev pub most : ℕ
 most = 2 ^ 64 - 1
+
+-- the pages that segments announced in a later part
+abbrev pub announced_in : TraceId → List Deed → List Deed → ℕ
+announced_in trace [] earlier = 0
+announced_in trace (deed ∷ later) earlier = announced_in trace later earlier + announces trace deed (later ++ earlier)
 
 -- `pending`: a segment is about to begin
 pub record IsKept (pending : Bool) (trace : TraceId) (deeds : List Deed) (horizon : ℕ) (k : Kept) : Type 0 where
@@ -16,16 +25,18 @@ pub record IsKept (pending : Bool) (trace : TraceId) (deeds : List Deed) (horizo
   pub earlier : List Deed
   pub parts : deeds ≡ later ++ earlier
   pub before : latest_of trace earlier ≤ horizon
+  pub over : IsOver trace earlier
   pub latest : latest_of trace deeds ≤ max horizon k.latest
   pub heard : k.is_missed ≡ false → (pending || has_segment trace later) ≡ true
   pub in_order : k.is_missed ≡ false → AreInOrder trace later earlier
-  pub sent : k.sent ≡ min (sent_of trace later) most
+  pub sent : k.sent ≡ min (announced_in trace later earlier) most
   pub out : k.handed_out ≡ min (handed_out_of trace later) most
+  pub gone : k.losses.evicted_pages + k.losses.abandoned_pages ≤ let_go_of trace later
   pub lost : k.is_lost ≡ false → is_lost_in trace later ≡ false
 
 -- `there`: the trace is kept
 abbrev pub Stands : Bool → Bool → TraceId → List Deed → ℕ → Option Kept → Type 0
-Stands there pending trace deeds horizon None = (there ≡ false) × (latest_of trace deeds ≤ horizon)
+Stands there pending trace deeds horizon None = (there ≡ false) × (latest_of trace deeds ≤ horizon) × IsOver trace deeds
 Stands there pending trace deeds horizon (Some k) = IsKept pending trace deeds horizon k
 
 -- ---- numbers of segments
@@ -47,23 +58,25 @@ segments_behind (deed ∷ later) earlier = let rest = segments_behind later earl
 module _ (there pending : Bool) (trace : TraceId) (deeds : List Deed) where
   -- the horizon moves on
   pub raised : (horizon horizon' : ℕ) (o : Option Kept) → horizon ≤ horizon' → Stands there pending trace deeds horizon o → Stands there pending trace deeds horizon' o
-  raised horizon horizon' None up stands = (stands.0, (let low = stands.1 in omega (arith, low, up)))
+  raised horizon horizon' None up stands = (stands.0, (let low = stands.1 in omega (arith, low, up)), stands.2)
   raised horizon horizon' (Some k) up stands = record {
     later = stands.later;
     earlier = stands.earlier;
     parts = stands.parts;
     before = (let low = stands.before in omega (arith, low, up));
+    over = stands.over;
     latest = (let low = stands.latest in omega (arith, low, up));
     heard = stands.heard;
     in_order = stands.in_order;
     sent = stands.sent;
     out = stands.out;
+    gone = stands.gone;
     lost = stands.lost;
   }
 
   -- it moves to the present count
   pub presented : (horizon : ℕ) (o : Option Kept) → Stands there pending trace deeds horizon o → Stands there pending trace deeds (segments deeds) o
-  presented horizon None stands = (stands.0, latest_within trace deeds)
+  presented horizon None stands = (stands.0, latest_within trace deeds, stands.2)
   presented horizon (Some k) stands = record {
     later = stands.later;
     earlier = stands.earlier;
@@ -74,11 +87,13 @@ module _ (there pending : Bool) (trace : TraceId) (deeds : List Deed) where
         let same : segments deeds ≡ segments (stands.later ++ stands.earlier) = ap segments stands.parts in
         omega (arith, one, two, same)
         );
+    over = stands.over;
     latest = (let one = latest_within trace deeds in omega (arith, one));
     heard = stands.heard;
     in_order = stands.in_order;
     sent = stands.sent;
     out = stands.out;
+    gone = stands.gone;
     lost = stands.lost;
   }
 
@@ -90,27 +105,31 @@ module _ (there pending : Bool) (trace : TraceId) (deeds : List Deed) where
     earlier = stands.earlier;
     parts = stands.parts;
     before = stands.before;
+    over = stands.over;
     latest = stands.latest;
     heard = λ off. let never : true ≡ false = off in absurd cc;
     in_order = λ off. let never : true ≡ false = off in absurd cc;
     sent = stands.sent;
     out = stands.out;
+    gone = stands.gone;
     lost = stands.lost;
   }
 
 -- a trace that is not kept is kept from now on
-pub freshly : (pending is_missed : Bool) (trace : TraceId) (deeds : List Deed) (horizon heard : ℕ) → latest_of trace deeds ≤ horizon → (is_missed ≡ false → pending ≡ true)
+pub freshly : (pending is_missed : Bool) (trace : TraceId) (deeds : List Deed) (horizon heard : ℕ) → latest_of trace deeds ≤ horizon → IsOver trace deeds → (is_missed ≡ false → pending ≡ true)
     → IsKept pending trace deeds horizon (fresh heard is_missed)
-freshly pending is_missed trace deeds horizon heard low pends = record {
+freshly pending is_missed trace deeds horizon heard low over pends = record {
   later = [];
   earlier = deeds;
   parts = refl;
   before = low;
+  over = over;
   latest = omega (arith, low);
   heard = λ off. ap (λ b. b || false) (pends off);
   in_order = λ off. tt;
   sent = refl;
   out = refl;
+  gone = omega arith;
   lost = λ off. refl;
 }
 
@@ -122,11 +141,13 @@ kept_pending true trace deeds horizon k stands = record {
   earlier = stands.earlier;
   parts = stands.parts;
   before = stands.before;
+  over = stands.over;
   latest = stands.latest;
   heard = λ off. refl;
   in_order = stands.in_order;
   sent = stands.sent;
   out = stands.out;
+  gone = stands.gone;
   lost = stands.lost;
 }
 
@@ -141,20 +162,25 @@ pub with_deed : (deed : Deed) (pending : Bool) (trace : TraceId) (deeds : List D
     → (k'.is_missed ≡ false → k.is_missed ≡ false)
     → (k'.is_missed ≡ false → IsInOrder trace deed deeds)
     → (pending ≡ true → opens_of trace deed ≡ true)
-    → ((n : ℕ) → k.sent ≡ min n most → k'.sent ≡ min (n + sends trace deed) most)
+    → ((n : ℕ) → k.sent ≡ min n most → k'.sent ≡ min (n + announces trace deed deeds) most)
     → ((n : ℕ) → k.handed_out ≡ min n most → k'.handed_out ≡ min (n + hands_out trace deed) most)
+    → k'.losses.evicted_pages + k'.losses.abandoned_pages ≤ k.losses.evicted_pages + k.losses.abandoned_pages + lets_go trace deed
     → (k'.is_lost ≡ false → (k.is_lost ≡ false) × (loses_some trace deed ≡ false))
     → IsKept false trace (deed ∷ deeds) horizon k'
-with_deed deed pending trace deeds horizon k k' stands latest still order begins sent out lost = record {
+with_deed deed pending trace deeds horizon k k' stands latest still order begins sent out gone lost = record {
   later = deed ∷ stands.later;
   earlier = stands.earlier;
   parts = ap (λ (ds : List Deed). deed ∷ ds) stands.parts;
   before = stands.before;
+  over = stands.over;
   latest = latest;
   heard = λ off. hears pending begins (stands.heard (still off));
   in_order = λ off. (subst (IsInOrder trace deed) stands.parts (order off), stands.in_order (still off));
-  sent = sent (sent_of trace stands.later) stands.sent;
+  sent =
+      subst (λ (ds : List Deed). k'.sent ≡ min (announced_in trace stands.later stands.earlier + announces trace deed ds) most) stands.parts
+      (sent (announced_in trace stands.later stands.earlier) stands.sent);
   out = out (handed_out_of trace stands.later) stands.out;
+  gone = (let was = stands.gone in omega (arith, was, gone));
   lost = λ off. ap (λ b. b || loses_some trace deed) (stands.lost (lost off).0) ∙ (lost off).1;
 }
   where
@@ -165,22 +191,99 @@ with_deed deed pending trace deeds horizon k k' stands latest still order begins
 -- a deed that counts nothing for the trace
 pub record IsAside (trace : TraceId) (deed : Deed) : Type 0 where
   pub opens : opens_of trace deed ≡ false
-  pub sends : sends trace deed ≡ 0
+  pub sends : (deeds : List Deed) → announces trace deed deeds ≡ 0
   pub hands_out : hands_out trace deed ≡ 0
+  pub goes : lets_go trace deed ≡ 0
   pub loses : loses_some trace deed ≡ false
+  pub closed : (client : ℕ) (deeds : List Deed) → is_open trace (track_after client deeds) ≡ false → is_open trace (track_after client (deed ∷ deeds)) ≡ false
 
 latest_aside : (trace : TraceId) (deed : Deed) (deeds : List Deed) → IsAside trace deed → latest_of trace (deed ∷ deeds) ≡ latest_of trace deeds
 latest_aside trace deed deeds aside = ap (λ b. if b then segments deeds + opens deed else latest_of trace deeds) aside.opens
 
 pub aside : (trace : TraceId) (deed : Deed) (deeds : List Deed) (horizon : ℕ) (o : Option Kept) → IsAside trace deed → ((k : Kept) → o ≡ Some k → k.is_missed ≡ false → IsInOrder trace deed deeds)
     → Stands false false trace deeds horizon o → Stands false false trace (deed ∷ deeds) horizon o
-aside trace deed deeds horizon None counts order stands = (stands.0, (let same = latest_aside trace deed deeds counts in let low = stands.1 in omega (arith, same, low)))
+aside trace deed deeds horizon None counts order stands = (
+  stands.0,
+  (let same = latest_aside trace deed deeds counts in let low = stands.1 in omega (arith, same, low)),
+  record {
+    settled = (let was = stands.2.settled in let none = counts.sends deeds in let out = counts.hands_out in let gone = counts.goes in omega (arith, was, none, out, gone));
+    closed = λ client. counts.closed client deeds (stands.2.closed client);
+  },
+)
 aside trace deed deeds horizon (Some k) counts order stands =
     with_deed deed false trace deeds horizon k k stands
     (let same = latest_aside trace deed deeds counts in let low = stands.latest in omega (arith, same, low))
     (λ off. off)
     (order k refl)
     (λ never. let off : false ≡ true = never in absurd cc)
-    (λ n is. is ∙ ap (λ m. min m most) (let zero = counts.sends in omega (arith, zero)))
+    (λ n is. is ∙ ap (λ m. min m most) (let zero = counts.sends deeds in omega (arith, zero)))
     (λ n is. is ∙ ap (λ m. min m most) (let zero = counts.hands_out in omega (arith, zero)))
+    (let none = counts.goes in omega (arith, none))
     (λ off. (off, counts.loses))
+
+-- ---- a trace of which nothing is to come
+
+announced_both : (trace : TraceId) (later earlier : List Deed) → announced_of trace (later ++ earlier) ≡ announced_in trace later earlier + announced_of trace earlier
+announced_both trace [] earlier = omega arith
+announced_both trace (deed ∷ later) earlier = let rest = announced_both trace later earlier in omega (arith, rest)
+
+out_both : (trace : TraceId) (later earlier : List Deed) → handed_out_of trace (later ++ earlier) ≡ handed_out_of trace later + handed_out_of trace earlier
+out_both trace [] earlier = omega arith
+out_both trace (deed ∷ later) earlier = let rest = out_both trace later earlier in omega (arith, rest)
+
+gone_both : (trace : TraceId) (later earlier : List Deed) → let_go_of trace (later ++ earlier) ≡ let_go_of trace later + let_go_of trace earlier
+gone_both trace [] earlier = omega arith
+gone_both trace (deed ∷ later) earlier = let rest = gone_both trace later earlier in omega (arith, rest)
+
+settled_facts : (k : Kept) → is_settled k ≡ true → (k.sent < most) × (k.sent ≤ k.handed_out + k.losses.evicted_pages + k.losses.abandoned_pages)
+settled_facts k is =
+    let one = first_true (nat_lt k.sent (2 ^ 64 - 1)) (nat_le k.sent (k.handed_out + k.losses.evicted_pages + k.losses.abandoned_pages)) is in
+    let two = second_true (nat_lt k.sent (2 ^ 64 - 1)) (nat_le k.sent (k.handed_out + k.losses.evicted_pages + k.losses.abandoned_pages)) is in
+    (grind (arith, one), grind (arith, two))
+
+pub over_now : (trace : TraceId) (deeds : List Deed) (horizon : ℕ) (k : Kept) → IsKept false trace deeds horizon k → is_settled k ≡ true → ((client : ℕ) → is_open trace (track_after client deeds) ≡ false) → IsOver trace deeds
+over_now trace deeds horizon k stands settled closed = record {
+  settled =
+      subst (λ (ds : List Deed). announced_of trace ds ≤ handed_out_of trace ds + let_go_of trace ds) (sym stands.parts)
+      (
+      let facts = settled_facts k settled in
+      let few = facts.0 in
+      let left = facts.1 in
+      let announced = announced_both trace stands.later stands.earlier in
+      let out = out_both trace stands.later stands.earlier in
+      let gone = gone_both trace stands.later stands.earlier in
+      let sent = stands.sent in
+      let handed = stands.out in
+      let lost = stands.gone in
+      let before = stands.over.settled in
+      omega (arith, few, left, announced, out, gone, sent, handed, lost, before)
+      );
+  closed = closed;
+}
+
+-- where each end was its client's next note, all that was sent was announced
+pub all_announced : (trace : TraceId) (later earlier : List Deed) → AreInOrder trace later earlier → announced_in trace later earlier ≡ sent_of trace later
+all_announced trace [] earlier order = refl
+all_announced trace (deed ∷ later) earlier order =
+    let rest = all_announced trace later earlier order.1 in
+    let one = by_deed deed order.0 in
+    omega (arith, rest, one)
+  where
+    or_right : (a b : Bool) → b ≡ true → (a || b) ≡ true
+    or_right true b on = refl
+    or_right false b on = on
+
+    ended : (client number : ℕ) (other : TraceId) (report : SegmentReport) (b : Bool) → same_trace trace other ≡ b
+        → ((is_open trace (track_after client (later ++ earlier)) || same_trace trace other) ≡ true → ends_next (track_after client (later ++ earlier)) number other ≡ true)
+        → (if b && ends_next (track_after client (later ++ earlier)) number other then report.pages else 0) ≡ (if b then report.pages else 0)
+    ended client number other report true same order =
+        ap (λ b. if b then report.pages else 0) (order (or_right (is_open trace (track_after client (later ++ earlier))) (same_trace trace other) same))
+    ended client number other report false same order = refl
+
+    by_deed : (d : Deed) → IsInOrder trace d (later ++ earlier) → announces trace d (later ++ earlier) ≡ sends trace d
+    by_deed (Opens client number other) order = refl
+    by_deed (Closes client number other report) order = ended client number other report (same_trace trace other) refl order
+    by_deed (Loses other loss count) order = refl
+    by_deed (HandsOut other) order = refl
+    by_deed Misses order = refl
+    by_deed (Waits other) order = refl

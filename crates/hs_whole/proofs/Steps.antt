@@ -1,10 +1,10 @@
 -- What each deed does to what is kept of a trace.
-use Rattle.std.proofs.Common.{◌≡◌, inl, inr, ℕ, zero, suc, ◌+◌, ◌-◌, ◌<◌, ◌≤◌, min, max, eqb-true, Bool, true, false, not, cond, ◌||◌, ◌&&◌, List, [], ◌∷◌, length, take, slice_get, unwrap_or, set, Option, Some, None, is_some, option_map, refl, sym, ap, subst, arith, ◌∙◌}
+use Rattle.std.proofs.Common.{◌≡◌, inl, inr, ℕ, zero, suc, ◌+◌, ◌-◌, ◌<◌, ◌≤◌, min, max, eqb-true, Bool, true, false, not, cond, ◌||◌, ◌&&◌, List, [], ◌∷◌, length, take, slice_get, unwrap_or, count_by, set, Option, Some, None, is_some, option_map, refl, sym, ap, subst, arith, ◌∙◌}
 use Rattle.std.specs.Prelude.{nat_lt, ◌==◌, if◌then◌else◌}
 use Rattle.std.specs.Option.{option_map_or}
 use Rattle.std.proofs.lemmas.Option.{same_Some}
 use Rattle.lru.specs.LruCache.{last_entry}
-use Rattle.hs_lists.proofs.Bools.{by_answer, first_false, second_false, second_true}
+use Rattle.hs_lists.proofs.Bools.{by_answer, first_false, second_false, first_true, second_true}
 use Rattle.hs_lists.proofs.Places.{unwrap_set, unwrap_other}
 use Rattle.hs_base.specs.declared.ids.TraceId.{TraceId}
 use Rattle.hs_base.specs.Ids.{same_trace}
@@ -14,11 +14,15 @@ use Rattle.hs_whole.specs.declared.answers.Loss.{Loss}
 use Rattle.hs_whole.specs.declared.track.Track.{Track}
 use Rattle.hs_whole.specs.declared.kept.Kept.{Kept}
 use Rattle.hs_whole.specs.Tracks.{no_notes, is_open, begins_next, ends_next, begun, ended}
-use Rattle.hs_whole.specs.Kept.{more, fresh, misses, begins, ends, loses, goes_out, reports_loss}
-use Rattle.hs_whole.specs.Notes.{PlainNotes, track_of, kept_of, missed_open, checked, moved_horizon, remembered, remembered_as, with_kept, opened, closed, after_lost, after_handed_out}
-use Rattle.hs_whole.specs.History.{Deed, Opens, Closes, Loses, HandsOut, Misses, after, IsOfClient, segments, latest_of, hands_out, track_after}
+use Rattle.hs_whole.specs.Kept.{more, counted, is_settled, fresh, misses, begins, ends, loses, goes_out, reports_loss}
+use Rattle.hs_whole.specs.Notes.{PlainNotes, track_of, kept_of, missed_open, checked, moved_horizon, is_over, has_place, looked, searched, finds_place, remembered, remembered_as, with_kept, opened, closed, after_lost, after_handed_out}
+use Rattle.hs_whole.specs.History.{Deed, Opens, Closes, Loses, HandsOut, Misses, Waits, after, IsOfClient, segments, latest_of, hands_out, announces, lets_go, pages_in, track_after, HasPlace, IsOver}
 use Rattle.hs_whole.proofs.Looking.{found, same-true, same-refl, found-with_same, found-with_other, length-with, found-promoted, length-promoted, IsLast, dropped, length-take_few, there_below}
-use Rattle.hs_whole.proofs.Standings.{most, IsKept, Stands, raised, presented, doubts, freshly, kept_pending, with_deed, aside}
+use Rattle.hs_whole.proofs.Standings.{most, IsKept, Stands, raised, presented, doubts, freshly, kept_pending, with_deed, aside, over_now}
+use Rattle.hs_whole.proofs.Searching.{reordered_searched}
+use Rattle.hs_lists.proofs.Counts.{one_if, count_cons}
+use Rattle.hs_whole.specs.declared.answers.TheConstants.{MOST_LOOKS}
+use Rattle.hs_whole.specs.declared.answers.Loss.TheVariants.{EvictedPages, AbandonedPages, EvictedCrumbs, ForgottenCrumbs}
 
 -- ---- what stays where a trace is kept, or a note was missed
 
@@ -87,7 +91,7 @@ remembered_own s trace is_missed pending deeds stands pends = at (kept_of s trac
     at : (o : Option Kept) → kept_of s trace ≡ o → Stands false false trace deeds s.horizon o → Stands true pending trace deeds (remembered_as s trace is_missed o).horizon (kept_of (remembered_as s trace is_missed o) trace)
     at None is stands =
         subst (Stands true pending trace deeds (moved_horizon s)) (sym (ap (λ b. cond b (Some (fresh s.heard is_missed)) (found trace (take (s.limits.traces - 1) s.traces))) (same-refl trace)))
-        (freshly pending is_missed trace deeds (moved_horizon s) s.heard (let up = moved_up s in let low = stands.1 in omega (arith, up, low)) pends)
+        (freshly pending is_missed trace deeds (moved_horizon s) s.heard (let up = moved_up s in let low = stands.1 in omega (arith, up, low)) stands.2 pends)
     at (Some k) is stands = subst (Stands true pending trace deeds s.horizon) (sym (found-promoted trace trace s.traces ∙ is)) (kept_pending pending trace deeds s.horizon k stands)
 
 moved_behind : (s : PlainNotes) (trace : TraceId) → 0 < s.limits.traces → length s.traces ≤ s.limits.traces → (last : IsLast trace s.traces (s.limits.traces - 1)) → moved_horizon s ≡ max s.horizon last.last.1.latest
@@ -99,15 +103,38 @@ moved_behind s trace some few last =
     ∙ ap (λ n. option_map_or (λ (oldest : TraceId × Kept). max s.horizon oldest.1.latest) (slice_get s.traces n) s.horizon) end
     ∙ ap (λ o. option_map_or (λ (oldest : TraceId × Kept). max s.horizon oldest.1.latest) o s.horizon) last.there
 
+-- the last of a full list was over
+last_over : (s : PlainNotes) (trace : TraceId) → 0 < s.limits.traces → length s.traces ≤ s.limits.traces → (last : IsLast trace s.traces (s.limits.traces - 1)) → has_place s ≡ true → is_over s last.last ≡ true
+last_over s trace some few last place =
+    let below = there_below s.traces (s.limits.traces - 1) last.last last.there in
+    let full : nat_lt (length s.traces) s.limits.traces ≡ false = grind (arith, below, some, few) in
+    let end : length s.traces - 1 ≡ s.limits.traces - 1 = omega (arith, below, some, few) in
+    sym
+    (ap (λ b. if b then true else option_map_or (is_over s) (last_entry s.traces) true) full
+    ∙ ap (λ n. option_map_or (is_over s) (slice_get s.traces n) true) end
+    ∙ ap (λ o. option_map_or (is_over s) o true) last.there)
+    ∙ place
+
+pub none_open_at : (trace : TraceId) (tracks : List Track) (place : ℕ) → count_by (is_open trace) tracks ≡ 0 → is_open trace (unwrap_or (slice_get tracks place) no_notes) ≡ false
+none_open_at trace [] zero none = refl
+none_open_at trace [] (suc place) none = refl
+none_open_at trace (track ∷ tracks) zero none =
+    by_answer (is_open trace track)
+    (λ y. let counted = count_cons (is_open trace) track tracks in let one : one_if (is_open trace track) ≡ 1 = ap one_if y in absurd (omega (arith, counted, one, none)))
+    (λ n. n)
+none_open_at trace (track ∷ tracks) (suc place) none =
+    none_open_at trace tracks place (let counted = count_cons (is_open trace) track tracks in omega (arith, counted, none))
+
 remembered_other : (s : PlainNotes) (trace other : TraceId) (is_missed : Bool) (deeds : List Deed) → same_trace trace other ≡ false → 0 < s.limits.traces → length s.traces ≤ s.limits.traces
+    → ((client : ℕ) → track_of s client ≡ track_after client deeds) → (kept_of s other ≡ None → has_place s ≡ true)
     → Stands false false trace deeds s.horizon (kept_of s trace) → Stands false false trace deeds (remembered s other is_missed).horizon (kept_of (remembered s other is_missed) trace)
-remembered_other s trace other is_missed deeds apart some few stands = at (kept_of s other)
+remembered_other s trace other is_missed deeds apart some few tracks place stands = at (kept_of s other) refl
   where
     rest : Option Kept
     rest = found trace (take (s.limits.traces - 1) s.traces)
 
-    left : Stands false false trace deeds (moved_horizon s) rest
-    left = elim (dropped trace s.traces (s.limits.traces - 1) (omega (arith, some, few))) [
+    left : has_place s ≡ true → Stands false false trace deeds (moved_horizon s) rest
+    left there = elim (dropped trace s.traces (s.limits.traces - 1) (omega (arith, some, few))) [
       | inl same ↦ subst (Stands false false trace deeds (moved_horizon s)) (sym same) (raised false false trace deeds s.horizon (moved_horizon s) (kept_of s trace) (moved_up s) stands)
       | inr last ↦
           subst (Stands false false trace deeds (moved_horizon s)) (sym last.gone)
@@ -115,13 +142,20 @@ remembered_other s trace other is_missed deeds apart some few stands = at (kept_
           let was : IsKept false trace deeds s.horizon last.last.1 = subst (Stands false false trace deeds s.horizon) last.was stands in
           let low = was.latest in
           let moved = moved_behind s trace some few last in
-          (refl, omega (arith, low, moved))
+          let over = last_over s trace some few last there in
+          let none : count_by (is_open last.last.0) s.tracks ≡ 0 = eqb-true (count_by (is_open last.last.0) s.tracks) 0 (second_true (is_settled last.last.1) (count_by (is_open last.last.0) s.tracks == 0) over) in
+          let own : count_by (is_open trace) s.tracks ≡ 0 = ap (λ (x : TraceId). count_by (is_open x) s.tracks) (same-true trace last.last.0 last.named) ∙ none in (
+            refl,
+            omega (arith, low, moved),
+            over_now trace deeds s.horizon last.last.1 was (first_true (is_settled last.last.1) (count_by (is_open last.last.0) s.tracks == 0) over)
+                (λ client. ap (is_open trace) (sym (tracks client)) ∙ none_open_at trace s.tracks client own),
+          )
           )
     ]
 
-    at : (o : Option Kept) → Stands false false trace deeds (remembered_as s other is_missed o).horizon (kept_of (remembered_as s other is_missed o) trace)
-    at None = subst (Stands false false trace deeds (moved_horizon s)) (sym (ap (λ b. cond b (Some (fresh s.heard is_missed)) rest) apart)) left
-    at (Some k) = subst (Stands false false trace deeds s.horizon) (sym (found-promoted trace other s.traces)) stands
+    at : (o : Option Kept) → kept_of s other ≡ o → Stands false false trace deeds (remembered_as s other is_missed o).horizon (kept_of (remembered_as s other is_missed o) trace)
+    at None is = subst (Stands false false trace deeds (moved_horizon s)) (sym (ap (λ b. cond b (Some (fresh s.heard is_missed)) rest) apart)) (left (place is))
+    at (Some k) is = subst (Stands false false trace deeds s.horizon) (sym (found-promoted trace other s.traces)) stands
 
 -- ---- a note that may have been missed
 
@@ -182,13 +216,32 @@ pub record IsLike (bounds : NoteLimits) (deeds : List Deed) (s : PlainNotes) : T
   pub few : length s.traces ≤ s.limits.traces
   pub clients : length s.tracks ≡ s.limits.clients
   pub heard : s.heard ≡ segments deeds
-  pub tracks : (client : ℕ) → client < s.limits.clients → track_of s client ≡ track_after client deeds
+  pub tracks : (client : ℕ) → track_of s client ≡ track_after client deeds
+
+-- a client whose segment of another trace began, or whose segment ended, has none of this trace open
+began : (trace other : TraceId) (client number : ℕ) → same_trace other trace ≡ false → (at : ℕ) (deeds : List Deed) → is_open other (track_after at deeds) ≡ false → is_open other (if client == at then begun number trace else track_after at deeds) ≡ false
+began trace other client number apart at deeds none = by (client == at)
+  where
+    turned : (b : Bool) → same_trace other trace ≡ false → same_trace trace other ≡ b → b ≡ false
+    turned true off on = let same = flipped trace other on in let never : true ≡ false = sym same ∙ off in absurd cc
+    turned false off on = refl
+
+    by : (b : Bool) → is_open other (if b then begun number trace else track_after at deeds) ≡ false
+    by true = turned (same_trace trace other) apart refl
+    by false = none
+
+ended_at : (other : TraceId) (client number at : ℕ) (deeds : List Deed) → is_open other (track_after at deeds) ≡ false → is_open other (if client == at then ended number else track_after at deeds) ≡ false
+ended_at other client number at deeds none = by (client == at)
+  where
+    by : (b : Bool) → is_open other (if b then ended number else track_after at deeds) ≡ false
+    by true = refl
+    by false = none
 
 -- ---- a segment begins
 
 module _ (limits : NoteLimits) (deeds : List Deed) (s : PlainNotes) (like : IsLike limits deeds s) (client number : ℕ) (low : client < s.limits.clients) where
   track_is : track_of s client ≡ track_after client deeds
-  track_is = like.tracks client low
+  track_is = like.tracks client
 
   module _ (trace : TraceId) where
     abbrev is_next : Bool
@@ -237,14 +290,23 @@ module _ (limits : NoteLimits) (deeds : List Deed) (s : PlainNotes) (like : IsLi
             (λ on. same-refl trace)
             (λ n is. is ∙ ap (λ m. min m most) (omega arith))
             (λ n is. is ∙ ap (λ m. min m most) (omega arith))
+            (omega arith)
             (λ off. (off, refl)))
 
-    pub opens_other : (other : TraceId) → same_trace other trace ≡ false → Stands false false other deeds s.horizon (kept_of s other)
+    pub opens_other : (other : TraceId) → same_trace other trace ≡ false → (kept_of s trace ≡ None → has_place s ≡ true) → Stands false false other deeds s.horizon (kept_of s other)
         → Stands false false other (Opens client number trace ∷ deeds) (opened s client number trace).horizon (kept_of (opened s client number trace) other)
-    opens_other other apart stands =
+    opens_other other apart place stands =
         subst (Stands false false other (Opens client number trace ∷ deeds) ready.horizon) (sym (found-with_other (begins (more ready.heard 1)) other trace apart ready.traces))
-        (aside other (Opens client number trace) deeds ready.horizon (kept_of ready other) (record { opens = apart; sends = refl; hands_out = refl; loses = refl }) (opens_in_order other)
-        (checked_stands kept_one client is_next false false other deeds heard_still (remembered_other s other trace false deeds apart like.some like.few stands)))
+        (aside other (Opens client number trace) deeds ready.horizon (kept_of ready other) (record {
+          opens = apart;
+          sends = λ ds. refl;
+          hands_out = refl;
+          goes = refl;
+          loses = refl;
+          closed = λ at ds none. began trace other client number apart at ds none;
+        })
+        (opens_in_order other)
+        (checked_stands kept_one client is_next false false other deeds heard_still (remembered_other s other trace false deeds apart like.some like.few like.tracks place stands)))
 
   -- ---- a segment ends
 
@@ -267,6 +329,17 @@ module _ (limits : NoteLimits) (deeds : List Deed) (s : PlainNotes) (like : IsLi
     next_after : ends_now ≡ true → ends_next (track_after client deeds) number trace ≡ true
     next_after on = ap (λ (track : Track). ends_next track number trace) (sym track_is) ∙ on
 
+    -- its pages count where its end is the next note
+    announced_own : announces trace (Closes client number trace report) deeds ≡ counted report (not ends_now)
+    announced_own =
+        ap (λ b. if b && ends_next (track_after client deeds) number trace then report.pages else 0) (same-refl trace)
+        ∙ ap (λ (track : Track). if ends_next track number trace then report.pages else 0) (sym track_is)
+        ∙ turned_round ends_now
+      where
+        turned_round : (b : Bool) → (if b then report.pages else 0) ≡ (if not b then 0 else report.pages)
+        turned_round true = refl
+        turned_round false = refl
+
     pub closes_own : Stands false false trace deeds s.horizon (kept_of s trace)
         → Stands false false trace (Closes client number trace report ∷ deeds) (closed s client number trace report).horizon (kept_of (closed s client number trace report) trace)
     closes_own stands =
@@ -284,20 +357,28 @@ module _ (limits : NoteLimits) (deeds : List Deed) (s : PlainNotes) (like : IsLi
             (λ off. first_false k.is_missed (not ends_now) off)
             (λ off touches. next_after (un_not ends_now (second_false k.is_missed (not ends_now) off)))
             (λ never. let off : false ≡ true = never in absurd cc)
-            (λ n is. let own : (if same_trace trace trace then report.pages else 0) ≡ report.pages = ap (λ b. if b then report.pages else 0) (same-refl trace) in omega (arith, is, own))
+            (λ n is. let own = announced_own in omega (arith, is, own))
             (λ n is. is ∙ ap (λ m. min m most) (omega arith))
+            (omega arith)
             (λ off. (first_false k.is_lost (reports_loss report) off, ap (λ b. b && reports_loss report) (same-refl trace) ∙ second_false k.is_lost (reports_loss report) off)))
 
-    pub closes_other : (other : TraceId) → same_trace other trace ≡ false → Stands false false other deeds s.horizon (kept_of s other)
+    pub closes_other : (other : TraceId) → same_trace other trace ≡ false → (kept_of s trace ≡ None → has_place s ≡ true) → Stands false false other deeds s.horizon (kept_of s other)
         → Stands false false other (Closes client number trace report ∷ deeds) (closed s client number trace report).horizon (kept_of (closed s client number trace report) other)
-    closes_other other apart stands =
+    closes_other other apart place stands =
         subst (Stands false false other (Closes client number trace report ∷ deeds) checked_it.horizon) (sym (found-with_other (ends report (not ends_now)) other trace apart checked_it.traces))
         (aside other (Closes client number trace report) deeds checked_it.horizon (kept_of checked_it other)
-        (record { opens = refl; sends = ap (λ b. if b then report.pages else 0) apart; hands_out = refl; loses = ap (λ b. b && reports_loss report) apart })
+        (record {
+          opens = refl;
+          sends = λ ds. ap (λ b. if b && ends_next (track_after client ds) number trace then report.pages else 0) apart;
+          hands_out = refl;
+          goes = refl;
+          loses = ap (λ b. b && reports_loss report) apart;
+          closed = λ at ds none. ended_at other client number at ds none;
+        })
         (λ k is off touches.
         let here : is_open other (track_of s client) ≡ true = ap (is_open other) track_is ∙ or_left (is_open other (track_after client deeds)) (same_trace other trace) apart touches in
         next_after (is_next_there kept_it client other ends_now (ap (is_open other) same_track ∙ here) k is off))
-        (checked_stands kept_it client ends_now false false other deeds heard_same (remembered_other s other trace true deeds apart like.some like.few stands)))
+        (checked_stands kept_it client ends_now false false other deeds heard_same (remembered_other s other trace true deeds apart like.some like.few like.tracks place stands)))
       where
         or_left : (a b : Bool) → b ≡ false → (a || b) ≡ true → a ≡ true
         or_left true b off on = refl
@@ -305,12 +386,32 @@ module _ (limits : NoteLimits) (deeds : List Deed) (s : PlainNotes) (like : IsLi
 
 -- ---- what becomes of pages and crumbs
 
+-- where a trace is not kept, what leaves of it leaves less to come
+less_to_come : (trace : TraceId) (deed : Deed) (deeds : List Deed) → announces trace deed deeds ≡ 0 → ((client : ℕ) → track_after client (deed ∷ deeds) ≡ track_after client deeds) → IsOver trace deeds → IsOver trace (deed ∷ deeds)
+less_to_come trace deed deeds none tracks over = record {
+  settled = (let was = over.settled in omega (arith, none, was));
+  closed = λ client. ap (is_open trace) (tracks client) ∙ over.closed client;
+}
+
+less_left : (trace : TraceId) (loss : Loss) (count : ℕ) (k : Kept)
+    → (loses loss count k).losses.evicted_pages + (loses loss count k).losses.abandoned_pages ≤ k.losses.evicted_pages + k.losses.abandoned_pages + lets_go trace (Loses trace loss count)
+less_left trace loss count k =
+    let own : lets_go trace (Loses trace loss count) ≡ pages_in loss count = ap (λ b. if b then pages_in loss count else 0) (same-refl trace) in
+    at loss own
+  where
+    at : (l : Loss) → lets_go trace (Loses trace loss count) ≡ pages_in l count
+        → (loses l count k).losses.evicted_pages + (loses l count k).losses.abandoned_pages ≤ k.losses.evicted_pages + k.losses.abandoned_pages + lets_go trace (Loses trace loss count)
+    at EvictedPages own = omega (arith, own)
+    at AbandonedPages own = omega (arith, own)
+    at EvictedCrumbs own = omega (arith, own)
+    at ForgottenCrumbs own = omega (arith, own)
+
 pub loses_own : (s : PlainNotes) (deeds : List Deed) (trace : TraceId) (loss : Loss) (count : ℕ) → Stands false false trace deeds s.horizon (kept_of s trace)
     → Stands false false trace (Loses trace loss count ∷ deeds) s.horizon (kept_of (after_lost s trace loss count) trace)
 loses_own s deeds trace loss count stands = subst (Stands false false trace (Loses trace loss count ∷ deeds) s.horizon) (sym (found-with_same (loses loss count) trace s.traces)) (at (kept_of s trace) stands)
   where
     at : (o : Option Kept) → Stands false false trace deeds s.horizon o → Stands false false trace (Loses trace loss count ∷ deeds) s.horizon (option_map (loses loss count) o)
-    at None stands = stands
+    at None stands = (stands.0, stands.1, less_to_come trace (Loses trace loss count) deeds refl (λ client. refl) stands.2)
     at (Some k) stands =
         with_deed (Loses trace loss count) false trace deeds s.horizon k (loses loss count k) stands
         stands.latest
@@ -319,6 +420,7 @@ loses_own s deeds trace loss count stands = subst (Stands false false trace (Los
         (λ never. let off : false ≡ true = never in absurd cc)
         (λ n is. is ∙ ap (λ m. min m most) (omega arith))
         (λ n is. is ∙ ap (λ m. min m most) (omega arith))
+        (less_left trace loss count k)
         (λ off. (first_false k.is_lost (not (count == 0)) off, ap (λ b. b && not (count == 0)) (same-refl trace) ∙ second_false k.is_lost (not (count == 0)) off))
 
 pub hands_own : (s : PlainNotes) (deeds : List Deed) (trace : TraceId) → Stands false false trace deeds s.horizon (kept_of s trace)
@@ -326,7 +428,7 @@ pub hands_own : (s : PlainNotes) (deeds : List Deed) (trace : TraceId) → Stand
 hands_own s deeds trace stands = subst (Stands false false trace (HandsOut trace ∷ deeds) s.horizon) (sym (found-with_same goes_out trace s.traces)) (at (kept_of s trace) stands)
   where
     at : (o : Option Kept) → Stands false false trace deeds s.horizon o → Stands false false trace (HandsOut trace ∷ deeds) s.horizon (option_map goes_out o)
-    at None stands = stands
+    at None stands = (stands.0, stands.1, less_to_come trace (HandsOut trace) deeds refl (λ client. refl) stands.2)
     at (Some k) stands =
         with_deed (HandsOut trace) false trace deeds s.horizon k (goes_out k) stands
         stands.latest
@@ -335,7 +437,38 @@ hands_own s deeds trace stands = subst (Stands false false trace (HandsOut trace
         (λ never. let off : false ≡ true = never in absurd cc)
         (λ n is. is ∙ ap (λ m. min m most) (omega arith))
         (λ n is. let own : hands_out trace (HandsOut trace) ≡ 1 = ap (λ b. if b then 1 else 0) (same-refl trace) in omega (arith, is, own))
+        (omega arith)
         (λ off. (off, refl))
+
+-- ---- a place is looked for
+
+like_searched : (limits : NoteLimits) (deeds : List Deed) (s : PlainNotes) (trace : TraceId) → IsLike limits deeds s → IsLike limits deeds (searched s trace)
+like_searched limits deeds s trace like =
+    let order = reordered_searched s trace in
+    let cap : (searched s trace).limits.traces ≡ s.limits.traces = ap (λ (l : NoteLimits). l.traces) order.limits in
+    let clients : (searched s trace).limits.clients ≡ s.limits.clients = ap (λ (l : NoteLimits). l.clients) order.limits in
+    record {
+      limits = order.limits ∙ like.limits;
+      some = (let some = like.some in omega (arith, cap, some));
+      few = (let few = like.few in let long = order.long in omega (arith, cap, few, long));
+      clients = ap length order.tracks ∙ like.clients ∙ sym clients;
+      heard = order.heard ∙ like.heard;
+      tracks = λ client. ap (λ (ts : List Track). unwrap_or (slice_get ts client) no_notes) order.tracks ∙ like.tracks client;
+    }
+
+stands_searched : (trace other : TraceId) (deeds : List Deed) (s : PlainNotes) → Stands false false trace deeds s.horizon (kept_of s trace) → Stands false false trace deeds (searched s other).horizon (kept_of (searched s other) trace)
+stands_searched trace other deeds s stands =
+    let order = reordered_searched s other in
+    subst (λ n. Stands false false trace deeds n (kept_of (searched s other) trace)) (sym order.horizon) (subst (Stands false false trace deeds s.horizon) (sym (order.kept trace)) stands)
+
+-- a trace that was not kept found a place
+place_there : (s : PlainNotes) (trace : TraceId) → finds_place s trace ≡ true → kept_of (searched s trace) trace ≡ None → has_place (searched s trace) ≡ true
+place_there s trace finds none = at (kept_of s trace) refl finds none
+  where
+    at : (o : Option Kept) → kept_of s trace ≡ o → (is_some o || has_place (looked MOST_LOOKS s)) ≡ true → kept_of (if is_some o then s else looked MOST_LOOKS s) trace ≡ None
+        → has_place (if is_some o then s else looked MOST_LOOKS s) ≡ true
+    at None is finds none = finds
+    at (Some k) is finds none = let never : Some k ≡ None = sym is ∙ none in absurd cc
 
 -- ---- any deed
 
@@ -346,29 +479,50 @@ reopened deed trace other deeds s same stands = subst (λ (x : TraceId). Stands 
 moved_to : (trace other : TraceId) (deeds : List Deed) (s : PlainNotes) → same_trace trace other ≡ true → Stands false false trace deeds s.horizon (kept_of s trace) → Stands false false other deeds s.horizon (kept_of s other)
 moved_to trace other deeds s same stands = subst (λ (x : TraceId). Stands false false x deeds s.horizon (kept_of s x)) (same-true trace other same) stands
 
-pub any_deed : (limits : NoteLimits) (deeds : List Deed) (s : PlainNotes) (like : IsLike limits deeds s) (deed : Deed) (trace : TraceId) → IsOfClient s.limits.clients deed → segments deeds + 1 ≤ most
+pub any_deed : (limits : NoteLimits) (deeds : List Deed) (s : PlainNotes) (like : IsLike limits deeds s) (deed : Deed) (trace : TraceId) → IsOfClient s.limits.clients deed → HasPlace s deed → segments deeds + 1 ≤ most
     → Stands false false trace deeds s.horizon (kept_of s trace) → Stands false false trace (deed ∷ deeds) (after s deed).horizon (kept_of (after s deed) trace)
-any_deed limits deeds s like (Opens client number other) trace low bound stands =
+any_deed limits deeds s like (Opens client number other) trace low place bound stands =
+    let found_like = like_searched limits deeds s other like in
+    let there : client < (searched s other).limits.clients = subst (λ (l : NoteLimits). client < l.clients) (sym (reordered_searched s other).limits) low in
+    let found_stands = stands_searched trace other deeds s stands in
     by_answer (same_trace trace other)
-    (λ y. reopened (Opens client number other) trace other deeds s y (opens_own limits deeds s like client number low other bound (moved_to trace other deeds s y stands)))
-    (λ n. opens_other limits deeds s like client number low other trace n stands)
-any_deed limits deeds s like (Closes client number other report) trace low bound stands =
+    (λ y. reopened (Opens client number other) trace other deeds s y (opens_own limits deeds (searched s other) found_like client number there other bound (moved_to trace other deeds (searched s other) y found_stands)))
+    (λ n. opens_other limits deeds (searched s other) found_like client number there other trace n (place_there s other place) found_stands)
+any_deed limits deeds s like (Closes client number other report) trace low place bound stands =
+    let found_like = like_searched limits deeds s other like in
+    let there : client < (searched s other).limits.clients = subst (λ (l : NoteLimits). client < l.clients) (sym (reordered_searched s other).limits) low in
+    let found_stands = stands_searched trace other deeds s stands in
     by_answer (same_trace trace other)
-    (λ y. reopened (Closes client number other report) trace other deeds s y (closes_own limits deeds s like client number low other report (moved_to trace other deeds s y stands)))
-    (λ n. closes_other limits deeds s like client number low other report trace n stands)
-any_deed limits deeds s like (Loses other loss count) trace low bound stands =
+    (λ y. reopened (Closes client number other report) trace other deeds s y (closes_own limits deeds (searched s other) found_like client number there other report (moved_to trace other deeds (searched s other) y found_stands)))
+    (λ n. closes_other limits deeds (searched s other) found_like client number there other report trace n (place_there s other place) found_stands)
+any_deed limits deeds s like (Loses other loss count) trace low place bound stands =
     by_answer (same_trace trace other)
     (λ y. reopened (Loses other loss count) trace other deeds s y (loses_own s deeds other loss count (moved_to trace other deeds s y stands)))
     (λ n. subst (Stands false false trace (Loses other loss count ∷ deeds) s.horizon) (sym (found-with_other (loses loss count) trace other n s.traces))
-    (aside trace (Loses other loss count) deeds s.horizon (kept_of s trace) (record { opens = refl; sends = refl; hands_out = refl; loses = ap (λ b. b && not (count == 0)) n }) (λ k is off. tt) stands))
-any_deed limits deeds s like (HandsOut other) trace low bound stands =
+    (aside trace (Loses other loss count) deeds s.horizon (kept_of s trace)
+    (record {
+      opens = refl;
+      sends = λ ds. refl;
+      hands_out = refl;
+      goes = ap (λ b. if b then pages_in loss count else 0) n;
+      loses = ap (λ b. b && not (count == 0)) n;
+      closed = λ client ds none. none;
+    })
+    (λ k is off. tt) stands))
+any_deed limits deeds s like (HandsOut other) trace low place bound stands =
     by_answer (same_trace trace other)
     (λ y. reopened (HandsOut other) trace other deeds s y (hands_own s deeds other (moved_to trace other deeds s y stands)))
     (λ n. subst (Stands false false trace (HandsOut other ∷ deeds) s.horizon) (sym (found-with_other goes_out trace other n s.traces))
-    (aside trace (HandsOut other) deeds s.horizon (kept_of s trace) (record { opens = refl; sends = refl; hands_out = ap (λ b. if b then 1 else 0) n; loses = refl }) (λ k is off. tt) stands))
-any_deed limits deeds s like Misses trace low bound stands =
-    aside trace Misses deeds s.heard (kept_of s trace) (record { opens = refl; sends = refl; hands_out = refl; loses = refl }) (λ k is off. tt)
+    (aside trace (HandsOut other) deeds s.horizon (kept_of s trace)
+    (record { opens = refl; sends = λ ds. refl; hands_out = ap (λ b. if b then 1 else 0) n; goes = refl; loses = refl; closed = λ client ds none. none })
+    (λ k is off. tt) stands))
+any_deed limits deeds s like Misses trace low place bound stands =
+    aside trace Misses deeds s.heard (kept_of s trace) (record { opens = refl; sends = λ ds. refl; hands_out = refl; goes = refl; loses = refl; closed = λ client ds none. none }) (λ k is off. tt)
     (subst (λ n. Stands false false trace deeds n (kept_of s trace)) (sym like.heard) (presented false false trace deeds s.horizon (kept_of s trace) stands))
+any_deed limits deeds s like (Waits other) trace low place bound stands =
+    aside trace (Waits other) deeds (searched s other).horizon (kept_of (searched s other) trace)
+    (record { opens = refl; sends = λ ds. refl; hands_out = refl; goes = refl; loses = refl; closed = λ client ds none. none }) (λ k is off. tt)
+    (stands_searched trace other deeds s stands)
 
 -- ---- and the node after it
 
@@ -386,8 +540,9 @@ length-set_any [] place track = refl
 length-set_any (x ∷ tracks) zero track = refl
 length-set_any (x ∷ tracks) (suc place) track = ap suc (length-set_any tracks place track)
 
-pub like_after : (limits : NoteLimits) (deeds : List Deed) (s : PlainNotes) → IsLike limits deeds s → (deed : Deed) → IsOfClient s.limits.clients deed → segments deeds + 1 ≤ most → IsLike limits (deed ∷ deeds) (after s deed)
-like_after limits deeds s like (Opens client number trace) low bound =
+like_opened : (limits : NoteLimits) (deeds : List Deed) (s : PlainNotes) → IsLike limits deeds s → (client number : ℕ) (trace : TraceId) → client < s.limits.clients → segments deeds + 1 ≤ most
+    → IsLike limits (Opens client number trace ∷ deeds) (opened s client number trace)
+like_opened limits deeds s like client number trace low bound =
     let ready = checked (remembered s trace false) client (begins_next (track_of s client) number) in
     let alike = alike_both s trace false client (begins_next (track_of s client) number) in
     let cap : ready.limits.traces ≡ s.limits.traces = ap (λ (l : NoteLimits). l.traces) alike.limits in
@@ -399,11 +554,14 @@ like_after limits deeds s like (Opens client number trace) low bound =
       few = (let few = alike.few like.few like.some in let same = length-with (begins (more ready.heard 1)) trace ready.traces in omega (arith, cap, few, same));
       clients = length-set_any ready.tracks client (begun number trace) ∙ long ∙ sym clients;
       heard = (let same : ready.heard ≡ segments deeds = alike.heard ∙ like.heard in omega (arith, same, bound));
-      tracks = λ other below.
+      tracks = λ other.
           tracks_set ready.tracks client other (begun number trace) (client == other) refl (omega (arith, low, long))
-          ∙ ap (λ (track : Track). if client == other then begun number trace else track) (ap (λ (ts : List Track). unwrap_or (slice_get ts other) no_notes) alike.tracks ∙ like.tracks other (omega (arith, below, clients)));
+          ∙ ap (λ (track : Track). if client == other then begun number trace else track) (ap (λ (ts : List Track). unwrap_or (slice_get ts other) no_notes) alike.tracks ∙ like.tracks other);
     }
-like_after limits deeds s like (Closes client number trace report) low bound =
+
+like_closed : (limits : NoteLimits) (deeds : List Deed) (s : PlainNotes) → IsLike limits deeds s → (client number : ℕ) (trace : TraceId) (report : SegmentReport) → client < s.limits.clients
+    → IsLike limits (Closes client number trace report ∷ deeds) (closed s client number trace report)
+like_closed limits deeds s like client number trace report low =
     let is_next = ends_next (track_of s client) number trace in
     let ready = checked (remembered s trace true) client is_next in
     let alike = alike_both s trace true client is_next in
@@ -416,10 +574,21 @@ like_after limits deeds s like (Closes client number trace report) low bound =
       few = (let few = alike.few like.few like.some in let same = length-with (ends report (not is_next)) trace ready.traces in omega (arith, cap, few, same));
       clients = length-set_any ready.tracks client (ended number) ∙ long ∙ sym clients;
       heard = (let same : ready.heard ≡ segments deeds = alike.heard ∙ like.heard in omega (arith, same));
-      tracks = λ other below.
+      tracks = λ other.
           tracks_set ready.tracks client other (ended number) (client == other) refl (omega (arith, low, long))
-          ∙ ap (λ (track : Track). if client == other then ended number else track) (ap (λ (ts : List Track). unwrap_or (slice_get ts other) no_notes) alike.tracks ∙ like.tracks other (omega (arith, below, clients)));
+          ∙ ap (λ (track : Track). if client == other then ended number else track) (ap (λ (ts : List Track). unwrap_or (slice_get ts other) no_notes) alike.tracks ∙ like.tracks other);
     }
+
+pub like_after : (limits : NoteLimits) (deeds : List Deed) (s : PlainNotes) → IsLike limits deeds s → (deed : Deed) → IsOfClient s.limits.clients deed → segments deeds + 1 ≤ most → IsLike limits (deed ∷ deeds) (after s deed)
+like_after limits deeds s like (Opens client number trace) low bound =
+    like_opened limits deeds (searched s trace) (like_searched limits deeds s trace like) client number trace
+    (subst (λ (l : NoteLimits). client < l.clients) (sym (reordered_searched s trace).limits) low) bound
+like_after limits deeds s like (Closes client number trace report) low bound =
+    like_closed limits deeds (searched s trace) (like_searched limits deeds s trace like) client number trace report
+    (subst (λ (l : NoteLimits). client < l.clients) (sym (reordered_searched s trace).limits) low)
+like_after limits deeds s like (Waits trace) low bound =
+    let found = like_searched limits deeds s trace like in
+    record { limits = found.limits; some = found.some; few = found.few; clients = found.clients; heard = (let same = found.heard in omega (arith, same)); tracks = found.tracks }
 like_after limits deeds s like (Loses trace loss count) low bound = record {
   limits = like.limits;
   some = like.some;

@@ -1,5 +1,5 @@
 -- One trace, as far as a node knows it: pages that its closed segments sent, pages that were handed out, and what was lost.
-use Rattle.std.specs.Prelude.{◌≡◌, ℕ, ◌+◌, ◌-◌, ◌^◌, min, Bool, true, false, not, ◌||◌, ◌==◌, nat_lt, if◌then◌else◌, refl}
+use Rattle.std.specs.Prelude.{◌≡◌, ℕ, ◌+◌, ◌-◌, ◌^◌, min, Bool, true, false, not, ◌&&◌, ◌||◌, ◌==◌, nat_lt, nat_le, if◌then◌else◌, refl}
 use Rattle.hs_wire.specs.declared.message.Losses.{Losses}
 use Rattle.hs_wire.specs.declared.message.Wholeness.{Wholeness}
 use Rattle.hs_wire.specs.declared.message.Wholeness.TheVariants.{WholeSince, Lost, Unknown, Open}
@@ -48,10 +48,14 @@ misses k = record k { is_missed = true }
 abbrev pub begins : ℕ → kept.Kept → kept.Kept
 begins heard k = record k { latest = heard }
 
+-- the pages of a segment count where its end is the client's next note
+abbrev pub counted : SegmentReport → Bool → ℕ
+counted r is_missed = if is_missed then 0 else r.pages
+
 -- a segment of it ends
 abbrev pub ends : SegmentReport → Bool → kept.Kept → kept.Kept
 ends r is_missed k = record k {
-  sent = more k.sent r.pages;
+  sent = more k.sent (counted r is_missed);
   is_missed = k.is_missed || is_missed;
   is_lost = k.is_lost || reports_loss r;
   losses = with_report k.losses r;
@@ -64,6 +68,10 @@ loses loss count k = record k { is_lost = k.is_lost || not (count == 0); losses 
 -- a page of it is handed out
 abbrev pub goes_out : kept.Kept → kept.Kept
 goes_out k = record k { handed_out = more k.handed_out 1 }
+
+-- whether as many pages left as were sent; where the count is full it says nothing
+abbrev pub is_settled : kept.Kept → Bool
+is_settled k = nat_lt k.sent (2 ^ 64 - 1) && nat_le k.sent (k.handed_out + k.losses.evicted_pages + k.losses.abandoned_pages)
 
 -- how whole it is, where so many segments of it are open: an open segment comes before a loss, a loss before what is not known
 abbrev pub wholeness : ℕ → kept.Kept → Wholeness
@@ -88,6 +96,10 @@ both_out = (refl, refl, refl, refl)
 -- one of them is evicted
 one_evicted : (wholeness 0 (loses EvictedPages 1 (goes_out sent_two)) ≡ Lost) × ((loses EvictedPages 1 sent_two).losses.evicted_pages ≡ 1) × (wholeness 0 (goes_out (goes_out (loses EvictedPages 0 sent_two))) ≡ WholeSince)
 one_evicted = (refl, refl, refl)
+
+-- it is settled once both have left, by whatever way
+settles : (is_settled sent_two ≡ false) × (is_settled (goes_out sent_two) ≡ false) × (is_settled (goes_out (goes_out sent_two)) ≡ true) × (is_settled (loses EvictedPages 1 (goes_out sent_two)) ≡ true) × (is_settled (loses EvictedCrumbs 2 sent_two) ≡ false)
+settles = (refl, refl, refl, refl, refl)
 
 -- a point that was refused since numbers ended is a loss too
 spent : wholeness 0 (ends (record two_pages { pages = 0; spent_points = 1 }) false (fresh 4 false)) ≡ Lost

@@ -1,6 +1,6 @@
 -- What a node heard of its segments. The horizon is a count of segments that were heard: none that was heard later is missed or
 -- forgotten. It moves to the present count where a note was missed, and behind the segments of a trace that is forgotten.
-use Rattle.std.specs.Prelude.{◌≡◌, ◌⊎◌, ℕ, ◌-◌, ◌<◌, max, Bool, true, false, not, replicate, List, [], ◌∷◌, length, take, slice_set, slice_get, unwrap_or, count_by, nat_lt, nat_le, Option, Some, None, if◌then◌else◌, refl}
+use Rattle.std.specs.Prelude.{◌≡◌, ◌⊎◌, ℕ, zero, suc, ◌-◌, ◌<◌, max, Bool, true, false, not, ◌&&◌, ◌||◌, ◌==◌, replicate, List, [], ◌∷◌, length, take, slice_set, slice_get, unwrap_or, count_by, nat_lt, nat_le, Option, Some, None, is_some, if◌then◌else◌, refl}
 use Rattle.std.specs.Option.{option_map_or}
 use Rattle.std.specs.Map.{lookup, set_value}
 use Rattle.lru.specs.LruCache.{promoted, last_entry}
@@ -15,13 +15,14 @@ use Rattle.hs_wire.specs.declared.message.Wholeness.TheVariants.{WholeSince, Unh
 use Rattle.hs_whole.specs.declared.answers.NoteLimits.{NoteLimits}
 use Rattle.hs_whole.specs.declared.answers.SegmentReport.{SegmentReport}
 use Rattle.hs_whole.specs.declared.answers.Loss.{Loss}
+use Rattle.hs_whole.specs.declared.answers.Loss.TheVariants.{EvictedPages}
 use Rattle.hs_whole.specs.declared.answers.Noted.{Noted}
 use Rattle.hs_whole.specs.declared.answers.Noted.TheVariants as noting
-use Rattle.hs_whole.specs.declared.answers.TheConstants.{MOST_CLIENTS}
+use Rattle.hs_whole.specs.declared.answers.TheConstants.{MOST_CLIENTS, MOST_LOOKS}
 use Rattle.hs_whole.specs.declared.track.Track.{Track}
 use Rattle.hs_whole.specs.declared.kept.Kept.{Kept}
 use Rattle.hs_whole.specs.Tracks.{no_notes, is_open, begins_next, ends_next, begun, ended}
-use Rattle.hs_whole.specs.Kept.{more, no_losses, fresh, misses, begins, ends, loses, goes_out, wholeness, two_pages}
+use Rattle.hs_whole.specs.Kept.{more, no_losses, fresh, misses, begins, ends, loses, goes_out, is_settled, wholeness, two_pages}
 
 -- how many segments were heard, the horizon, the clients by number, and the traces, the one with the latest note first
 pub record PlainNotes : Type 0 where
@@ -84,6 +85,32 @@ remembered_as s trace is_missed None = with_new s trace is_missed
 abbrev pub remembered : PlainNotes → TraceId → Bool → PlainNotes
 remembered s trace is_missed = remembered_as s trace is_missed (kept_of s trace)
 
+-- ---- a place for one trace more
+
+-- nothing of a trace is open or to come
+abbrev pub is_over : PlainNotes → TraceId × Kept → Bool
+is_over s entry = is_settled entry.1 && (count_by (is_open entry.0) s.tracks == 0)
+
+-- a place is free, or nothing of the last trace is open or to come
+abbrev pub has_place : PlainNotes → Bool
+has_place s = if nat_lt (length s.traces) s.limits.traces then true else option_map_or (is_over s) (last_entry s.traces) true
+
+-- the last trace is the first from now on
+abbrev pub turned : PlainNotes → PlainNotes
+turned s = option_map_or (λ (last : TraceId × Kept). record s { traces = promoted (same_trace last.0) s.traces }) (last_entry s.traces) s
+
+-- so many traces are looked at, from the last on, until there is a place
+unfoldable pub looked : ℕ → PlainNotes → PlainNotes
+looked zero s = s
+looked (suc n) s = if has_place s then s else looked n (turned s)
+
+-- the notes once a place was looked for, and whether a trace is kept or has one then
+abbrev pub searched : PlainNotes → TraceId → PlainNotes
+searched s trace = if is_some (kept_of s trace) then s else looked MOST_LOOKS s
+
+abbrev pub finds_place : PlainNotes → TraceId → Bool
+finds_place s trace = is_some (kept_of s trace) || has_place (looked MOST_LOOKS s)
+
 -- ---- a note comes
 
 -- a segment of a kept trace begins
@@ -101,8 +128,8 @@ ended_in s client number trace report is_next = record s {
   traces = with_kept (ends report (not is_next)) trace s.traces;
 }
 
-abbrev pub answer_of : PlainNotes → ℕ → Noted
-answer_of s client = if nat_le s.limits.clients client then noting.Refused else noting.Kept
+abbrev pub answer_of : PlainNotes → ℕ → TraceId → Noted
+answer_of s client trace = if nat_le s.limits.clients client then noting.Refused else if finds_place s trace then noting.Kept else noting.Full
 
 abbrev pub opened : PlainNotes → ℕ → ℕ → TraceId → PlainNotes
 opened s client number trace = begun_in (checked (remembered s trace false) client (begins_next (track_of s client) number)) client number trace
@@ -110,12 +137,12 @@ opened s client number trace = begun_in (checked (remembered s trace false) clie
 abbrev pub closed : PlainNotes → ℕ → ℕ → TraceId → SegmentReport → PlainNotes
 closed s client number trace report = ended_in (checked (remembered s trace true) client (ends_next (track_of s client) number trace)) client number trace report (ends_next (track_of s client) number trace)
 
--- a note of a client that is not there is a missed one
+-- a note of a client that is not there is a missed one, and one that finds no place may come again
 abbrev pub after_opened : PlainNotes → ℕ → ℕ → TraceId → PlainNotes
-after_opened s client number trace = if nat_le s.limits.clients client then missed s else opened s client number trace
+after_opened s client number trace = if nat_le s.limits.clients client then missed s else if finds_place s trace then opened (searched s trace) client number trace else searched s trace
 
 abbrev pub after_closed : PlainNotes → ℕ → ℕ → TraceId → SegmentReport → PlainNotes
-after_closed s client number trace report = if nat_le s.limits.clients client then missed s else closed s client number trace report
+after_closed s client number trace report = if nat_le s.limits.clients client then missed s else if finds_place s trace then closed (searched s trace) client number trace report else searched s trace
 
 -- ---- what becomes of pages and crumbs
 
@@ -181,10 +208,27 @@ since_one = (refl, refl)
 gap : (wholeness_of (opened open_9 0 2 (t 8)) (t 9) ≡ Unknown) × ((opened open_9 0 2 (t 8)).horizon ≡ 1) × (wholeness_of (opened open_9 0 2 (t 8)) (t 8) ≡ Open)
 gap = (refl, refl, refl)
 
--- with a third trace the one whose note is oldest is forgotten, and the horizon moves behind its one segment
-forgets : (wholeness_of (opened (opened whole_9 1 0 (t 8)) 0 2 (t 7)) (t 9) ≡ UnheardSince) × ((opened (opened whole_9 1 0 (t 8)) 0 2 (t 7)).horizon ≡ 1) × ((opened (opened whole_9 1 0 (t 8)) 0 2 (t 7)).heard ≡ 3)
-forgets = (refl, refl, refl)
+-- with a third trace the one whose note is oldest is forgotten, since nothing of it is to come, and the horizon moves behind its one
+-- segment
+abbrev third : PlainNotes
+third = after_opened (after_opened whole_9 1 0 (t 8)) 0 2 (t 7)
+
+forgets : (answer_of (after_opened whole_9 1 0 (t 8)) 0 (t 7) ≡ noting.Kept) × (wholeness_of third (t 9) ≡ UnheardSince) × (third.horizon ≡ 1) × (third.heard ≡ 3)
+unfolding looked
+forgets = (refl, refl, refl, refl)
+
+-- while a page of trace 9 is to come, and a segment of trace 8 is open, a third trace has no place; once the page has left it has one
+abbrev full : PlainNotes
+full = opened (after_handed_out closed_9 (t 9)) 1 0 (t 8)
+
+waits : (answer_of full 0 (t 7) ≡ noting.Full) × (answer_of (after_handed_out full (t 9)) 0 (t 7) ≡ noting.Kept) × (answer_of (after_lost full (t 9) EvictedPages 1) 0 (t 7) ≡ noting.Kept) × (answer_of full 0 (t 8) ≡ noting.Kept)
+unfolding looked
+waits = (refl, refl, refl, refl)
+
+nothing_changes : ((after_opened full 0 2 (t 7)).heard ≡ 2) × ((after_opened full 0 2 (t 7)).horizon ≡ 0) × (wholeness_of (after_opened full 0 2 (t 7)) (t 9) ≡ Unknown) × (wholeness_of (after_opened full 0 2 (t 7)) (t 7) ≡ UnheardSince)
+unfolding looked
+nothing_changes = (refl, refl, refl, refl)
 
 -- there is no client 2
-no_such_client : (answer_of none 2 ≡ noting.Refused) × ((after_opened whole_9 2 0 (t 9)).horizon ≡ 1)
+no_such_client : (answer_of none 2 (t 9) ≡ noting.Refused) × ((after_opened whole_9 2 0 (t 9)).horizon ≡ 1)
 no_such_client = (refl, refl)

@@ -5,6 +5,9 @@ use thiserror::Error;
 /// The most clients of a node.
 pub const MOST_CLIENTS: u16 = 256;
 
+/// The most traces that are looked at for one that may be forgotten.
+pub const MOST_LOOKS: u32 = 64;
+
 /// How much is kept.
 #[derive(Clone, Copy, Debug, PartialEq, Eq)]
 pub struct NoteLimits {
@@ -32,6 +35,9 @@ pub enum Noted {
     Kept,
     /// It is of a client that is not there.
     Refused,
+    /// As many traces are kept as may be, and of each that was looked at a segment is open or pages are to come. The note may come
+    /// again.
+    Full,
 }
 
 /// What a client says of a segment at its end: the pages that it sent, and what it refused or wrote to no buffer, by cause.

@@ -1,13 +1,13 @@
 //! One trace, as far as the node knows it.
 
 ghost use Rattle.std.specs.Prelude.{◌≡◌};
-ghost use Rattle.hs_whole.specs.Kept.{no_losses, fresh, reports_loss, with_report, with_loss, misses, begins, ends, loses, goes_out, wholeness};
+ghost use Rattle.hs_whole.specs.Kept.{no_losses, fresh, reports_loss, with_report, with_loss, misses, begins, ends, loses, goes_out, wholeness, is_settled, counted};
 
 use crate::answers::{Loss, SegmentReport};
 use hs_wire::{Losses, Wholeness};
 
-/// A trace: how many segments had been heard when its latest one was, pages sent in closed segments, pages handed out, whether
-/// a note of it may have been missed, whether something of it was lost, and what was lost by cause. A count stays at the
+/// A trace: how many segments had been heard when its latest one was, pages sent in segments whose end was the next note, pages
+/// handed out, whether a note of it may have been missed, whether something of it was lost, and what was lost by cause. A count stays at the
 /// greatest number of its type once it is there.
 #[derive(Clone, Copy, Debug, PartialEq, Eq)]
 pub struct Kept {
@@ -46,6 +46,17 @@ fn reports_loss(report: &SegmentReport) -> bool
         || report.long_points != 0
         || report.spent_points != 0
         || report.refused_crumbs != 0
+}
+
+/// How many pages count that a segment reports: none where a note of it may have been missed.
+fn counted(report: &SegmentReport, is_missed: bool) -> u64
+    ensures { result ≡ counted report.now is_missed }
+{
+    if is_missed {
+        0
+    } else {
+        u64::from(report.pages)
+    }
 }
 
 /// The losses with those that a segment reports. Points refused since numbers ended have no count among them.
@@ -129,7 +140,7 @@ impl Kept {
     pub(crate) fn end(&mut self, report: &SegmentReport, is_missed: bool)
         ensures { self.new ≡ ends report.now is_missed self.old }
     {
-        self.sent = self.sent.saturating_add(u64::from(report.pages));
+        self.sent = self.sent.saturating_add(counted(report, is_missed));
         self.is_missed = self.is_missed || is_missed;
         self.is_lost = self.is_lost || reports_loss(report);
         self.losses = with_report(self.losses, report);
@@ -148,6 +159,17 @@ impl Kept {
         ensures { self.new ≡ goes_out self.old }
     {
         self.handed_out = self.handed_out.saturating_add(1);
+    }
+
+    /// Whether as many pages left as its segments sent: they were handed out, evicted or abandoned. A full count says nothing.
+    pub(crate) fn is_settled(&self) -> bool
+        ensures { result ≡ is_settled self.now }
+    {
+        let gone = self
+            .handed_out
+            .saturating_add(self.losses.evicted_pages)
+            .saturating_add(self.losses.abandoned_pages);
+        self.sent < u64::MAX && self.sent <= gone
     }
 
     /// How whole it is, where so many segments of it are open.

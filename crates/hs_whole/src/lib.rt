@@ -7,7 +7,7 @@ mod laws;
 mod notes;
 mod track;
 
-pub use answers::{Loss, MOST_CLIENTS, MakeFault, NoteLimits, Noted, SegmentReport};
+pub use answers::{Loss, MOST_CLIENTS, MOST_LOOKS, MakeFault, NoteLimits, Noted, SegmentReport};
 pub use kept::Kept;
 pub use laws::whole_is_said_of_what_was_handed_out;
 pub use notes::SegmentNotes;

@@ -3,9 +3,9 @@
 ghost use Rattle.std.specs.Prelude.{◌≡◌, ◌<◌, ◌≤◌, ◌↔◌, length, Ok, Err, Some, None, IfOk, OnOk, OnErr, option_copied, count_by};
 ghost use Rattle.std.specs.NonZero.{non_zero_usize_get};
 ghost use Rattle.hs_whole.specs.Tracks.{is_open, begins_next, ends_next};
-ghost use Rattle.hs_whole.specs.Notes.{PlainNotes, AreOut, no_notes_in, kept_of, missed, missed_open, doubted, moved_horizon, with_new, remembered, checked, begun_in, ended_in, answer_of, opened, closed, after_opened, after_closed, after_lost, after_handed_out, standing_of};
+ghost use Rattle.hs_whole.specs.Notes.{PlainNotes, AreOut, no_notes_in, kept_of, missed, missed_open, doubted, moved_horizon, with_new, remembered, checked, begun_in, ended_in, is_over, has_place, turned, looked, searched, finds_place, answer_of, opened, closed, after_opened, after_closed, after_lost, after_handed_out, standing_of};
 
-use crate::answers::{Loss, MOST_CLIENTS, MakeFault, NoteLimits, Noted, SegmentReport};
+use crate::answers::{Loss, MOST_CLIENTS, MOST_LOOKS, MakeFault, NoteLimits, Noted, SegmentReport};
 use crate::kept::{Kept, no_losses};
 use crate::track::Track;
 use hs_base::{GroupId, Memory, TraceId};
@@ -91,6 +91,54 @@ impl SegmentNotes {
             Some((_, oldest)) => self.horizon.max(oldest.latest),
             None => self.horizon,
         }
+    }
+
+    /// Whether one trace more may be kept: a place is free, or nothing of the last trace is open or to come.
+    fn has_place(&self) -> bool
+        ensures { result ≡ has_place self.now }
+    {
+        if self.traces.len() < self.limits.traces as usize {
+            return true;
+        }
+        match self.traces.peek_lru() {
+            Some((trace, kept)) => kept.is_settled() && self.open_segments(*trace) == 0,
+            None => true,
+        }
+    }
+
+    /// The last trace is the first from now on.
+    fn turn(&mut self)
+        ensures { self.new ≡ turned self.old }
+    {
+        let Some((last, _)) = self.traces.peek_lru() else {
+            return;
+        };
+        let trace = *last;
+        self.traces.promote(&trace);
+    }
+
+    /// Looks for a trace that may be forgotten, from the last on.
+    fn look(&mut self)
+        ensures { self.new ≡ looked MOST_LOOKS self.old }
+    {
+        for _ in 0..MOST_LOOKS {
+            if self.has_place() {
+                break;
+            }
+            self.turn();
+        }
+    }
+
+    /// Looks for a place for a trace, and answers whether it is kept or there is one.
+    fn search(&mut self, trace: TraceId) -> bool
+        ensures found { result ≡ finds_place self.old trace }
+        ensures after { self.new ≡ searched self.old trace }
+    {
+        if self.traces.contains(&trace) {
+            return true;
+        }
+        self.look();
+        self.has_place()
     }
 
     /// Keeps a trace, as the one with the latest note. Where it is not kept yet, a note of it may have been missed or not.
@@ -216,15 +264,19 @@ impl SegmentNotes {
     }
 
     /// Hears that a client begins a segment of a trace, by a note of this number. After `Refused`, and after `Memory`, the
-    /// horizon has moved to the count of all segments that were heard, and nothing else changed.
+    /// horizon has moved to the count of all segments that were heard. After `Full`, and after `Memory`, traces may stand in
+    /// another order. Nothing else changed.
     pub fn opened(&mut self, client: u16, number: u64, trace: TraceId) -> Result<Noted, Memory>
-        ensures answer { IfOk result (λ noted. noted ≡ answer_of self.old client) }
+        ensures answer { IfOk result (λ noted. noted ≡ answer_of self.old client trace) }
         ensures after { OnOk result (self.new ≡ after_opened self.old client number trace) }
-        ensures memory { OnErr result (self.new ≡ missed self.old) }
+        ensures memory { OnErr result (self.new ≡ missed (searched self.old trace)) }
     {
         if client >= self.limits.clients {
             self.miss();
             return Ok(Noted::Refused);
+        }
+        if !self.search(trace) {
+            return Ok(Noted::Full);
         }
         match self.open_segment(client, number, trace) {
             Ok(()) => Ok(Noted::Kept),
@@ -236,7 +288,8 @@ impl SegmentNotes {
     }
 
     /// Hears that a client ends a segment of a trace, by a note of this number, and what it says of it. After `Refused`, and
-    /// after `Memory`, the horizon has moved to the count of all segments that were heard, and nothing else changed.
+    /// after `Memory`, the horizon has moved to the count of all segments that were heard. After `Full`, and after `Memory`,
+    /// traces may stand in another order. Nothing else changed.
     pub fn closed(
         &mut self,
         client: u16,
@@ -244,13 +297,16 @@ impl SegmentNotes {
         trace: TraceId,
         report: &SegmentReport,
     ) -> Result<Noted, Memory>
-        ensures answer { IfOk result (λ noted. noted ≡ answer_of self.old client) }
+        ensures answer { IfOk result (λ noted. noted ≡ answer_of self.old client trace) }
         ensures after { OnOk result (self.new ≡ after_closed self.old client number trace report.now) }
-        ensures memory { OnErr result (self.new ≡ missed self.old) }
+        ensures memory { OnErr result (self.new ≡ missed (searched self.old trace)) }
     {
         if client >= self.limits.clients {
             self.miss();
             return Ok(Noted::Refused);
+        }
+        if !self.search(trace) {
+            return Ok(Noted::Full);
         }
         match self.close_segment(client, number, trace, report) {
             Ok(()) => Ok(Noted::Kept),

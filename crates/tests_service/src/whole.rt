@@ -128,7 +128,8 @@ fn two_clients(alloc: Global) -> Result<bool, Memory> {
     Ok(both && one && says(&notes, NINE, Wholeness::Unknown, 0, 2))
 }
 
-/// With a third trace the one whose note is oldest is forgotten, and the horizon moves behind its one segment.
+/// With a third trace the one whose note is oldest is forgotten, and the horizon moves behind its one segment. Then trace 8 is
+/// forgotten behind its segment, the second that was heard, since the one of trace 7 is open.
 fn forgotten(alloc: Global) -> Result<bool, Memory> {
     let mut notes = whole_nine(alloc)?;
     notes.opened(1, 0, EIGHT)?;
@@ -137,23 +138,59 @@ fn forgotten(alloc: Global) -> Result<bool, Memory> {
     notes.closed(1, 1, EIGHT, &sent(0))?;
     notes.opened(1, 2, NINE)?;
     Ok(
-        gone && says(&notes, SEVEN, Wholeness::UnheardSince, 1, 3)
-            && says(&notes, EIGHT, Wholeness::WholeSince, 0, 3)
-            && says(&notes, NINE, Wholeness::Open, 1, 3)
+        gone && says(&notes, SEVEN, Wholeness::Open, 1, 2)
+            && says(&notes, EIGHT, Wholeness::UnheardSince, 0, 2)
+            && says(&notes, NINE, Wholeness::Open, 1, 2)
             && notes.heard() == 4
             && notes.len() == 2,
     )
 }
 
-/// The segment of a trace that was forgotten ends, so that a note of it was forgotten too.
-fn ends_forgotten(alloc: Global) -> Result<bool, Memory> {
+/// Client 0's segment of trace 9 sent two pages, one of which is handed out, and client 1 has a segment of trace 8.
+fn full(alloc: Global) -> Result<SegmentNotes, Memory> {
     let mut notes = none(alloc)?;
     notes.opened(0, 0, NINE)?;
+    notes.closed(0, 1, NINE, &sent(2))?;
+    notes.handed_out(NINE);
     notes.opened(1, 0, EIGHT)?;
-    notes.closed(1, 1, EIGHT, &sent(0))?;
-    notes.opened(1, 2, SEVEN)?;
-    notes.closed(0, 1, NINE, &sent(0))?;
-    Ok(says(&notes, NINE, Wholeness::Unknown, 0, 2))
+    Ok(notes)
+}
+
+/// A page of trace 9 is to come and a segment of trace 8 is open, so that a third trace finds no place.
+fn no_place(alloc: Global) -> Result<bool, Memory> {
+    let mut notes = full(alloc)?;
+    let answer = notes.opened(0, 2, SEVEN)?;
+    Ok(
+        answer == Noted::Full
+            && says(&notes, NINE, Wholeness::Unknown, 0, 0)
+            && says(&notes, EIGHT, Wholeness::Open, 1, 0)
+            && says(&notes, SEVEN, Wholeness::UnheardSince, 0, 0)
+            && notes.heard() == 2,
+    )
+}
+
+/// Once the page has left, the note that comes again finds a place.
+fn place_again(alloc: Global) -> Result<bool, Memory> {
+    let mut notes = full(alloc)?;
+    notes.opened(0, 2, SEVEN)?;
+    notes.lost(NINE, Loss::EvictedPages, 1);
+    let answer = notes.opened(0, 2, SEVEN)?;
+    Ok(
+        answer == Noted::Kept
+            && says(&notes, NINE, Wholeness::UnheardSince, 0, 1)
+            && says(&notes, EIGHT, Wholeness::Open, 1, 1)
+            && says(&notes, SEVEN, Wholeness::Open, 1, 1),
+    )
+}
+
+/// The end of a segment whose begin was missed: its trace is doubtful, and its pages count for nothing.
+fn ends_unheard(alloc: Global) -> Result<bool, Memory> {
+    let mut notes = none(alloc)?;
+    notes.closed(0, 1, NINE, &sent(3))?;
+    let doubtful = says(&notes, NINE, Wholeness::Unknown, 0, 0);
+    notes.opened(1, 0, EIGHT)?;
+    let answer = notes.opened(0, 2, SEVEN)?;
+    Ok(doubtful && answer == Noted::Kept && notes.kept(NINE).is_none())
 }
 
 /// Nothing lost but what is named.
@@ -285,7 +322,9 @@ fn whole(rt: HostRuntime) {
     row(&rt, "a gap here", gap_here(rt.alloc()));
     row(&rt, "two clients", two_clients(rt.alloc()));
     row(&rt, "forgotten", forgotten(rt.alloc()));
-    row(&rt, "ends forgotten", ends_forgotten(rt.alloc()));
+    row(&rt, "no place", no_place(rt.alloc()));
+    row(&rt, "a place again", place_again(rt.alloc()));
+    row(&rt, "ends unheard", ends_unheard(rt.alloc()));
     row(&rt, "lost nothing", lost_nothing(rt.alloc()));
     row(&rt, "lost", lost(rt.alloc()));
     row(&rt, "reported", reported(rt.alloc()));
