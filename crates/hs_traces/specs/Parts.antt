@@ -21,6 +21,10 @@ keys_of pages = map (λ page. page.0) pages
 abbrev pub has_key : Pages → PageKey → Bool
 has_key pages key = is_some (lookup (same_key key) pages)
 
+-- the page with this key
+abbrev pub page_with : Pages → PageKey → Option (List ℕ)
+page_with pages key = lookup (same_key key) pages
+
 -- the pages with one more, at the place of its key
 abbrev pub with_page : Pages → PageKey → List ℕ → Pages
 with_page pages key bytes = insert_entry key_cmp pages key bytes

@@ -18,7 +18,7 @@ use Rattle.hs_traces.specs.declared.answers.Offered.TheVariants.{Given, Unknown,
 use Rattle.hs_traces.specs.declared.key.Sender.{Sender}
 use Rattle.hs_traces.specs.declared.key.PageKey.{PageKey}
 use Rattle.hs_traces.specs.Keys.{is_own, key_of, key_at}
-use Rattle.hs_traces.specs.Parts.{Pages, bytes_of, keys_of, has_key, with_page, next_page}
+use Rattle.hs_traces.specs.Parts.{Pages, bytes_of, keys_of, has_key, page_with, with_page, next_page}
 
 abbrev pub Parts : Type 0
 Parts = List (TraceId × Pages)
@@ -121,6 +121,10 @@ after_saved s trace = record s { out = remove_entry (same_trace trace) s.out }
 -- the first page behind a key, or the first of all, of what is out of a trace
 abbrev pub page_behind : PlainTraces → TraceId → Option PageKey → Option (PageKey × List ℕ)
 page_behind s trace after = option_and_then (next_page after) (part_of s.out trace)
+
+-- the page with this key of what is out of a trace
+abbrev pub page_out : PlainTraces → TraceId → PageKey → Option (List ℕ)
+page_out s trace key = option_and_then (λ pages. page_with pages key) (part_of s.out trace)
 
 -- ---- worked examples: at most two traces wait, one is out, and ten bytes are held
 

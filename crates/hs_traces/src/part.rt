@@ -3,7 +3,7 @@
 ghost use Rattle.std.specs.Prelude.{◌≡◌, ◌+◌, ◌<◌, ◌^◌, [], length, count_by, find, slice_get, false, IfOk, OnOk, OnErr, option_map};
 ghost use Rattle.std.specs.Ordering.{is_lt};
 ghost use Rattle.hs_traces.specs.Keys.{is_from, key_cmp};
-ghost use Rattle.hs_traces.specs.Parts.{bytes_of, keys_of, has_key, with_page, next_page};
+ghost use Rattle.hs_traces.specs.Parts.{bytes_of, keys_of, has_key, page_with, with_page, next_page};
 
 use crate::key::{PageKey, is_from};
 use hs_base::{Bytes, List, Memory};
@@ -124,6 +124,16 @@ impl Part {
                 Ok(())
             }
             Err(_) => Err(Memory),
+        }
+    }
+
+    /// The page with this key.
+    pub fn get(&self, key: PageKey) -> Option<&[u8]>
+        ensures { option_map (λ bytes. bytes.now) result ≡ page_with self.now key }
+    {
+        match self.pages.get(&key) {
+            Some(page) => Some(page.as_slice()),
+            None => None,
         }
     }
 

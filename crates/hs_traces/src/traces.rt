@@ -8,7 +8,7 @@ ghost use Rattle.hs_words.specs.Pages.{Sheet};
 ghost use Rattle.hs_words.specs.Reading.{Spells};
 ghost use Rattle.hs_traces.specs.Keys.{is_from, is_own, key_of};
 ghost use Rattle.hs_traces.specs.Parts.{Pages, bytes_of};
-ghost use Rattle.hs_traces.specs.Traces.{PlainTraces, AreSmall, no_traces, has_page, has_page_in, keys_in, is_full, answer_to, answer_for, with_page_of, oldest_of, offered, answer_of_offer, after_saved, is_out, is_waiting, page_behind, counts_of, held_bytes};
+ghost use Rattle.hs_traces.specs.Traces.{PlainTraces, AreSmall, no_traces, has_page, has_page_in, keys_in, is_full, answer_to, answer_for, with_page_of, oldest_of, offered, answer_of_offer, after_saved, is_out, is_waiting, page_behind, page_out, counts_of, held_bytes};
 
 use crate::answers::{Added, LEAST_BYTES, MakeFault, Offered, TraceCounts, TraceLimits};
 use crate::key::{PageKey, Sender, is_own, key_of};
@@ -230,6 +230,14 @@ impl Traces {
     {
         let part = self.out.get(trace)?;
         part.next(after)
+    }
+
+    /// The page with this key of what is given out of a trace.
+    pub fn page(&self, trace: TraceId, key: PageKey) -> Option<&[u8]>
+        ensures { option_map (λ bytes. bytes.now) result ≡ page_out self.now trace key }
+    {
+        let part = self.out.get(trace)?;
+        part.get(key)
     }
 
     /// Whether a part of a trace waits to be given out.
