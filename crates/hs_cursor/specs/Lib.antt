@@ -1,0 +1,4 @@
+pub mod Rows
+pub mod Reading
+pub mod Walking
+pub mod CursorLayout
