@@ -1,6 +1,6 @@
 -- A hub: the groups that it follows, what lives say, the pages that it holds, and the messages that wait for their acknowledgement. What
 -- each message makes of them, and which trace may be given out.
-use Rattle.std.specs.Prelude.{◌≡◌, ℕ, ◌+◌, ◌-◌, ◌%◌, ◌^◌, ◌<◌, min, Bool, true, false, not, ◌||◌, ◌==◌, List, ◌++◌, length, fold, drop, nat_lt, nat_le, Option, Some, None, is_some, slice_get, if◌then◌else◌}
+use Rattle.std.specs.Prelude.{◌≡◌, ℕ, ◌+◌, ◌-◌, ◌%◌, ◌^◌, ◌<◌, min, Bool, true, false, not, ◌||◌, ◌==◌, List, ◌++◌, length, fold, drop, nat_lt, nat_le, Option, Some, None, is_some, slice_get, unwrap_or, [], if◌then◌else◌}
 use Rattle.std.specs.List.{list_any}
 use Rattle.std.specs.Option.{option_map_or, option_and_then}
 use Rattle.hs_base.specs.declared.ids.NodeId.{NodeId}
@@ -30,12 +30,14 @@ use Rattle.hs_traces.specs.declared.answers.TheConstants.{LEAST_BYTES}
 use Rattle.hs_traces.specs.declared.key.PageKey.{PageKey}
 use Rattle.hs_traces.specs.declared.key.Sender.{Sender}
 use Rattle.hs_traces.specs.Keys.{is_own, key_of}
+use Rattle.hs_traces.specs.Parts.{Pages}
 use Rattle.hs_traces.specs.Traces as traces
 use Rattle.hs_traces.specs.Traces.{PlainTraces, held_bytes, keys_in}
 use Rattle.hs_receipts.specs.declared.answers.MessageId.{MessageId}
 use Rattle.hs_receipts.specs.declared.answers.Waiting.{Waiting}
 use Rattle.hs_receipts.specs.Receipts as receipts
 use Rattle.hs_receipts.specs.Receipts.{PlainReceipts, kept, is_noted, is_for}
+use Rattle.hs_cursor.specs.Walking.{Place, Found, step}
 use Rattle.hs_verdict.specs.Verdict.{is_whole}
 use Rattle.hs_hub.specs.declared.answers.HubLimits.{HubLimits}
 use Rattle.hs_hub.specs.declared.answers.HubCounts.{HubCounts}
@@ -299,6 +301,13 @@ after_take h = after_given h (answer_to_take h)
 -- the pages of the trace that is out
 abbrev pub page_of_out : PlainHub → Option PageKey → Option (PageKey × List ℕ)
 page_of_out h after = option_and_then (λ trace. traces.page_behind h.traces trace after) h.receipts.out
+
+abbrev pub pages_out : PlainHub → Pages
+pages_out h = unwrap_or (option_and_then (traces.part_of h.traces.out) h.receipts.out) []
+
+-- their next row behind a cursor
+abbrev pub next_row : PlainHub → Place → Found
+next_row h place = step (pages_out h) place
 
 abbrev pub is_whole_out : PlainHub → Bool
 is_whole_out h = option_map_or (λ trace. is_whole h.groups h.standings trace (keys_in h.traces.out trace)) h.receipts.out false

@@ -6,14 +6,18 @@ ghost use Rattle.hs_words.specs.Reading.{Spells};
 ghost use Rattle.hs_standings.specs.Standing.{latest_of};
 ghost use Rattle.hs_verdict.specs.Verdict.{node_word, word_of};
 ghost use Rattle.hs_traces.specs.Keys.{key_of, is_own};
+ghost use Rattle.hs_traces.specs.Parts.{page_with};
 ghost use Rattle.hs_traces.specs.Traces.{page_behind};
+ghost use Rattle.hs_cursor.specs.CursorLayout.{plain as plain_row};
+ghost use Rattle.hs_cursor.specs.Walking.{row_of, place_of, step_inside, step_on};
 ghost use Rattle.hs_wire.specs.Messages.{PlainMessage, IsMessage, message_bytes, plain};
-ghost use Rattle.hs_hub.specs.Hub.{PlainHub, IsDelivered, are_out, no_hub, noted, answer_to_hear, after_hear, answer_to_told, after_told, answer_to_page, after_page, answer_to_standing, after_standing, IsReported, ask_of, IsWritten, IsShort, after_next, after_pass, is_pressed, aged, may_go, answer_to_take, after_take, after_saved, is_whole_out, page_of_out, repeated, after_named, counts_of};
+ghost use Rattle.hs_hub.specs.Hub.{PlainHub, IsDelivered, are_out, no_hub, noted, answer_to_hear, after_hear, answer_to_told, after_told, answer_to_page, after_page, answer_to_standing, after_standing, IsReported, ask_of, IsWritten, IsShort, after_next, after_pass, is_pressed, aged, may_go, answer_to_take, after_take, after_saved, pages_out, next_row, is_whole_out, page_of_out, repeated, after_named, counts_of};
 
 use crate::answers::{Delivered, HubCounts, HubLimits, MakeFault};
 use crate::ready::first_ready;
 use hs_base::limits::MOST_NODES;
 use hs_base::{Ask, Laterals, Memory, NodeId, Told, TraceId};
+use hs_cursor::{Cursor, Row};
 use hs_groups::{GroupLimits, Groups, Heard, Taken};
 use hs_receipts::{MessageId, Receipts};
 use hs_standings::{Life, Noted, Standings};
@@ -424,6 +428,45 @@ impl Hub {
     {
         let trace = self.receipts.out()?;
         self.traces.next_page(trace, after)
+    }
+
+    /// The page with this key of the trace that is out.
+    fn page_out(&self, key: PageKey) -> Option<&[u8]>
+        ensures { option_map (λ bytes. bytes.now) result ≡ page_with (pages_out self.now) key }
+    {
+        let trace = self.receipts.out()?;
+        self.traces.page(trace, key)
+    }
+
+    /// The next row of the page that a cursor stands in.
+    fn row_inside(&self, cursor: &mut Cursor) -> Option<Row<'_>>
+        ensures row { option_map plain_row result ≡ row_of (step_inside (pages_out self.now) cursor.old) }
+        ensures after { cursor.new ≡ place_of (step_inside (pages_out self.now) cursor.old) cursor.old }
+    {
+        let key = cursor.page()?;
+        let bytes = self.page_out(key)?;
+        cursor.inside(bytes)
+    }
+
+    /// The first row of the page behind the one that a cursor stands in.
+    fn row_behind(&self, cursor: &mut Cursor) -> Option<Row<'_>>
+        ensures row { option_map plain_row result ≡ row_of (step_on (pages_out self.now) cursor.old) }
+        ensures after { cursor.new ≡ place_of (step_on (pages_out self.now) cursor.old) cursor.old }
+    {
+        let (key, bytes) = self.next_page(cursor.page())?;
+        cursor.enter(key, bytes)
+    }
+
+    /// The next row of the trace that is out, behind a cursor, which goes on behind it. `None` where there is none, and the cursor stays.
+    /// A cursor serves the trace for which it was started. Takes no memory.
+    pub fn next_row(&self, cursor: &mut Cursor) -> Option<Row<'_>>
+        ensures row { option_map plain_row result ≡ row_of (next_row self.now cursor.old) }
+        ensures after { cursor.new ≡ place_of (next_row self.now cursor.old) cursor.old }
+    {
+        match self.row_inside(cursor) {
+            Some(row) => Some(row),
+            None => self.row_behind(cursor),
+        }
     }
 
     /// Whether the trace that is out is whole. `false` where none is.
