@@ -1,6 +1,6 @@
 -- Whether a hub has all pages of a trace that lives say they handed out. Messages overtake each other, so a life may say that its part is whole
 -- before its last page comes.
-use Rattle.std.specs.Prelude.{◌≡◌, ℕ, Bool, true, false, ◌==◌, List, [], ◌∷◌, count_by, Some, refl}
+use Rattle.std.specs.Prelude.{◌≡◌, Bool, true, false, ◌==◌, List, [], ◌∷◌, count_by, refl}
 use Rattle.std.specs.List.{list_all}
 use Rattle.std.specs.Option.{option_map_or}
 use Rattle.hs_base.specs.declared.ids.TraceId.{TraceId}

@@ -2,9 +2,9 @@
 -- whole. Nothing more is to come of a trace where each node that was asked for it answered and the latest life of each is closed to it.
 -- It is whole where, besides, no earlier life is open, all pages came that lives say they handed out, and each life that wrote a page of it
 -- says that its part is whole.
-use Rattle.std.specs.Prelude.{◌≡◌, ℕ, Bool, true, false, not, ◌&&◌, ◌||◌, ◌==◌, List, [], ◌∷◌, nat_lt, Option, Some, None, if◌then◌else◌, refl}
+use Rattle.std.specs.Prelude.{◌≡◌, ℕ, Bool, true, false, not, ◌&&◌, ◌||◌, ◌==◌, List, [], ◌∷◌, nat_lt, filter, slice_get, Option, Some, None, option_map, if◌then◌else◌, refl}
 use Rattle.std.specs.List.{list_all, list_any}
-use Rattle.std.specs.Option.{option_map_or}
+use Rattle.std.specs.Option.{option_map_or, option_and_then}
 use Rattle.hs_base.specs.declared.ids.NodeId.{NodeId}
 use Rattle.hs_base.specs.declared.ids.TraceId.{TraceId}
 use Rattle.hs_base.specs.declared.node_set.NodeSet.{NodeSet}
@@ -22,7 +22,7 @@ use Rattle.hs_groups.specs.Groups as groups
 use Rattle.hs_groups.specs.Groups.{PlainGroups}
 use Rattle.hs_standings.specs.declared.answers.Life.{Life}
 use Rattle.hs_standings.specs.declared.answers.Latest.{Latest}
-use Rattle.hs_standings.specs.Standing.{PlainStandings, no_standings, latest_of, with_standing, whole_at, open_at}
+use Rattle.hs_standings.specs.Standing.{PlainStandings, Lives, lives_of, no_standings, latest_of, with_standing, whole_at, open_at}
 use Rattle.hs_standings.specs.Closing.{is_closed, says_whole, are_closed}
 use Rattle.hs_traces.specs.declared.key.PageKey.{PageKey}
 use Rattle.hs_traces.specs.Keys.{key_at}
@@ -35,6 +35,14 @@ use Rattle.hs_verdict.specs.declared.words.LifeWord.TheVariants as of_life
 -- whether a group claims a trace: as its lead or as a lateral
 abbrev pub claims : TraceId → Followed → Bool
 claims trace followed = same_trace trace followed.ask.group.lead || list_any (same_trace trace) followed.ask.laterals
+
+-- of the groups that claim a trace, the oldest one first, the one at this place
+abbrev pub claim_at : PlainGroups → TraceId → ℕ → Option Followed
+claim_at g trace place = slice_get (filter (claims trace) g.groups) place
+
+-- of the lives that spoke of a trace, the one at this place in the order in which they spoke first
+abbrev pub life_at : PlainStandings → TraceId → ℕ → Option Life
+life_at s trace place = option_map (λ (entry : Life × Latest). entry.0) (option_and_then (λ (lives : Lives). slice_get lives place) (lives_of s.books trace))
 
 -- ---- what is said of a node, and of a life
 
@@ -109,12 +117,18 @@ answered = groups.after_told lone (n 1) 3 (told_of 7 0 why.Answer)
 nodes_speak : (node_word lone (t 107) (n 0) ≡ of_node.Answered) × (node_word lone (t 107) (n 1) ≡ of_node.Silent) × (node_word answered (t 107) (n 1) ≡ of_node.Answered) × (node_word answered (t 107) (n 2) ≡ of_node.NotAsked)
 nodes_speak = (refl, refl, refl, refl)
 
-abbrev life_at : (node epoch : ℕ) → Life
-life_at node epoch = record { node = node; epoch = epoch }
+abbrev a_life : (node epoch : ℕ) → Life
+a_life node epoch = record { node = node; epoch = epoch }
+
+claimed : (claim_at lone (t 107) 0 ≡ slice_get lone.groups 0) × (claim_at lone (t 107) 1 ≡ None) × (claim_at lone (t 108) 0 ≡ None)
+claimed = (refl, refl, refl)
 
 -- both lives say whole
 abbrev both : PlainStandings
-both = with_standing (with_standing (no_standings 9) (t 107) (life_at 0 5) (whole_at 6)) (t 107) (life_at 1 3) (whole_at 2)
+both = with_standing (with_standing (no_standings 9) (t 107) (a_life 0 5) (whole_at 6)) (t 107) (a_life 1 3) (whole_at 2)
+
+lives : (life_at both (t 107) 0 ≡ Some (a_life 0 5)) × (life_at both (t 107) 1 ≡ Some (a_life 1 3)) × (life_at both (t 107) 2 ≡ None) × (life_at both (t 8) 0 ≡ None)
+lives = (refl, refl, refl, refl)
 
 abbrev pages : List PageKey
 pages = key_at 0 5 0 0 0 ∷ key_at 1 3 0 0 0 ∷ []
@@ -135,6 +149,6 @@ late_page = refl
 
 -- not with an open life, be it an earlier one, nor with a page of a life that said nothing, nor where a newer life was heard that
 -- has said nothing
-open_lives : (is_whole answered (with_standing both (t 107) (life_at 1 2) (open_at 1)) (t 107) pages ≡ false) × (is_whole answered both (t 107) (key_at 1 2 0 0 0 ∷ pages) ≡ false) × (is_whole (groups.heard answered (n 1) 4) both (t 107) pages ≡ false)
+open_lives : (is_whole answered (with_standing both (t 107) (a_life 1 2) (open_at 1)) (t 107) pages ≡ false) × (is_whole answered both (t 107) (key_at 1 2 0 0 0 ∷ pages) ≡ false) × (is_whole (groups.heard answered (n 1) 4) both (t 107) pages ≡ false)
 unfolding nodes_of
 open_lives = (refl, refl, refl)

@@ -3,7 +3,7 @@
 ghost use Rattle.std.specs.Prelude.{◌≡◌, Some, option_copied};
 ghost use Rattle.std.specs.List.{list_any};
 ghost use Rattle.hs_standings.specs.Standing.{latest_of};
-ghost use Rattle.hs_verdict.specs.Verdict.{asks, still_asks, node_word, word_of};
+ghost use Rattle.hs_verdict.specs.Verdict.{asks, still_asks, node_word, word_of, life_at};
 
 use crate::asked::claims;
 use hs_base::limits::MOST_NODES;
@@ -106,5 +106,16 @@ pub fn life_word(standings: &Standings, trace: TraceId, life: Life) -> LifeWord
     match standings.latest(trace, life) {
         Some(latest) => word_of(latest),
         None => LifeWord::Silent,
+    }
+}
+
+/// Of the lives that spoke of a trace, the one at this place in the order in which they spoke first.
+pub fn life_at(standings: &Standings, trace: TraceId, place: usize) -> Option<Life>
+    ensures { result ≡ life_at standings.now trace place }
+{
+    let lives = standings.lives(trace)?;
+    match lives.get_index(place) {
+        Some((life, _)) => Some(*life),
+        None => None,
     }
 }
