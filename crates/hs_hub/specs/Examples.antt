@@ -13,7 +13,7 @@ use Rattle.hs_traces.specs.Traces.{held_bytes}
 use Rattle.hs_receipts.specs.declared.answers.MessageId.{MessageId}
 use Rattle.hs_hub.specs.declared.answers.HubLimits.{HubLimits}
 use Rattle.hs_hub.specs.declared.answers.Delivered.TheVariants.{Held, Refused, Full}
-use Rattle.hs_hub.specs.Hub.{PlainHub, no_hub, answer_to_told, after_told, answer_to_page, after_page, after_standing, answer_to_take, after_take, after_saved, after_pass, is_whole_out}
+use Rattle.hs_hub.specs.Hub.{PlainHub, no_hub, answer_to_told, after_told, answer_to_page, after_page, after_standing, answer_to_take, after_take, after_saved, after_pass, part_out, is_whole_out}
 
 abbrev few : HubLimits
 few = record { nodes = 4; groups = 4; hold = 4; bytes = 100000; standings = 16; messages = 64; wait = 5; tries = 1; age = 1 }
@@ -50,6 +50,11 @@ given_out = (refl, refl, refl)
 saved : (length (after_saved (after_take closed)).receipts.done ≡ 5) × (held_bytes (after_saved (after_take closed)).traces ≡ 0)
 unfolding nodes_of
 saved = (refl, refl)
+
+-- it is the first part, and what comes of it later is the next one
+parts : (part_out (after_take closed) ≡ Some 0) × (part_out (after_take (after_pass (after_page (after_saved (after_take closed)) (m 0 4) (t 107) (key_at 0 5 0 0 1) page))) ≡ Some 1)
+unfolding nodes_of
+parts = (refl, refl)
 
 -- a page that comes again is held and adds nothing
 again : (answer_to_page closed (m 0 9) (t 107) (key_at 0 5 0 0 0) page ≡ Held) × (held_bytes (after_page closed (m 0 9) (t 107) (key_at 0 5 0 0 0) page).traces ≡ 3)

@@ -1,6 +1,6 @@
 -- A hub: the groups that it follows, what lives say, the pages that it holds, and the messages that wait for their acknowledgement. What
 -- each message makes of them, and which trace may be given out.
-use Rattle.std.specs.Prelude.{◌≡◌, ℕ, ◌+◌, ◌-◌, ◌%◌, ◌^◌, ◌<◌, min, Bool, true, false, not, ◌||◌, ◌==◌, List, ◌++◌, length, fold, drop, nat_lt, nat_le, Option, Some, None, is_some, slice_get, unwrap_or, [], if◌then◌else◌}
+use Rattle.std.specs.Prelude.{◌≡◌, ℕ, ◌+◌, ◌-◌, ◌%◌, ◌^◌, ◌<◌, min, Bool, true, false, not, ◌||◌, ◌==◌, List, ◌++◌, length, fold, drop, nat_lt, nat_le, Option, Some, None, is_some, slice_get, unwrap_or, option_map, [], if◌then◌else◌}
 use Rattle.std.specs.List.{list_any}
 use Rattle.std.specs.Option.{option_map_or, option_and_then}
 use Rattle.hs_base.specs.declared.ids.NodeId.{NodeId}
@@ -17,6 +17,7 @@ use Rattle.hs_groups.specs.declared.answers.Heard.{Heard}
 use Rattle.hs_groups.specs.declared.answers.Heard.TheVariants as hearing
 use Rattle.hs_groups.specs.declared.answers.Taken as group_answers
 use Rattle.hs_groups.specs.declared.answers.Taken.TheVariants as of_group
+use Rattle.hs_groups.specs.declared.followed.Followed.{Followed}
 use Rattle.hs_groups.specs.Groups as groups
 use Rattle.hs_groups.specs.Groups.{PlainGroups}
 use Rattle.hs_standings.specs.declared.answers.Life.{Life}
@@ -38,7 +39,9 @@ use Rattle.hs_receipts.specs.declared.answers.Waiting.{Waiting}
 use Rattle.hs_receipts.specs.Receipts as receipts
 use Rattle.hs_receipts.specs.Receipts.{PlainReceipts, kept, is_noted, is_for}
 use Rattle.hs_cursor.specs.Walking.{Place, Found, step}
-use Rattle.hs_verdict.specs.Verdict.{is_whole}
+use Rattle.hs_saved.specs.Saved as saved
+use Rattle.hs_saved.specs.Saved.{PlainSaved, no_saved, parts_of}
+use Rattle.hs_verdict.specs.Verdict.{is_whole, claim_at, life_at}
 use Rattle.hs_hub.specs.declared.answers.HubLimits.{HubLimits}
 use Rattle.hs_hub.specs.declared.answers.HubCounts.{HubCounts}
 use Rattle.hs_hub.specs.declared.answers.Delivered.{Delivered}
@@ -56,6 +59,8 @@ pub record PlainHub : Type 0 where
   pub standings : PlainStandings
   pub traces : PlainTraces
   pub receipts : PlainReceipts
+  -- of the traces that were saved last, how many parts of each
+  pub saved : PlainSaved
 
 -- whether a limit is out of its range
 abbrev pub are_out : HubLimits → Bool
@@ -71,6 +76,7 @@ no_hub epoch limits = record {
   standings = standings.no_standings limits.standings;
   traces = traces.no_traces (record { hold = limits.hold; outs = 1; bytes = limits.bytes });
   receipts = receipts.no_receipts limits.messages;
+  saved = no_saved limits.groups;
 }
 
 -- ---- a message waits for a trace
@@ -309,6 +315,17 @@ pages_out h = unwrap_or (option_and_then (traces.part_of h.traces.out) h.receipt
 abbrev pub next_row : PlainHub → Place → Found
 next_row h place = step (pages_out h) place
 
+-- which part of it is out: how many were saved before
+abbrev pub part_out : PlainHub → Option ℕ
+part_out h = option_map (parts_of h.saved) h.receipts.out
+
+-- of the groups that claim it, the oldest one first, and of the lives that spoke of it, those at this place
+abbrev pub claim_out : PlainHub → ℕ → Option Followed
+claim_out h place = option_and_then (λ trace. claim_at h.groups trace place) h.receipts.out
+
+abbrev pub life_out : PlainHub → ℕ → Option Life
+life_out h place = option_and_then (λ trace. life_at h.standings trace place) h.receipts.out
+
 abbrev pub is_whole_out : PlainHub → Bool
 is_whole_out h = option_map_or (λ trace. is_whole h.groups h.standings trace (keys_in h.traces.out trace)) h.receipts.out false
 
@@ -320,6 +337,7 @@ after_saved_of h (Some trace) = record h {
   traces = traces.after_saved h.traces trace;
   receipts = receipts.after_saved h.receipts;
   standings = if list_any (is_for trace) h.receipts.waiting then h.standings else standings.without_trace h.standings trace;
+  saved = saved.noted h.saved trace;
 }
 after_saved_of h None = record h { receipts = receipts.after_saved h.receipts }
 

@@ -3,3 +3,4 @@ pub mod Hub
 pub mod HubLayout
 pub mod Examples
 pub mod Life
+pub mod ByService

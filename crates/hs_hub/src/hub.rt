@@ -1,6 +1,6 @@
 //! The hub.
 
-ghost use Rattle.std.specs.Prelude.{◌≡◌, ◌≢◌, ◌↔◌, ◌<◌, ◌++◌, ℕ, length, true, fold, Err, Some, IfOk, OnOk, OnErr, option_map, drop, slice_get};
+ghost use Rattle.std.specs.Prelude.{◌≡◌, ◌≢◌, ◌↔◌, ◌<◌, ◌++◌, ℕ, length, true, fold, Err, Some, IfOk, OnOk, OnErr, option_map, option_copied, drop, slice_get};
 ghost use Rattle.hs_words.specs.Pages.{Sheet};
 ghost use Rattle.hs_words.specs.Reading.{Spells};
 ghost use Rattle.hs_standings.specs.Standing.{latest_of};
@@ -11,20 +11,25 @@ ghost use Rattle.hs_traces.specs.Traces.{page_behind};
 ghost use Rattle.hs_cursor.specs.CursorLayout.{plain as plain_row};
 ghost use Rattle.hs_cursor.specs.Walking.{row_of, place_of, step_inside, step_on};
 ghost use Rattle.hs_wire.specs.Messages.{PlainMessage, IsMessage, message_bytes, plain};
-ghost use Rattle.hs_hub.specs.Hub.{PlainHub, IsDelivered, are_out, no_hub, noted, answer_to_hear, after_hear, answer_to_told, after_told, answer_to_page, after_page, answer_to_standing, after_standing, IsReported, ask_of, IsWritten, IsShort, after_next, after_pass, is_pressed, aged, may_go, answer_to_take, after_take, after_saved, pages_out, next_row, is_whole_out, page_of_out, repeated, after_named, counts_of};
+ghost use Rattle.hs_settings.specs.Settings.{service_of, IsServiceSettings};
+ghost use Rattle.hs_hub.specs.ByService.{limits_by};
+ghost use Rattle.hs_hub.specs.Hub.{PlainHub, IsDelivered, are_out, no_hub, noted, answer_to_hear, after_hear, answer_to_told, after_told, answer_to_page, after_page, answer_to_standing, after_standing, IsReported, ask_of, IsWritten, IsShort, after_next, after_pass, is_pressed, aged, may_go, answer_to_take, after_take, after_saved, pages_out, next_row, is_whole_out, page_of_out, part_out, claim_out, life_out, repeated, after_named, counts_of};
 
 use crate::answers::{Delivered, HubCounts, HubLimits, MakeFault};
+use crate::limits::hub_limits;
 use crate::ready::first_ready;
 use hs_base::limits::MOST_NODES;
 use hs_base::{Ask, Laterals, Memory, NodeId, Told, TraceId};
 use hs_cursor::{Cursor, Row};
-use hs_groups::{GroupLimits, Groups, Heard, Taken};
+use hs_groups::{Followed, GroupLimits, Groups, Heard, Taken};
 use hs_receipts::{MessageId, Receipts};
+use hs_saved::Saved;
+use hs_settings::ServiceSettings;
 use hs_standings::{Life, Noted, Standings};
 use hs_traces::{
     Added, LEAST_BYTES, PageKey, Sender, TraceLimits, Traces, is_own, key_of, read_header,
 };
-use hs_verdict::{LifeWord, NodeWord, is_whole, life_word, node_word};
+use hs_verdict::{LifeWord, NodeWord, claim_at, is_whole, life_at, life_word, node_word};
 use hs_wire::{Body, Head, Message, Standing, WriteFault, read, write};
 use std::alloc::Global;
 use std::marker::Model;
@@ -41,6 +46,7 @@ pub struct Hub {
     standings: Standings,
     traces: Traces,
     receipts: Receipts,
+    saved: Saved,
 }
 
 impl Model for Hub {
@@ -123,6 +129,20 @@ impl Hub {
         }
     }
 
+    /// A hub that has heard nothing, by the settings of a service.
+    pub fn by_settings(
+        alloc: Global,
+        epoch: u64,
+        settings: &ServiceSettings,
+    ) -> Result<Hub, MakeFault>
+        ensures made { IfOk result (λ hub. hub ≡ no_hub epoch (limits_by (service_of settings.now))) }
+        ensures limits { (result ≡ Err MakeFault.Limits) ↔ (are_out (limits_by (service_of settings.now)) ≡ true) }
+        // Settings that were read are within all limits: then memory alone may be wanting.
+        ensures valid { IsServiceSettings (service_of settings.now) → result ≢ Err MakeFault.Limits }
+    {
+        Hub::make(alloc, epoch, hub_limits(settings))
+    }
+
     /// A hub that has heard nothing.
     fn empty(alloc: Global, epoch: u64, limits: HubLimits) -> Result<Hub, Memory>
         ensures { IfOk result (λ hub. hub ≡ no_hub epoch limits) }
@@ -153,6 +173,7 @@ impl Hub {
             standings: Standings::make(alloc, limits.standings),
             traces,
             receipts: Receipts::make(alloc, limits.messages)?,
+            saved: Saved::make(alloc, limits.groups)?,
         })
     }
 
@@ -422,6 +443,32 @@ impl Hub {
         self.receipts.out()
     }
 
+    /// Which part of the trace is out: 0 where none was saved before, as far as that is known of the traces that were saved last.
+    pub fn part(&self) -> Option<u32>
+        ensures { result ≡ part_out self.now }
+    {
+        match self.receipts.out() {
+            Some(trace) => Some(self.saved.parts(trace)),
+            None => None,
+        }
+    }
+
+    /// Of the groups that claim the trace that is out, the oldest one first, the one at this place.
+    pub fn claim(&self, place: usize) -> Option<&Followed>
+        ensures { option_copied result ≡ claim_out self.now place }
+    {
+        let trace = self.receipts.out()?;
+        claim_at(&self.groups, trace, place)
+    }
+
+    /// Of the lives that spoke of the trace that is out, the one at this place in the order in which they spoke first.
+    pub fn life(&self, place: usize) -> Option<Life>
+        ensures { result ≡ life_out self.now place }
+    {
+        let trace = self.receipts.out()?;
+        life_at(&self.standings, trace, place)
+    }
+
     /// The first page behind this key, or the first of all, of the trace that is out.
     pub fn next_page(&self, after: Option<PageKey>) -> Option<(PageKey, &[u8])>
         ensures { option_map (λ next. (next.0, next.1.now)) result ≡ page_of_out self.now after }
@@ -490,6 +537,7 @@ impl Hub {
         if !self.receipts.has_waiting(trace) {
             self.standings.forget(trace);
         }
+        self.saved.note(trace);
         Some(trace)
     }
 
