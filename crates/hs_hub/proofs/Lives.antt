@@ -75,7 +75,7 @@ lets_go : (h : PlainHub) (trace : Option TraceId) → (after_saved_of h trace).t
 lets_go h None = refl
 lets_go h (Some trace) = refl
 
-one_call : (h : PlainHub) (act : Act) → (after h act).traces ≡ after_all h.traces (deeds_of h act)
+pub one_call : (h : PlainHub) (act : Act) → (after h act).traces ≡ after_all h.traces (deeds_of h act)
 one_call h (Hears node epoch) = refl
 one_call h (Tells message told) =
     keeps (nat_le (room h) (length told.laterals)) h (after_answer_to_told h message told (groups.answer_to h.groups (node_of message) message.epoch told))

@@ -3,4 +3,5 @@ pub mod Hub
 pub mod HubLayout
 pub mod Examples
 pub mod Life
+pub mod RowsOut
 pub mod ByService

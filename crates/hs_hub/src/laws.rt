@@ -1,11 +1,13 @@
 //! Laws of a hub. Each is the contract of a function that does nothing.
 
-ghost use Rattle.std.specs.Prelude.{◌≡◌, List};
+ghost use Rattle.std.specs.Prelude.{◌≡◌, ℕ, List};
 ghost use Rattle.hs_base.specs.declared.ids.TraceId.{TraceId};
 ghost use Rattle.hs_traces.specs.Traces.{part_of};
 ghost use Rattle.hs_traces.specs.History.{HoldsNothing, HearsAll, AreSamePages, after_all, pages_of};
-ghost use Rattle.hs_hub.specs.Hub.{PlainHub};
+ghost use Rattle.hs_hub.specs.declared.answers.HubLimits.{HubLimits};
+ghost use Rattle.hs_hub.specs.Hub.{PlainHub, no_hub};
 ghost use Rattle.hs_hub.specs.Life.{Act, life, all_deeds};
+ghost use Rattle.hs_hub.specs.RowsOut.{AllBringPages, GivesRows};
 
 /// Whatever calls a hub has had: its pages are those that came, less what was given out and saved.
 pub fn pages_come_and_go()
@@ -21,4 +23,10 @@ pub fn messages_decide_the_part()
         → HearsAll trace one.traces (all_deeds one acts) → HearsAll trace other.traces (all_deeds other others)
         → AreSamePages (pages_of trace (all_deeds one acts)) (pages_of trace (all_deeds other others))
         → part_of (life one acts).traces.waiting trace ≡ part_of (life other others).traces.waiting trace }
+{}
+
+/// Where each page that came is one, as `reported` takes no other: whatever calls a hub has had, what is out are pages, and the steps of
+/// a cursor answer their rows one by one in their order, each once, and then none.
+pub fn rows_are_of_what_came()
+    ensures { (epoch : ℕ) (limits : HubLimits) (acts : List Act) → AllBringPages acts → GivesRows (life (no_hub epoch limits) acts) }
 {}

@@ -10,7 +10,7 @@ mod ready;
 
 pub use answers::{Delivered, HubCounts, HubLimits, MakeFault};
 pub use hub::Hub;
-pub use laws::{messages_decide_the_part, pages_come_and_go};
+pub use laws::{messages_decide_the_part, pages_come_and_go, rows_are_of_what_came};
 pub use limits::{
     DEFAULT_AGE, DEFAULT_TRIES, DEFAULT_WAIT, MESSAGES_OF_A_TRACE, STANDINGS_OF_A_TRACE, hub_limits,
 };
