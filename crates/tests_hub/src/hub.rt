@@ -1,0 +1,206 @@
+//! A trace of two nodes from its first message until it is saved; with an open life, and at a limit.
+
+use crate::rows::row;
+use hs_base::{Group, GroupId, Laterals, Memory, NodeId, NodeSet, Told, TraceId, TriggerId, Why};
+use hs_hub::{Delivered, Hub, HubLimits, MakeFault};
+use hs_receipts::MessageId;
+use hs_wire::{Losses, Standing, Wholeness};
+use std::alloc::Global;
+
+/// The page of `docs/FORMATS.md` with one record of one byte: of trace 1, written by client 0 of node 0.
+pub(crate) const PAGE: [u8; 43] = [
+    0, 0, 0, 0, 0, 0, 0, 0, 0, 0, 0, 0, 0, 0, 0, 1, 0, 0, 0, 0, 0, 0, 0, 0, 0, 0, 0, 0, 0, 1, 0,
+    35, 0, 1, 0, 0, 0, 0, 0, 0, 0, 5, 0xaa,
+];
+
+pub(crate) const LIMITS: HubLimits = HubLimits {
+    nodes: 4,
+    groups: 4,
+    hold: 4,
+    bytes: 100_000,
+    standings: 16,
+    messages: 64,
+    wait: 5,
+    tries: 1,
+    age: 10,
+};
+
+pub(crate) fn made(alloc: Global, limits: HubLimits) -> Result<Hub, Memory> {
+    match Hub::make(alloc, 3, limits) {
+        Ok(hub) => Ok(hub),
+        Err(_) => Err(Memory),
+    }
+}
+
+/// A message of life 5 of a node.
+pub(crate) fn message(node: u16, number: u64) -> MessageId {
+    MessageId {
+        node,
+        epoch: 5,
+        number,
+    }
+}
+
+/// A node tells of group 7 of node 0, whose lead is trace 1, with crumbs to these nodes.
+pub(crate) fn tell(hub: &mut Hub, node: u16, number: u64, crumbs: u128, why: Why) -> Delivered {
+    let told = Told {
+        group: Group {
+            id: GroupId { node: 0, number: 7 },
+            trigger: TriggerId(1),
+            lead: TraceId(1),
+        },
+        laterals: Laterals::none(),
+        crumbs: NodeSet(crumbs),
+        why,
+    };
+    hub.told(message(node, number), &told)
+}
+
+/// Node 0 reports the page.
+fn report(hub: &mut Hub, number: u64) -> Option<Delivered> {
+    hub.reported(message(0, number), 0, 1, &PAGE).ok()
+}
+
+/// A node says how whole its part of trace 1 is.
+fn stand(hub: &mut Hub, node: u16, number: u64, wholeness: Wholeness) -> Option<Delivered> {
+    let standing = Standing {
+        trace: TraceId(1),
+        group: GroupId { node: 0, number: 7 },
+        wholeness,
+        open_segments: 0,
+        horizon: 0,
+        pages: u64::from(node == 0),
+        losses: Losses {
+            null_pages: 0,
+            full_points: 0,
+            dry_points: 0,
+            long_points: 0,
+            refused_crumbs: 0,
+            evicted_crumbs: 0,
+            forgotten_crumbs: 0,
+            evicted_pages: 0,
+            abandoned_pages: 0,
+        },
+    };
+    hub.standing(message(node, number), standing).ok()
+}
+
+/// Whether the trace that is out is whole.
+fn whole(hub: &Hub) -> Option<bool> {
+    hub.is_whole().ok()
+}
+
+/// How many messages may be acknowledged.
+fn named(hub: &mut Hub) -> u32 {
+    let mut count = 0u32;
+    for _message in 0..100 {
+        if hub.next_acknowledged().is_some() {
+            count = count.saturating_add(1);
+        }
+    }
+    count
+}
+
+/// Node 0 tells of the group with a crumb to node 1, which answers and heard nothing.
+fn told_of(alloc: Global) -> Result<Hub, Memory> {
+    let mut hub = made(alloc, LIMITS)?;
+    tell(&mut hub, 0, 1, 2, Why::Fired);
+    report(&mut hub, 2);
+    tell(&mut hub, 1, 1, 0, Why::Answer);
+    stand(&mut hub, 1, 2, Wholeness::UnheardSince);
+    Ok(hub)
+}
+
+fn limits_are_refused(alloc: Global) -> Result<bool, Memory> {
+    let limits = HubLimits { hold: 0, ..LIMITS };
+    Ok(matches!(Hub::make(alloc, 3, limits), Err(MakeFault::Limits)))
+}
+
+/// With node 0's word it is given out, and whole. Five messages are named when it is saved.
+fn a_whole_trace(alloc: Global) -> Result<bool, Memory> {
+    let mut hub = told_of(alloc)?;
+    let before = hub.take();
+    stand(&mut hub, 0, 3, Wholeness::WholeSince);
+    let taken = (hub.take(), whole(&hub));
+    let early = named(&mut hub);
+    let saved = hub.saved();
+    Ok(
+        (before, taken, early) == (None, (Some(TraceId(1)), Some(true)), 0)
+            && (saved, named(&mut hub)) == (Some(TraceId(1)), 5),
+    )
+}
+
+/// Node 0's life is open: the trace is given out after ten passes, and is not whole.
+fn an_open_life(alloc: Global) -> Result<bool, Memory> {
+    let mut hub = told_of(alloc)?;
+    stand(&mut hub, 0, 3, Wholeness::Open);
+    for _pass in 0..9 {
+        hub.pass();
+    }
+    let early = hub.take();
+    hub.pass();
+    Ok((early, hub.take(), whole(&hub)) == (None, Some(TraceId(1)), Some(false)))
+}
+
+/// A page comes twice: it is held once, and neither message is named before it is saved.
+fn a_repeat(alloc: Global) -> Result<bool, Memory> {
+    let mut hub = told_of(alloc)?;
+    let again = report(&mut hub, 9);
+    let early = named(&mut hub);
+    for _pass in 0..10 {
+        hub.pass();
+    }
+    hub.take();
+    report(&mut hub, 10);
+    hub.saved();
+    Ok((again, early, named(&mut hub)) == (Some(Delivered::Held), 0, 6) && hub.counts().bytes == 0)
+}
+
+/// One message may be kept: the second waits until the first was named.
+fn at_a_limit(alloc: Global) -> Result<bool, Memory> {
+    let limits = HubLimits {
+        messages: 1,
+        ..LIMITS
+    };
+    let mut hub = made(alloc, limits)?;
+    let first = report(&mut hub, 1);
+    let full = report(&mut hub, 2);
+    let taken = hub.take();
+    hub.saved();
+    let one = named(&mut hub);
+    Ok(
+        (first, full) == (Some(Delivered::Held), Some(Delivered::Full))
+            && (taken, one) == (Some(TraceId(1)), 1)
+            && report(&mut hub, 2) == Some(Delivered::Held),
+    )
+}
+
+/// Node 1 is asked once, and once more in its next life.
+fn asks(alloc: Global) -> Result<bool, Memory> {
+    let mut hub = made(alloc, LIMITS)?;
+    tell(&mut hub, 0, 1, 2, Why::Fired);
+    let first = ask(&mut hub);
+    let none = ask(&mut hub);
+    hub.hear(NodeId(1), 6);
+    Ok((first, none, ask(&mut hub)) == (Some(1), None, Some(1)))
+}
+
+/// The low byte of the node in the next ask's message (`docs/FORMATS.md`).
+fn ask(hub: &mut Hub) -> Option<u8> {
+    let mut out = [0; 128];
+    match hub.next(&mut out) {
+        Ok(Some(_)) => Some(out[19]),
+        Ok(None) | Err(_) => None,
+    }
+}
+
+#[test]
+fn a_hub(rt: HostRuntime) {
+    let alloc = rt.alloc();
+    row(&rt, "limits", limits_are_refused(alloc));
+    row(&rt, "whole", a_whole_trace(alloc));
+    row(&rt, "open", an_open_life(alloc));
+    row(&rt, "repeat", a_repeat(alloc));
+    row(&rt, "limit", at_a_limit(alloc));
+    row(&rt, "asks", asks(alloc));
+}
