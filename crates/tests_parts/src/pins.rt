@@ -178,6 +178,90 @@ fn most_traces_and_chunks_are_claimed(alloc: Global) -> Result<bool, Memory> {
     claims_most(alloc, &mut pins)
 }
 
+/// The number of no group here.
+const NOBODY: u32 = u32::MAX;
+
+/// The number of the group that claimed a trace.
+fn owner_of(pins: &Pins<()>, trace: u128) -> u32 {
+    match pins.owner(TraceId(trace)) {
+        Some(group) => group.id.number,
+        None => NOBODY,
+    }
+}
+
+/// Those of the traces 1 to 5.
+fn owners(pins: &Pins<()>) -> [u32; 5] {
+    [
+        owner_of(pins, 1),
+        owner_of(pins, 2),
+        owner_of(pins, 3),
+        owner_of(pins, 4),
+        owner_of(pins, 5),
+    ]
+}
+
+/// Claims a trace without a chunk for the group of a number.
+fn claims_bare(alloc: Global, pins: &mut Pins<()>, number: u32, trace: u128) -> bool
+    requires { IsReady 0 pins.old }
+    ensures { IsReady 0 pins.new }
+{
+    let group = group_of(0, number, 1, u128::from(number));
+    claims(pins, group, TraceId(trace), List::new(alloc))
+}
+
+/// Forgets the group of a number, if nothing is pinned for it. Answers whether it did.
+fn forgets(pins: &mut Pins<()>, number: u32) -> bool
+    requires { IsReady 0 pins.old }
+    ensures { IsReady 0 pins.new }
+{
+    pins.forget(group_of(0, number, 1, u128::from(number)))
+}
+
+/// The groups 0, 1, 2, 1 and 3 claim the traces 1 to 5, one each.
+fn claims_in_turn(alloc: Global, pins: &mut Pins<()>) -> bool
+    requires { IsReady 0 pins.old }
+    ensures { IsReady 0 pins.new }
+{
+    claims_bare(alloc, pins, 0, 1)
+        && claims_bare(alloc, pins, 1, 2)
+        && claims_bare(alloc, pins, 2, 3)
+        && claims_bare(alloc, pins, 1, 4)
+        && claims_bare(alloc, pins, 3, 5)
+}
+
+/// Forgets the group 1. Answers whether it did, and its traces alone are free then.
+fn forgets_the_middle(pins: &mut Pins<()>) -> bool
+    requires { IsReady 0 pins.old }
+    ensures { IsReady 0 pins.new }
+{
+    forgets(pins, 1) && owners(pins) == [0, NOBODY, 2, NOBODY, 3]
+}
+
+/// A group that claimed in the middle, twice, is forgotten. Then the group 4 claims its first trace, and the others have theirs.
+fn forgets_and_claims(alloc: Global, pins: &mut Pins<()>) -> bool
+    requires { IsReady 0 pins.old }
+    ensures { IsReady 0 pins.new }
+{
+    claims_in_turn(alloc, pins)
+        && forgets_the_middle(pins)
+        && claims_bare(alloc, pins, 4, 2)
+        && owners(pins) == [0, 4, 2, NOBODY, 3]
+}
+
+/// A group with a pinned chunk is not forgotten.
+fn keeps_the_pinned(alloc: Global, pins: &mut Pins<()>) -> Result<bool, Memory>
+    requires { IsReady 0 pins.old }
+{
+    let pinned = claims_pages(alloc, pins, group_of(0, 7, 1, 7), 8, 1)?;
+    Ok(pinned && !forgets(pins, 7) && owner_of(pins, 8) == 7)
+}
+
+fn only_a_settled_group_is_forgotten(alloc: Global) -> Result<bool, Memory> {
+    let mut pins = fresh_pins(alloc, 4)?;
+    let forgot = forgets_and_claims(alloc, &mut pins);
+    Ok(keeps_the_pinned(alloc, &mut pins)? && forgot)
+}
+
 /// Settings of one client with so many of the greatest rules.
 fn settings_of(alloc: Global, count: u8) -> Result<Settings, Memory>
     requires { count ≤ MAX_TRIGGER }
@@ -235,6 +319,11 @@ fn all_pins(rt: HostRuntime) {
         &rt,
         "most traces",
         most_traces_and_chunks_are_claimed(rt.alloc()),
+    );
+    row(
+        &rt,
+        "a settled group",
+        only_a_settled_group_is_forgotten(rt.alloc()),
     );
     row(&rt, "no rule", are_empty(rt.alloc(), 0));
     row(&rt, "most rules", are_empty(rt.alloc(), MAX_TRIGGER));
