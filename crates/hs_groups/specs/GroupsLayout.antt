@@ -1,5 +1,6 @@
 -- How the groups that are followed lie in places that are taken once, with the epochs and the set of all nodes beside them.
-use Rattle.std.specs.Prelude.{◌≡◌, ◌<◌, ◌≤◌, length, vec_capacity}
+use Rattle.std.specs.Prelude.{◌≡◌, ◌<◌, ◌≤◌, length}
+use Rattle.std.specs.VecDeque.{deque_capacity}
 use Rattle.hs_base.specs.declared.limits.TheConstants.{MOST_NODES}
 use Rattle.hs_groups.specs.declared.groups.Groups.TheInside.{Inside}
 use Rattle.hs_groups.specs.Groups.{PlainGroups, first_nodes}
@@ -13,4 +14,4 @@ pub record IsKept (a : Inside) : Type 0 where
   pub epochs : length a.epochs.items ≡ a.limits.nodes
   pub some : 0 < a.limits.groups
   pub few : length a.groups.items ≤ a.limits.groups
-  pub room : a.limits.groups ≤ vec_capacity a.groups
+  pub room : a.limits.groups ≤ deque_capacity a.groups

@@ -1,16 +1,18 @@
 //! All groups that are followed.
 
-ghost use Rattle.std.specs.Prelude.{◌≡◌, ◌≢◌, ◌<◌, ◌≤◌, ◌↔◌, length, map, find, position, Ok, Err, Some, None, IfOk, IfSome, IfNone, option_copied};
+ghost use Rattle.std.specs.Prelude.{◌≡◌, ◌≢◌, ◌++◌, ◌<◌, ◌≤◌, ◌↔◌, length, map, find, position, Ok, Err, Some, None, IfOk, IfSome, IfNone, option_copied};
 ghost use Rattle.std.specs.Option.{option_map_or};
+ghost use Rattle.std.specs.VecDeque.{deque_capacity};
 ghost use Rattle.std.specs.NonZero.{non_zero_usize_get};
-ghost use Rattle.hs_groups.specs.Following.{answer_of, has_unsent, renewed, asked_again};
-ghost use Rattle.hs_groups.specs.Groups.{PlainGroups, AreOut, no_groups, first_nodes, latest_of, is_known, is_of, group_of, answer_of_hear, heard, answer_to, followed_by, begins, after_told, is_full, next_ask, after_sent, after_pass};
+ghost use Rattle.hs_groups.specs.Following.{answer_of, taken, has_unsent, sent_to, renewed, asked_again};
+ghost use Rattle.hs_groups.specs.Groups.{PlainGroups, AreOut, no_groups, first_nodes, latest_of, is_known, is_of, group_of, answer_of_hear, heard, answer_to, followed_by, changed_at, begins, after_told, is_full, next_ask, after_sent, after_pass};
 
 use crate::answers::{GroupLimits, Heard, MakeFault, Taken};
 use crate::followed::Followed;
 use hs_base::limits::MOST_NODES;
 use hs_base::{Ask, GroupId, Memory, NodeId, NodeSet, Told, Why};
 use std::alloc::Global;
+use std::collections::VecDeque;
 use std::marker::Model;
 
 /// The nodes below this.
@@ -32,7 +34,7 @@ pub struct Groups {
     limits: GroupLimits,
     all: NodeSet,
     epochs: Vec<u64>,
-    groups: Vec<Followed>,
+    groups: VecDeque<Followed>,
 }
 
 impl Model for Groups {
@@ -71,7 +73,7 @@ impl Groups {
             limits,
             all: first_nodes(limits.nodes),
             epochs: vec![in alloc; 0; limits.nodes as usize]?,
-            groups: Vec::with_capacity(alloc, limits.groups as usize)?,
+            groups: VecDeque::with_capacity(alloc, limits.groups as usize)?,
         })
     }
 
@@ -136,7 +138,7 @@ impl Groups {
         if self.group(group).is_some() || self.groups.len() < self.limits.groups as usize {
             return false;
         }
-        match self.groups.first() {
+        match self.groups.front() {
             Some(oldest) => !oldest.is_settled(self.limits.tries),
             None => false,
         }
@@ -157,7 +159,7 @@ impl Groups {
         ensures { self.new ≡ followed_by self.old node answered told.now }
     {
         match self.place(told.group.id) {
-            Some(place) => self.groups[place].take(answered, told),
+            Some(place) => take_at(&mut self.groups, place, answered, told),
             None => self.begin(node, answered, told),
         }
     }
@@ -170,9 +172,9 @@ impl Groups {
         let mut followed = Followed::begin(node, told);
         followed.take(answered, told);
         if self.groups.len() >= self.limits.groups as usize {
-            self.groups.remove(0);
+            self.groups.pop_front();
         }
-        self.groups.push_reserved(followed);
+        self.groups.push_back_reserved(followed);
     }
 
     /// The ask that is to be sent next, with its node: the first of the oldest group that has one.
@@ -190,7 +192,7 @@ impl Groups {
         ensures { self.new ≡ after_sent self.old node group now }
     {
         if let Some(place) = self.place(group) {
-            self.groups[place].sent(node, now);
+            send_at(&mut self.groups, place, node, now);
         }
     }
 
@@ -221,11 +223,11 @@ impl Groups {
         }
     }
 
-    /// The groups that are followed, the oldest one first.
-    pub fn as_slice(&self) -> &[Followed]
-        ensures { result.now ≡ self.now.groups }
+    /// The groups that are followed, the oldest one first: those of the first slice, and then those of the other.
+    pub fn as_slices(&self) -> (&[Followed], &[Followed])
+        ensures { result.0.now ++ result.1.now ≡ self.now.groups }
     {
-        self.groups.as_slice()
+        self.groups.as_slices()
     }
 
     /// How many groups are followed.
@@ -237,27 +239,79 @@ impl Groups {
     }
 }
 
-/// Has the ask of a node sent once more in each group where it has no answer.
-fn renew_each(groups: &mut [Followed], node: NodeId)
-    ensures { groups.new ≡ map (renewed node) groups.old }
+/// Takes a message into the group at this place.
+fn take_at(groups: &mut VecDeque<Followed>, place: usize, answered: NodeSet, told: &Told)
+    requires { place < length groups.old.items }
+    ensures items { groups.new.items ≡ changed_at (λ followed. taken followed answered told.now) groups.old.items place }
+    ensures capacity { deque_capacity groups.new ≡ deque_capacity groups.old }
 {
-    for followed in groups.iter_mut() {
-        followed.renew(node);
+    let Some(followed) = groups.get_mut(place) else {
+        unreachable!()
+    };
+    followed.take(answered, told);
+}
+
+/// Notes that an ask of the group at this place was sent.
+fn send_at(groups: &mut VecDeque<Followed>, place: usize, node: NodeId, now: u64)
+    requires { place < length groups.old.items }
+    ensures items { groups.new.items ≡ changed_at (sent_to node now) groups.old.items place }
+    ensures capacity { deque_capacity groups.new ≡ deque_capacity groups.old }
+{
+    let Some(followed) = groups.get_mut(place) else {
+        unreachable!()
+    };
+    followed.sent(node, now);
+}
+
+/// Has the ask of a node sent once more in the group at this place, where it has no answer.
+fn renew_at(groups: &mut VecDeque<Followed>, place: usize, node: NodeId)
+    requires { place < length groups.old.items }
+    ensures items { groups.new.items ≡ changed_at (renewed node) groups.old.items place }
+    ensures len { length groups.new.items ≡ length groups.old.items }
+    ensures capacity { deque_capacity groups.new ≡ deque_capacity groups.old }
+{
+    let Some(followed) = groups.get_mut(place) else {
+        unreachable!()
+    };
+    followed.renew(node);
+}
+
+/// Has the ask of a node sent once more in each group where it has no answer.
+fn renew_each(groups: &mut VecDeque<Followed>, node: NodeId)
+    ensures items { groups.new.items ≡ map (renewed node) groups.old.items }
+    ensures capacity { deque_capacity groups.new ≡ deque_capacity groups.old }
+{
+    for place in 0..groups.len() {
+        renew_at(groups, place, node);
     }
 }
 
-/// Has each group that is due in this pass asked again.
-fn ask_each(groups: &mut [Followed], now: u64, wait: u64, tries: u32)
-    ensures { groups.new ≡ map (asked_again now wait tries) groups.old }
+/// Has the group at this place asked again, where it is due in this pass.
+fn ask_at(groups: &mut VecDeque<Followed>, place: usize, now: u64, wait: u64, tries: u32)
+    requires { place < length groups.old.items }
+    ensures items { groups.new.items ≡ changed_at (asked_again now wait tries) groups.old.items place }
+    ensures len { length groups.new.items ≡ length groups.old.items }
+    ensures capacity { deque_capacity groups.new ≡ deque_capacity groups.old }
 {
-    for followed in groups.iter_mut() {
-        followed.again(now, wait, tries);
+    let Some(followed) = groups.get_mut(place) else {
+        unreachable!()
+    };
+    followed.again(now, wait, tries);
+}
+
+/// Has each group that is due in this pass asked again.
+fn ask_each(groups: &mut VecDeque<Followed>, now: u64, wait: u64, tries: u32)
+    ensures items { groups.new.items ≡ map (asked_again now wait tries) groups.old.items }
+    ensures capacity { deque_capacity groups.new ≡ deque_capacity groups.old }
+{
+    for place in 0..groups.len() {
+        ask_at(groups, place, now, wait, tries);
     }
 }
 
 /// The first group that has an ask to be sent.
-fn first_unsent(groups: &[Followed]) -> Option<&Followed>
-    ensures { option_copied result ≡ find has_unsent groups.now }
+fn first_unsent(groups: &VecDeque<Followed>) -> Option<&Followed>
+    ensures { option_copied result ≡ find has_unsent groups.now.items }
 {
     groups.iter().find(|followed| followed.has_unsent())
 }

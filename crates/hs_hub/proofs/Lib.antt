@@ -1,3 +1,4 @@
 pub mod Lives
 pub mod ByService
 pub mod RowsOut
+pub mod Firsts

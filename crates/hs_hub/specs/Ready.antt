@@ -1,6 +1,6 @@
 -- Which trace nothing more is to come of: the first such trace of the oldest group that has one. A group's traces are its lead and its
 -- laterals.
-use Rattle.std.specs.Prelude.{Bool, ◌&&◌, List, [], ◌∷◌, find, Option, Some, None}
+use Rattle.std.specs.Prelude.{Bool, ◌&&◌, ◌==◌, List, [], ◌∷◌, find, Option, Some, None, if◌then◌else◌}
 use Rattle.hs_base.specs.declared.ids.TraceId.{TraceId}
 use Rattle.hs_groups.specs.declared.followed.Followed.{Followed}
 use Rattle.hs_groups.specs.Groups.{PlainGroups}
@@ -11,14 +11,14 @@ use Rattle.hs_verdict.specs.Verdict.{has_all}
 
 -- whether pages of a trace wait, all that lives say they handed out, and nothing more is to come of it
 abbrev pub is_ready : PlainGroups → PlainStandings → PlainTraces → TraceId → Bool
-is_ready g s p trace = is_waiting p trace && (has_all g s trace && are_full s trace (keys_in p.waiting trace))
+is_ready g s p trace = is_waiting p trace && (are_full s trace (keys_in p.waiting trace) && has_all g s trace)
 
 abbrev pub traces_of : Followed → List TraceId
 traces_of followed = followed.ask.group.lead ∷ followed.ask.laterals
 
--- the first trace of a group that is ready
+-- the first trace of a group that is ready; none is where the group waits for an answer
 abbrev pub ready_of : PlainGroups → PlainStandings → PlainTraces → Followed → Option TraceId
-ready_of g s p followed = find (is_ready g s p) (traces_of followed)
+ready_of g s p followed = if followed.waiting.0 == 0 then find (is_ready g s p) (traces_of followed) else None
 
 -- the first of the first of these groups that has one
 abbrev pub or_else : Option TraceId → Option TraceId → Option TraceId

@@ -14,8 +14,8 @@ fn is_ready(groups: &Groups, standings: &Standings, traces: &Traces, trace: Trac
     ensures { result ≡ is_ready groups.now standings.now traces.now trace }
 {
     traces.waits(trace)
-        && has_all(groups, standings, trace)
         && are_full(standings, trace, &Pages::Waiting(traces))
+        && has_all(groups, standings, trace)
 }
 
 /// The first of these traces that is ready.
@@ -38,7 +38,7 @@ fn ready_lateral(
     None
 }
 
-/// The first trace of a group that is ready: its lead, or the first such lateral.
+/// The first trace of a group that is ready: its lead, or the first such lateral. None of a group is that waits for an answer.
 fn ready_of(
     groups: &Groups,
     standings: &Standings,
@@ -47,6 +47,9 @@ fn ready_of(
 ) -> Option<TraceId>
     ensures { result ≡ ready_of groups.now standings.now traces.now followed.now }
 {
+    if !followed.waiting.is_empty() {
+        return None;
+    }
     if is_ready(groups, standings, traces, followed.ask.group.lead) {
         return Some(followed.ask.group.lead);
     }
@@ -61,7 +64,23 @@ pub(crate) fn first_ready(
 ) -> Option<TraceId>
     ensures { result ≡ first_ready groups.now standings.now traces.now groups.now.groups }
 {
-    for followed in groups.as_slice().iter() {
+    let (older, newer) = groups.as_slices();
+    match ready_among(groups, standings, traces, older) {
+        Some(trace) => Some(trace),
+        None => ready_among(groups, standings, traces, newer),
+    }
+}
+
+/// The same of these groups.
+fn ready_among(
+    groups: &Groups,
+    standings: &Standings,
+    traces: &Traces,
+    some: &[Followed],
+) -> Option<TraceId>
+    ensures { result ≡ first_ready groups.now standings.now traces.now some.now }
+{
+    for followed in some.iter() {
         if let Some(trace) = ready_of(groups, standings, traces, followed) {
             return Some(trace);
         }

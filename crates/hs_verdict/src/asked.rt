@@ -1,6 +1,6 @@
 //! Which groups claim a trace.
 
-ghost use Rattle.std.specs.Prelude.{◌≡◌, option_copied};
+ghost use Rattle.std.specs.Prelude.{◌≡◌, length, filter, slice_get, option_copied};
 ghost use Rattle.std.specs.List.{list_any};
 ghost use Rattle.hs_base.specs.Ids.{same_trace};
 ghost use Rattle.hs_verdict.specs.Verdict.{claims, claim_at};
@@ -15,12 +15,35 @@ pub fn claims(followed: &Followed, trace: TraceId) -> bool
     trace == followed.ask.group.lead || is_among(&followed.ask.laterals, trace)
 }
 
+/// How many of these groups claim a trace.
+fn count_claims(groups: &[Followed], trace: TraceId) -> usize
+    ensures { result ≡ length (filter (claims trace) groups.now) }
+{
+    groups
+        .iter()
+        .filter(|followed| claims(followed, trace))
+        .count()
+}
+
 /// Of the groups that claim a trace, the oldest one first, the one at this place.
 pub fn claim_at(groups: &Groups, trace: TraceId, place: usize) -> Option<&Followed>
     ensures { option_copied result ≡ claim_at groups.now trace place }
 {
+    let (older, newer) = groups.as_slices();
+    let count = count_claims(older, trace);
+    if place < count {
+        claim_among(older, trace, place)
+    } else {
+        claim_among(newer, trace, place - count)
+    }
+}
+
+/// The same of these groups.
+fn claim_among(groups: &[Followed], trace: TraceId, place: usize) -> Option<&Followed>
+    ensures { option_copied result ≡ slice_get (filter (claims trace) groups.now) place }
+{
     let mut left = place;
-    for followed in groups.as_slice().iter() {
+    for followed in groups.iter() {
         if claims(followed, trace) {
             if left == 0 {
                 return Some(followed);

@@ -48,10 +48,19 @@ fn is_answered(groups: &Groups, standings: &Standings, trace: TraceId, followed:
 }
 
 /// Whether one of these groups claims the trace.
-fn is_claimed(groups: &[Followed], trace: TraceId) -> bool
+fn any_claims(groups: &[Followed], trace: TraceId) -> bool
     ensures { result ≡ list_any (claims trace) groups.now }
 {
     groups.iter().any(|followed| claims(followed, trace))
+}
+
+/// Whether one of all groups does.
+#[tactic(auto, using(crate::proofs::Slices::any_of_both))]
+fn is_claimed(groups: &Groups, trace: TraceId) -> bool
+    ensures { result ≡ list_any (claims trace) groups.now.groups }
+{
+    let (older, newer) = groups.as_slices();
+    any_claims(older, trace) || any_claims(newer, trace)
 }
 
 /// Whether nothing more is to come of a trace, as far as the nodes say: a group that is followed claims it, and in each such group
@@ -59,14 +68,23 @@ fn is_claimed(groups: &[Followed], trace: TraceId) -> bool
 pub fn has_all(groups: &Groups, standings: &Standings, trace: TraceId) -> bool
     ensures { result ≡ has_all groups.now standings.now trace }
 {
-    is_claimed(groups.as_slice(), trace) && are_answered(groups, standings, trace)
+    is_claimed(groups, trace) && are_answered(groups, standings, trace)
 }
 
 /// Whether each group does not claim the trace, or is answered.
+#[tactic(auto, using(crate::proofs::Slices::all_of_both))]
 fn are_answered(groups: &Groups, standings: &Standings, trace: TraceId) -> bool
     ensures { result ≡ list_all (is_answered groups.now standings.now trace) groups.now.groups }
 {
-    for followed in groups.as_slice().iter() {
+    let (older, newer) = groups.as_slices();
+    all_answered(groups, standings, trace, older) && all_answered(groups, standings, trace, newer)
+}
+
+/// Whether each of these groups is so.
+fn all_answered(groups: &Groups, standings: &Standings, trace: TraceId, some: &[Followed]) -> bool
+    ensures { result ≡ list_all (is_answered groups.now standings.now trace) some.now }
+{
+    for followed in some.iter() {
         if !is_answered(groups, standings, trace, followed) {
             return false;
         }

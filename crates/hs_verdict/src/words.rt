@@ -55,7 +55,7 @@ fn still_asks(followed: &Followed, trace: TraceId, node: NodeId) -> bool
 }
 
 /// Whether one of these groups waits for the node's answer.
-fn is_silent(groups: &[Followed], trace: TraceId, node: NodeId) -> bool
+fn any_waits(groups: &[Followed], trace: TraceId, node: NodeId) -> bool
     ensures { result ≡ list_any (still_asks trace node) groups.now }
 {
     groups
@@ -63,20 +63,38 @@ fn is_silent(groups: &[Followed], trace: TraceId, node: NodeId) -> bool
         .any(|followed| still_asks(followed, trace, node))
 }
 
+/// Whether one of all groups does.
+#[tactic(auto, using(crate::proofs::Slices::any_of_both))]
+fn is_silent(groups: &Groups, trace: TraceId, node: NodeId) -> bool
+    ensures { result ≡ list_any (still_asks trace node) groups.now.groups }
+{
+    let (older, newer) = groups.as_slices();
+    any_waits(older, trace, node) || any_waits(newer, trace, node)
+}
+
 /// Whether one of these groups reached the node.
-fn is_asked(groups: &[Followed], trace: TraceId, node: NodeId) -> bool
+fn any_asks(groups: &[Followed], trace: TraceId, node: NodeId) -> bool
     ensures { result ≡ list_any (asks trace node) groups.now }
 {
     groups.iter().any(|followed| asks(followed, trace, node))
+}
+
+/// Whether one of all groups did.
+#[tactic(auto, using(crate::proofs::Slices::any_of_both))]
+fn is_asked(groups: &Groups, trace: TraceId, node: NodeId) -> bool
+    ensures { result ≡ list_any (asks trace node) groups.now.groups }
+{
+    let (older, newer) = groups.as_slices();
+    any_asks(older, trace, node) || any_asks(newer, trace, node)
 }
 
 /// Whether a node was asked for a trace, and answered.
 pub fn node_word(groups: &Groups, trace: TraceId, node: NodeId) -> NodeWord
     ensures { result ≡ node_word groups.now trace node }
 {
-    if is_silent(groups.as_slice(), trace, node) {
+    if is_silent(groups, trace, node) {
         NodeWord::Silent
-    } else if is_asked(groups.as_slice(), trace, node) {
+    } else if is_asked(groups, trace, node) {
         NodeWord::Answered
     } else {
         NodeWord::NotAsked

@@ -1,6 +1,8 @@
 use Rattle.std.proofs.Common.{◌≡◌, ◌++◌, take, drop, map}
+use Rattle.std.specs.VecDeque.{deque_capacity}
 use Rattle.hs_groups.specs.Following.{asked_again}
 use Rattle.hs_groups.proofs.groups.ask_each.Given as goal
 
-abbrev pub invariant-loop-followed : goal.invariant-loop-followed
-invariant-loop-followed l = l.groups ≡ map (asked_again l.now l.wait l.tries) (take l.followed-index l.fn.groups) ++ drop l.followed-index l.fn.groups
+-- the first groups are changed, and no place is lost
+abbrev pub invariant-loop-place : goal.invariant-loop-place
+invariant-loop-place l = (l.groups.items ≡ map (asked_again l.now l.wait l.tries) (take l.place l.fn.groups.items) ++ drop l.place l.fn.groups.items) × (deque_capacity l.groups ≡ deque_capacity l.fn.groups)

@@ -1,12 +1,18 @@
-use Rattle.std.proofs.Common.{rules, sym, ap, ◌∙◌}
-use Rattle.std.specs.Prelude.{slice_set}
-use Rattle.std.proofs.lemmas.List.Edits.{map_over_more}
+use Rattle.std.proofs.Common.{◌≡◌, suc, ◌+◌, ap, ◌∙◌, ◌++◌, List, map, take, drop, arith}
 use Rattle.hs_groups.specs.declared.followed.Followed.{Followed}
 use Rattle.hs_groups.specs.Following.{renewed}
+use Rattle.hs_groups.specs.Groups.{changed_at}
+use Rattle.hs_groups.proofs.Changing.{one_more}
 use Rattle.hs_groups.proofs.groups.renew_each.Goals as goal
 
-pub loop-followed-preserved : goal.loop-followed-preserved
-loop-followed-preserved c =
-    ap (slice_set c.loop-followed.groups c.loop-followed.followed-index) c.renew.ensures
-    ∙ ap (λ (f : Followed). slice_set c.loop-followed.groups c.loop-followed.followed-index (renewed c.args.node f)) (sym c.followed-item.is)
-    ∙ map_over_more (renewed c.args.node) c.args.groups.now c.loop-followed.groups c.loop-followed.followed-index c.followed-item.result (search rules) c.loop-followed.invariant (search rules)
+pub loop-place-preserved : goal.loop-place-preserved
+loop-place-preserved c =
+    let f = renewed c.args.node in
+    let i = c.loop-place.place in
+    let next : suc i ≡ i + 1 = omega arith in (
+      c.renew_at.ensures.items
+          ∙ ap (λ (groups : List Followed). changed_at f groups i) c.loop-place.invariant.0
+          ∙ one_more f c.args.groups.now.items i (omega (arith, c.loop-place-test.true, c.len-place-end.ensures))
+          ∙ ap (λ n. map f (take n c.args.groups.now.items) ++ drop n c.args.groups.now.items) next,
+      c.renew_at.ensures.capacity ∙ c.loop-place.invariant.1,
+    )

@@ -1,7 +1,0 @@
-use Rattle.std.proofs.Common.{◌≡◌, drop}
-use Rattle.hs_hub.specs.Ready.{first_ready}
-use Rattle.hs_hub.proofs.ready.first_ready.Given as goal
-
--- the first that is ready is one of the groups that are left
-abbrev pub invariant-loop-followed : goal.invariant-loop-followed
-invariant-loop-followed l = first_ready l.groups l.standings l.traces (drop l.followed-index l.groups.groups) ≡ first_ready l.groups l.standings l.traces l.groups.groups
