@@ -1,9 +1,9 @@
 -- Over any deeds: what was said last of each claim is its latest news.
-use Rattle.std.proofs.Common.{◌≡◌, ◌⊎◌, inl, inr, ℕ, zero, suc, ◌+◌, Bool, true, false, cond, not, ◌&&◌, ◌||◌, List, [], ◌∷◌, ◌++◌, length, map, fold, flat_map, replicate, drop, set, position, slice_get, Option, Some, None, is_some, refl, sym, ap, subst, arith, ◌∙◌}
-use Rattle.std.specs.Prelude.{if◌then◌else◌, nat_lt, nat_eq}
-use Rattle.std.specs.List.{list_any, position_or_len}
+use Rattle.std.proofs.Common.{◌≡◌, inl, inr, ℕ, zero, suc, ◌+◌, Bool, true, false, not, ◌&&◌, ◌||◌, List, [], ◌∷◌, ◌++◌, length, map, fold, flat_map, replicate, drop, set, position, slice_get, Option, Some, None, refl, sym, ap, subst, arith, ◌∙◌}
+use Rattle.std.specs.Prelude.{if◌then◌else◌}
+use Rattle.std.specs.List.{list_any}
 use Rattle.std.specs.Option.{option_map_or}
-use Rattle.std.proofs.lemmas.Bool.{eqb-true, eq-eqb, and_parts, and_from}
+use Rattle.std.proofs.lemmas.Bool.{and_from}
 use Rattle.std.proofs.lemmas.Option.{same_Some}
 use Rattle.std.proofs.lemmas.List.{length-replicate}
 use Rattle.std.proofs.lemmas.List.Concat.{flat_map-append}
@@ -17,70 +17,8 @@ use Rattle.hs_wire.specs.declared.message.Standing.{Standing}
 use Rattle.hs_claimed.specs.declared.answers.Claim.{Claim}
 use Rattle.hs_claimed.specs.declared.answers.Claimant.{Claimant}
 use Rattle.hs_claimed.specs.Claims.{PlainClaims, no_claims, same_group, is_the, with_other, traces_of, claim_of, claimant, is_known, is_full_for, with_claims, after_claim, with_number, noted_at, after_spoke, is_about, is_news_of, is_news_in, with_said, after_said, without_oldest, after_forget}
+use Rattle.hs_claimed.proofs.Groups.{group_refl, group_same, trace_refl, trace_same, get_both, get_drop, get_same, positioned, or_first, or_second}
 use Rattle.hs_claimed.specs.Lives.{Deed, Claims, Speaks, Says, LooksOn, Forgets, after, claims_after, news_by, latest_news, same_claim, AreKept}
-
--- ---- ids
-
-group_refl : (a : GroupId) → same_group a a ≡ true
-group_refl a = and_from _ _ (eq-eqb a.node a.node refl) (eq-eqb a.number a.number refl)
-
-group_same : (a b : GroupId) → same_group a b ≡ true → a ≡ b
-group_same a b e =
-    let parts = and_parts (nat_eq a.node b.node) (nat_eq a.number b.number) e in
-    λ i. record { node = eqb-true a.node b.node parts.0 i; number = eqb-true a.number b.number parts.1 i }
-
-trace_refl : (a : TraceId) → same_trace a a ≡ true
-trace_refl a = eq-eqb a.0 a.0 refl
-
-trace_same : (a b : TraceId) → same_trace a b ≡ true → a ≡ b
-trace_same a b e = ap (λ (m : ℕ). record { 0 = m }) (eqb-true a.0 b.0 e)
-
--- ---- lists
-
--- what stands in one of two lists
-pub record IsBehind {A : Type 0} (xs ys : List A) (i : ℕ) (x : A) : Type 0 where
-  pub place : ℕ
-  pub is : i ≡ length xs + place
-  pub there : slice_get ys place ≡ Some x
-
-get_both : {A : Type 0} (xs ys : List A) (i : ℕ) (x : A) → slice_get (xs ++ ys) i ≡ Some x → (slice_get xs i ≡ Some x) ⊎ IsBehind xs ys i x
-get_both [] ys i x at = inr (record { place = i; is = omega arith; there = at })
-get_both (z ∷ xs) ys zero x at = inl at
-get_both (z ∷ xs) ys (suc i) x at =
-    elim (get_both xs ys i x at) [ inl h ↦ inl h | inr h ↦ inr (record { place = h.place; is = (let is = h.is in omega (arith, is)); there = h.there }) ]
-
-get_drop : {A : Type 0} (n : ℕ) (xs : List A) (i : ℕ) (x : A) → slice_get (drop n xs) i ≡ Some x → slice_get xs (n + i) ≡ Some x
-get_drop zero xs i x at = let same : 0 + i ≡ i = omega arith in ap (slice_get xs) same ∙ at
-get_drop (suc n) [] i x at = let none : None ≡ Some x = at in absurd cc
-get_drop (suc n) (y ∷ xs) i x at = let same : suc n + i ≡ suc (n + i) = omega arith in ap (slice_get (y ∷ xs)) same ∙ get_drop n xs i x at
-
-get_same : {A : Type 0} (n : ℕ) (y : A) (i : ℕ) (x : A) → slice_get (replicate n y) i ≡ Some x → y ≡ x
-get_same zero y i x at = let none : None ≡ Some x = at in absurd cc
-get_same (suc n) y zero x at = same_Some y x at
-get_same (suc n) y (suc i) x at = get_same n y i x at
-
-positioned : {A : Type 0} (p : A → Bool) (xs : List A) → is_some (position p xs) ≡ list_any p xs
-positioned {A = A} p xs = shown (nat_lt (position_or_len p xs) (length xs)) (position_or_len p xs) ∙ below xs
-  where
-    shown : (b : Bool) (n : ℕ) → is_some (cond b (Some n) None) ≡ b
-    shown true n = refl
-    shown false n = refl
-
-    below : (ys : List A) → nat_lt (position_or_len p ys) (length ys) ≡ list_any p ys
-    below [] = refl
-    below (y ∷ ys) = at (p y) (below ys)
-      where
-        at : (b : Bool) → nat_lt (position_or_len p ys) (length ys) ≡ list_any p ys → nat_lt (cond (not b) (1 + position_or_len p ys) 0) (suc (length ys)) ≡ (b || list_any p ys)
-        at true rest = grind arith
-        at false rest = grind (arith, rest)
-
-or_first : (a b : Bool) → a ≡ true → (a || b) ≡ true
-or_first true b on = refl
-or_first false b on = let never : false ≡ true = on in absurd cc
-
-or_second : (a b : Bool) → b ≡ true → (a || b) ≡ true
-or_second true b on = refl
-or_second false b on = on
 
 -- ---- claims stand group by group
 

@@ -1,3 +1,4 @@
+mod Groups
 mod Steps
 mod Law
 mod Round

@@ -3,6 +3,7 @@
 ghost use Rattle.std.specs.Prelude.{◌≡◌, ◌+◌, ◌-◌, ◌<◌, ◌≤◌, ◌++◌, ◌||◌, [], ◌∷◌, length, map, drop, fold, position, slice_get, slice_set, nat_lt, nat_le, false, Some, None, is_some, IfOk, option_map, option_copied};
 ghost use Rattle.std.specs.Bool.{OnFalse};
 ghost use Rattle.std.specs.List.{list_any};
+ghost use Rattle.std.specs.Option.{option_map_or};
 ghost use Rattle.std.specs.VecDeque.{deque_len, deque_capacity};
 ghost use Rattle.hs_base.specs.Ids.{same_trace};
 ghost use Rattle.hs_base.specs.declared.ids.TraceId.{TraceId};
@@ -25,6 +26,10 @@ pub struct ClaimedTraces {
     claims: VecDeque<Claim>,
     groups: VecDeque<Claimant>,
     place: usize,
+    /// How many groups were forgotten, and for groups of one slot how many claimed before the latest of them. It is a hint: where it
+    /// leads to another group, all are looked through.
+    forgotten: u64,
+    hints: Vec<u64>,
 }
 
 impl Model for ClaimedTraces {
@@ -79,6 +84,7 @@ fn others_of(lead: TraceId, laterals: &Laterals) -> Laterals
 fn push_claims(claims: &mut VecDeque<Claim>, group: GroupId, traces: &Laterals)
     requires { deque_len claims.old + length traces.now ≤ deque_capacity claims.old }
     ensures items { claims.new.items ≡ claims.old.items ++ map (claim_of group) traces.now }
+    ensures few { length claims.new.items ≤ length claims.old.items + length traces.now }
     ensures capacity { deque_capacity claims.new ≡ deque_capacity claims.old }
 {
     for place in 0..traces.len() {
@@ -110,6 +116,8 @@ impl ClaimedTraces {
             claims: VecDeque::with_capacity(alloc, most as usize)?,
             groups: VecDeque::with_capacity(alloc, most as usize)?,
             place: 0,
+            forgotten: 0,
+            hints: vec![in alloc; 0; most as usize]?,
         })
     }
 
@@ -128,11 +136,51 @@ impl ClaimedTraces {
         self.most as usize - self.claims.len()
     }
 
+    /// The slot of a group.
+    fn slot(&self, group: GroupId) -> usize {
+        let spread = u64::from(group.number) + u64::from(group.node) * 40_503;
+        (spread % (self.hints.len() as u64 + 1)) as usize
+    }
+
+    /// Where a group may stand. It is looked at before it counts.
+    fn hint(&self, group: GroupId) -> usize {
+        match self.hints.get(self.slot(group)) {
+            Some(before) => before.wrapping_sub(self.forgotten) as usize,
+            None => 0,
+        }
+    }
+
+    /// Whether a group stands at a place.
+    fn stands_at(&self, group: GroupId, place: usize) -> bool
+        ensures { result ≡ option_map_or (is_the group) (slice_get self.now.groups place) false }
+    {
+        match self.groups.get(place) {
+            Some(one) => group == one.group,
+            None => false,
+        }
+    }
+
     /// Where a group stands, if it claims traces.
     fn find(&self, group: GroupId) -> Option<usize>
         ensures { result ≡ place_of self.now group }
     {
+        let _ = &self.most;
+        let place = self.hint(group);
+        if self.stands_at(group, place) {
+            return Some(place);
+        }
         self.groups.iter().position(|one| group == one.group)
+    }
+
+    /// Notes that a group is about to claim behind all others.
+    fn set_hint(&mut self, group: GroupId)
+        ensures { self.new ≡ self.old }
+    {
+        let slot = self.slot(group);
+        let before = self.forgotten.wrapping_add(self.groups.len() as u64);
+        if let Some(hint) = self.hints.get_mut(slot) {
+            *hint = before;
+        }
     }
 
     /// Whether a group claims traces.
@@ -151,9 +199,11 @@ impl ClaimedTraces {
 
     /// Claims each trace of a group that is not known, where there is a place for each.
     fn enter(&mut self, group: GroupId, lead: TraceId, others: &Laterals)
-        requires { is_full_for self.old (lead ∷ others.now) ≡ false }
+        requires free { is_full_for self.old (lead ∷ others.now) ≡ false }
+        requires new { is_known self.old group ≡ false }
         ensures { self.new ≡ with_claims self.old group (lead ∷ others.now) }
     {
+        self.set_hint(group);
         self.claims.push_back_reserved(Claim::new(group, lead));
         push_claims(&mut self.claims, group, others);
         self.groups
@@ -253,6 +303,7 @@ impl ClaimedTraces {
         };
         pop_claims(&mut self.claims, one.traces);
         self.place = self.place.saturating_sub(one.traces as usize);
+        self.forgotten = self.forgotten.wrapping_add(1);
     }
 }
 

@@ -20,7 +20,7 @@ returns-then-is_full_for-clause-after c =
     sym (when_full s c.args.group (traces_of c.args.lead c.args.laterals.now) known full).1
 
 pub enter-requires : goal.enter-requires
-enter-requires c = sym (c.is_full_for.ensures c.args.lead) ∙ c.if-is_full_for.false
+enter-requires c = record { free = sym (c.is_full_for.ensures c.args.lead) ∙ c.if-is_full_for.false; new = sym c.is_known.ensures ∙ c.if-is_known.false }
 
 pub returns-clause-answer : goal.returns-clause-answer
 returns-clause-answer c =
