@@ -25,8 +25,8 @@ pub const DEFAULT_BACKLOG: u64 = 64;
 /// Claims that a node keeps where no line says how many.
 pub const DEFAULT_CLAIMS: u64 = 4_096;
 
-/// Traces that a node remembers where no line says how many.
-pub const DEFAULT_REMEMBER: u64 = 16_384;
+/// Traces that a node remembers where no line says how many: more than buffers and clients together.
+pub const DEFAULT_REMEMBER: u64 = 32_768;
 
 /// Settled groups that a hub keeps where no line says how many.
 pub const DEFAULT_GROUPS: u64 = 16_384;
