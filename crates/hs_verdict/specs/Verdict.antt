@@ -90,6 +90,10 @@ are_nodes_closed g s trace nodes = list_all (λ node. is_node_closed g s trace (
 abbrev pub is_answered : PlainGroups → PlainStandings → TraceId → Followed → Bool
 is_answered g s trace followed = not (claims trace followed) || (followed.waiting.0 == 0 && are_nodes_closed g s trace followed.asked)
 
+-- whether one of these groups claims the trace, if each that does is answered
+abbrev pub claimed_among : PlainGroups → PlainStandings → TraceId → List Followed → Option Bool
+claimed_among g s trace some = if list_all (is_answered g s trace) some then Some (list_any (claims trace) some) else None
+
 -- whether a group claims the trace, and each that does is answered
 abbrev pub has_all : PlainGroups → PlainStandings → TraceId → Bool
 has_all g s trace = list_any (claims trace) g.groups && list_all (is_answered g s trace) g.groups

@@ -3,7 +3,7 @@
 ghost use Rattle.std.specs.Prelude.{◌≡◌};
 ghost use Rattle.std.specs.List.{list_all, list_any};
 ghost use Rattle.hs_base.specs.NodeSets.{nodes_of};
-ghost use Rattle.hs_verdict.specs.Verdict.{claims, is_node_closed, are_nodes_closed, is_answered, has_all, is_page_whole, is_whole};
+ghost use Rattle.hs_verdict.specs.Verdict.{claims, is_node_closed, are_nodes_closed, is_answered, claimed_among, has_all, is_page_whole, is_whole};
 
 use crate::asked::claims;
 use crate::pages::{Pages, are_full};
@@ -47,49 +47,40 @@ fn is_answered(groups: &Groups, standings: &Standings, trace: TraceId, followed:
         || followed.waiting.is_empty() && are_nodes_closed(groups, standings, trace, followed.asked)
 }
 
-/// Whether one of these groups claims the trace.
-fn any_claims(groups: &[Followed], trace: TraceId) -> bool
-    ensures { result ≡ list_any (claims trace) groups.now }
-{
-    groups.iter().any(|followed| claims(followed, trace))
-}
-
-/// Whether one of all groups does.
-#[tactic(auto, using(crate::proofs::Slices::any_of_both))]
-fn is_claimed(groups: &Groups, trace: TraceId) -> bool
-    ensures { result ≡ list_any (claims trace) groups.now.groups }
-{
-    let (older, newer) = groups.as_slices();
-    any_claims(older, trace) || any_claims(newer, trace)
-}
-
 /// Whether nothing more is to come of a trace, as far as the nodes say: a group that is followed claims it, and in each such group
 /// each node that it reached answered, and its latest life is closed to the trace.
 pub fn has_all(groups: &Groups, standings: &Standings, trace: TraceId) -> bool
     ensures { result ≡ has_all groups.now standings.now trace }
 {
-    is_claimed(groups, trace) && are_answered(groups, standings, trace)
-}
-
-/// Whether each group does not claim the trace, or is answered.
-#[tactic(auto, using(crate::proofs::Slices::all_of_both))]
-fn are_answered(groups: &Groups, standings: &Standings, trace: TraceId) -> bool
-    ensures { result ≡ list_all (is_answered groups.now standings.now trace) groups.now.groups }
-{
     let (older, newer) = groups.as_slices();
-    all_answered(groups, standings, trace, older) && all_answered(groups, standings, trace, newer)
+    let Some(one) = claimed_among(groups, standings, trace, older) else {
+        return false;
+    };
+    let Some(other) = claimed_among(groups, standings, trace, newer) else {
+        return false;
+    };
+    one || other
 }
 
-/// Whether each of these groups is so.
-fn all_answered(groups: &Groups, standings: &Standings, trace: TraceId, some: &[Followed]) -> bool
-    ensures { result ≡ list_all (is_answered groups.now standings.now trace) some.now }
+/// Whether one of these groups claims the trace. `None` where one does that is not answered.
+fn claimed_among(
+    groups: &Groups,
+    standings: &Standings,
+    trace: TraceId,
+    some: &[Followed],
+) -> Option<bool>
+    ensures { result ≡ claimed_among groups.now standings.now trace some.now }
 {
+    let mut claimed = false;
     for followed in some.iter() {
-        if !is_answered(groups, standings, trace, followed) {
-            return false;
+        if claims(followed, trace) {
+            if !is_answered(groups, standings, trace, followed) {
+                return None;
+            }
+            claimed = true;
         }
     }
-    true
+    Some(claimed)
 }
 
 /// Whether the life that wrote a page says that its part of the trace is whole.
