@@ -1,8 +1,7 @@
 -- Asks that an intake takes, one after another.
-use Rattle.std.proofs.Common.{◌≡◌, ℕ, ◌+◌, ◌<◌, ◌≤◌, List, [], ◌∷◌, ◌++◌, length, drop, map, Option, Some, None, refl, sym, ap, subst, ◌∙◌, arith, append-nil, append_assoc, length-append, slice_get}
+use Rattle.std.proofs.Common.{◌≡◌, ℕ, ◌+◌, ◌≤◌, List, [], ◌∷◌, ◌++◌, length, drop, map, Option, Some, None, refl, sym, ap, subst, ◌∙◌, arith, append-nil, append_assoc, length-append, slice_get}
 use Rattle.std.specs.Option.{option_to_list}
 use Rattle.hs_base.specs.declared.limits.TheConstants.{MAX_TAKEN}
-use Rattle.hs_base.specs.declared.settings.TriggerRule.{TriggerRule}
 use Rattle.hs_base.specs.declared.told.Ask.{Ask}
 use Rattle.hs_base.specs.declared.told.Told.{Told}
 use Rattle.hs_ring.specs.Parts.{Leased}
@@ -19,7 +18,7 @@ use Rattle.hs_intake.specs.declared.took.Stop.{Stop}
 use Rattle.hs_intake.specs.declared.took.Stop.TheVariants.{Empty, Most, Memory, Words}
 use Rattle.hs_intake.specs.Intakes as acts
 use Rattle.hs_intake.specs.Intakes.{PlainIntake, Act, life, Stands, SaysIt, Goes}
-use Rattle.hs_intake.specs.Taking.{IsMute, TakesFirst, TakesAsk, TakesAsks}
+use Rattle.hs_intake.specs.Taking.{TakesFirst, TakesAsk, TakesAsks}
 use Rattle.hs_intake.proofs.Acts.{map_append, goes_more, goes_nothing}
 
 -- ---- the inbox

@@ -4,3 +4,4 @@ pub mod Many
 pub mod Triggers
 pub mod Made
 pub mod Asks
+pub mod Handing

@@ -1,17 +1,23 @@
 -- Worked examples of what an intake receives, says and takes.
-use Rattle.std.specs.Prelude.{◌≡◌, ℕ, [], ◌∷◌, ◌++◌, Some, None, refl}
+use Rattle.std.specs.Prelude.{◌≡◌, ℕ, true, false, [], ◌∷◌, ◌++◌, Some, None, refl}
 use Rattle.hs_base.specs.declared.told.Told.{Told}
 use Rattle.hs_base.specs.declared.told.Trigger.{Trigger}
 use Rattle.hs_ring.specs.Parts.{Leased}
 use Rattle.hs_words.specs.Buffers.{Buffer}
 use Rattle.hs_link.specs.Contents.{Incoming}
 use Rattle.hs_live.specs.Keys.{Key}
+use Rattle.hs_base.specs.Samples.{one_rule}
+use Rattle.hs_words.specs.Pages.{page_bytes}
+use Rattle.hs_law_agent.specs.Standings.{sample_sheet}
+use Rattle.hs_law_agent.specs.Samples.{settings_with, chunk, trigger, group, turned}
+use Rattle.hs_law_agent.specs.Stepping.{Given, Missed}
 use Rattle.hs_law_agent.specs.State.{start}
 use Rattle.hs_records.specs.Plain.{PlainSettings}
-use Rattle.hs_agent.specs.Runs.{Run, new_run}
+use Rattle.hs_agent.specs.Runs.{Run, new_run, state_of, offered_next}
 use Rattle.hs_mail.specs.Letters.{Letters, after}
-use Rattle.hs_intake.specs.Intakes.{PlainIntake, Chunk, TakesChunk, Turns, says, SaysIt, Tells, acts_in, told_in, limit_of, limited_in, life, TakesTrigger}
+use Rattle.hs_intake.specs.Intakes.{PlainIntake, Chunk, TakesChunk, Turns, LetsGo, says, SaysIt, Tells, acts_in, told_in, limit_of, limited_in, life, TakesTrigger}
 use Rattle.hs_intake.specs.Taking.{Receives}
+use Rattle.hs_intake.specs.Handing.{first_page, was_offered}
 
 -- The second of two ends received 7 and 8.
 two_are_received : (a b : Incoming ℕ Key) → Receives 1 (7 ∷ 8 ∷ []) (a ∷ b ∷ []) (a ∷ record b { received = b.received ++ 7 ∷ 8 ∷ [] } ∷ [])
@@ -44,3 +50,28 @@ at_the_end settings = record (new_run settings 0) { start = record (start settin
 none_is_left : (settings : PlainSettings) (trigger : Trigger)
     → (limited_in (at_the_end settings) 3 (trigger ∷ trigger ∷ []) ≡ 2) × (life (at_the_end settings) (TakesTrigger 3 trigger ∷ []) ≡ at_the_end settings)
 none_is_left settings trigger = (refl, refl)
+
+-- A trigger fires on trace 1, its chunk comes in buffer 5, with a lease of mark 9, and a turn reports it.
+abbrev fives : Buffer Leased
+fives =
+    record {
+      chunk = record { number = 5; size = 64; page = Some (sample_sheet 0 0 1 0) };
+      lease = record { pool = 3 ∷ []; buffer = 5; draw = 8; mark = 9 };
+    }
+
+abbrev one_reported : Run Leased
+one_reported = record (new_run (settings_with 4 8 4 one_rule) 0) { events = trigger 1 1 1 [] ∷ chunk 1 0 ∷ turned ∷ []; buffers = fives ∷ [] }
+
+-- Its page is said with the group of the trigger, by the client's number and the mark.
+its_page : first_page one_reported ≡ Some (record { group = group 0 0 1 1; client = 0; core = 9; page = page_bytes (sample_sheet 0 0 1 0) })
+its_page = refl
+
+-- A miss leaves it first in the hand, cleared and offered before. Once it was given the hand is empty.
+abbrev cleared : Buffer Leased
+cleared = record fives { chunk = record { number = 5; size = 64; page = None } }
+
+it_misses : let after = life one_reported (LetsGo (Missed 20) (Some cleared) ∷ []) in (was_offered one_reported ≡ false) × (was_offered after ≡ true) × (offered_next after ≡ Some cleared)
+it_misses = (refl, refl, refl)
+
+it_goes : let after = life one_reported (LetsGo (Missed 20) (Some cleared) ∷ LetsGo (Given 21) None ∷ []) in ((state_of after).hand ≡ []) × (was_offered after ≡ false)
+it_goes = (refl, refl)

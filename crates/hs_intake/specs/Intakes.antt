@@ -15,9 +15,9 @@ use Rattle.hs_link.specs.Contents.{Incoming}
 use Rattle.hs_live.specs.Keys.{Key}
 use Rattle.hs_live.specs.Live.{Port, IsEnd}
 use Rattle.hs_wire.specs.Messages.{SaysTold}
-use Rattle.hs_law_agent.specs.Stepping.{Crumbed, Triggered, Asked, told_by}
+use Rattle.hs_law_agent.specs.Stepping.{Answered, Gave, Crumbed, Triggered, Asked, told_by}
 use Rattle.hs_agent.specs.Keeping.{PlainAgent}
-use Rattle.hs_agent.specs.Runs.{Run, state_of, Follows, IsChunkFor, after_chunk, after_turn}
+use Rattle.hs_agent.specs.Runs.{Run, state_of, Follows, IsChunkFor, after_chunk, after_turn, after_offer, with_back}
 use Rattle.hs_agent.specs.Tries.{after_crumb, after_trigger, after_ask}
 use Rattle.hs_inbox.specs.Delivering.{PlainInbox}
 use Rattle.hs_mail.specs.Letters.{Letters, Deed, Says}
@@ -53,6 +53,8 @@ pub data Act : Type 0 where
   TakesTrigger : (client : ℕ) (trigger : Trigger) → Act
   TakesAsk : (ask : Ask) → Act
   Turns : Act
+  -- the first of the hand is offered to the pool, which answers so; and what comes back, if it does
+  LetsGo : (answer : Answered) (back : Option (Buffer Leased)) → Act
 
 -- whether a number is left for one more trigger that is admitted
 abbrev pub has_left : Run Leased → Bool
@@ -65,6 +67,8 @@ after_act run (TakesCrumb client crumb) = after_crumb run client crumb
 after_act run (TakesTrigger client trigger) = if has_left run then after_trigger run client trigger else run
 after_act run (TakesAsk ask) = after_ask run ask
 after_act run Turns = after_turn run
+after_act run (LetsGo answer back) =
+    record run { events = run.events ++ Gave answer ∷ []; buffers = with_back (after_offer run) back; offered = None }
 
 -- the run after these acts
 abbrev pub life : Run Leased → List Act → Run Leased
@@ -81,6 +85,7 @@ told_at run (TakesCrumb client crumb) = option_to_list (told_by run.settings run
 told_at run (TakesTrigger client trigger) = option_to_list (told_on run client trigger)
 told_at run (TakesAsk ask) = option_to_list (told_by run.settings run.node (state_of run) (Asked ask))
 told_at run Turns = []
+told_at run (LetsGo answer back) = []
 
 -- and what these acts tell, one after another
 abbrev pub told_in : Run Leased → List Act → List Told

@@ -12,6 +12,7 @@ ghost use Rattle.hs_intake.specs.declared.took.Next.TheVariants.{Taken};
 ghost use Rattle.hs_intake.specs.Taking.{TakesNext, TakesMany, IsMute, TakesLine, TakesBack, MakesTurn};
 
 mod asks;
+mod hand;
 mod triggers;
 
 use crate::took::{Back, Next, Stop, Took, Turned};

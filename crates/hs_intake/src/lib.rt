@@ -7,4 +7,4 @@ mod took;
 
 pub use intake::Intake;
 pub use making::{MadeIntake, make_intake};
-pub use took::{Stop, Took, TookTriggers, Turned};
+pub use took::{Handed, Parted, Stop, Took, TookTriggers, Turned};

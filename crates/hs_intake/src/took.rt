@@ -2,7 +2,9 @@
 
 ghost use Rattle.std.specs.Prelude.{◌≡◌};
 
-use hs_base::{Crumb, Trigger};
+use hs_agent::Left;
+use hs_base::{Crumb, TraceId, Trigger};
+use hs_mail::Unposted;
 use hs_ring::Lease;
 use hs_words::Held;
 
@@ -63,6 +65,43 @@ pub enum Turned {
     Full,
     /// Memory was wanting, and the agent is spent.
     Spent,
+}
+
+/// A chunk that is first in the hand, at its first offer: its trace, and why it left. Where it was reported, its page was posted, or this
+/// says why it cannot be.
+#[derive(Clone, Copy, Debug, PartialEq, Eq)]
+pub struct Parted {
+    pub trace: TraceId,
+    pub left: Left,
+    pub unposted: Option<Unposted>,
+}
+
+/// What became of the first of the hand.
+#[derive(Clone, Copy, Debug, PartialEq, Eq)]
+pub enum Handed {
+    /// The hand is empty.
+    Empty,
+    /// Its page has no place in the mail now, or no number is left for it. Nothing changed.
+    Waits(Unposted),
+    /// It was offered to the pool, which took its buffer or did not. At the first offer there is what was said of it.
+    Offered {
+        parted: Option<Parted>,
+        is_given: bool,
+    },
+    /// Memory was wanting, and the agent is spent.
+    Spent,
+}
+
+/// What is said of the first of the hand.
+#[derive(Clone, Copy)]
+pub(crate) enum Say {
+    /// The hand is empty.
+    Nothing,
+    /// It was said at an earlier offer.
+    Again,
+    /// It cannot be said now.
+    Waits(Unposted),
+    Parted(Parted),
 }
 
 /// What became of the next item.

@@ -1,9 +1,7 @@
-use Rattle.std.proofs.Common.{◌≡◌, List, Some, None, length, true, false, refl, sym, ap, subst, ◌∙◌}
+use Rattle.std.proofs.Common.{◌≡◌, List, None, true, false, refl, sym, ap, subst, ◌∙◌}
 use Rattle.std.proofs.lemmas.Bool.{false_from_ne_true}
 use Rattle.hs_base.specs.Rules.{is_declared}
 use Rattle.hs_base.specs.declared.settings.TriggerRule.{TriggerRule}
-use Rattle.hs_ring.specs.Parts.{Leased}
-use Rattle.hs_agent.specs.Runs.{Run}
 use Rattle.hs_intake.specs.Intakes.{PlainIntake, Stands}
 use Rattle.hs_intake.specs.IntakeLayout.{intake_in}
 use Rattle.hs_intake.specs.Taking.{TakesFirst}

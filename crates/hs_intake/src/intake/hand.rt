@@ -1,0 +1,128 @@
+//! The hand of an intake: the chunks whose buffers are to be given back.
+
+ghost use Rattle.std.specs.Prelude.{◌≡◌, IfSome, IsSome, None};
+ghost use Rattle.hs_ring.specs.Parts.{Leased};
+ghost use Rattle.hs_agent.specs.Runs.{Run, Follows, Knows, state_of, first_place, answer_of};
+ghost use Rattle.hs_wire.specs.Messages.{SaysReported};
+ghost use Rattle.hs_mail.specs.Letters.{Posts};
+ghost use Rattle.hs_intake.specs.Intakes.{Stands};
+ghost use Rattle.hs_intake.specs.Handing.{page_of, say_by, handed_by, is_given, SaysFirst, GivesFirst, HandsOut};
+
+use super::Intake;
+use crate::took::{Handed, Parted, Say};
+use hs_agent::{Agent, Left};
+use hs_base::{Group, TraceId};
+use hs_mail::{Mail, Unposted};
+use hs_ring::Lease;
+use hs_wire::Reported;
+use hs_words::{Chunk, Given};
+
+impl Intake {
+    /// Offers the first of the hand to the pool. Answers whether it took the buffer; `None` where memory was wanting.
+    fn give_first(&mut self) -> Option<bool>
+        requires { (run : Run Leased) → Stands run self.old → IsSome (first_place (state_of run)) }
+        ensures { (run : Run Leased) → Stands run self.old → GivesFirst run self.old result self.new }
+    {
+        let Ok(offered) = self.agent.offer() else {
+            return None;
+        };
+        let Some(held) = offered else { unreachable!() };
+        let given = self.port.give(held);
+        let was_given = is_given(&given);
+        self.agent.gave(given);
+        Some(was_given)
+    }
+
+    /// Offers the first of the hand to the pool, so that its buffer goes back. At its first offer it is said why it left: a page that is
+    /// reported is posted, and the answer has its trace. A buffer that came back is offered again by a later call.
+    pub fn hand_out(&mut self) -> Handed
+        ensures { (run : Run Leased) → Stands run self.old → HandsOut run self.old result self.new }
+    {
+        match say_first(&self.agent, &mut self.mail) {
+            Say::Nothing => Handed::Empty,
+            Say::Waits(fault) => Handed::Waits(fault),
+            Say::Again => handed_by(None, self.give_first()),
+            Say::Parted(parted) => handed_by(Some(parted), self.give_first()),
+        }
+    }
+}
+
+/// What the call answers where the pool took the buffer or did not.
+fn handed_by(parted: Option<Parted>, was_given: Option<bool>) -> Handed
+    ensures { result ≡ handed_by parted was_given }
+{
+    match was_given {
+        None => Handed::Spent,
+        Some(is_given) => Handed::Offered { parted, is_given },
+    }
+}
+
+/// Whether the pool took the buffer.
+fn is_given(given: &Given<Lease>) -> bool
+    ensures { result ≡ is_given (answer_of given.now) }
+{
+    match given {
+        Given::Given { .. } => true,
+        Given::Missed { .. } | Given::Unread { .. } => false,
+    }
+}
+
+/// Posts the page of a chunk that was reported for a group, and whose client numbered its core so.
+fn post(mail: &mut Mail, group: Group, chunk: &Chunk, core: u64) -> Result<u64, Unposted>
+    requires { IsSome chunk.now.page }
+    ensures { IfSome chunk.now.page (λ sheet. Posts mail.old (SaysReported (page_of group core sheet)) result mail.new) }
+{
+    let Some(header) = chunk.header() else {
+        unreachable!()
+    };
+    mail.page(&Reported {
+        group,
+        client: header.client.number,
+        core,
+        page: chunk.bytes(),
+    })
+}
+
+/// What is said of a reported chunk, where its page was posted or not.
+fn say_by(trace: TraceId, left: Left, posted: Result<u64, Unposted>) -> Say
+    ensures { result ≡ say_by trace left posted }
+{
+    let unposted = match posted {
+        Ok(_) => None,
+        Err(Unposted::Full) => return Say::Waits(Unposted::Full),
+        Err(Unposted::Ended) => return Say::Waits(Unposted::Ended),
+        Err(fault) => Some(fault),
+    };
+    Say::Parted(Parted {
+        trace,
+        left,
+        unposted,
+    })
+}
+
+/// Says why the first of the hand left, unless it was said before.
+fn say_first(agent: &Agent<Lease>, mail: &mut Mail) -> Say
+    requires { Knows agent.now (λ run. run.offered ≡ None) }
+    ensures { (run : Run Leased) → Follows agent.now run → run.offered ≡ None → SaysFirst run mail.old result mail.new }
+{
+    let Some(first) = agent.first() else {
+        return Say::Nothing;
+    };
+    if first.again {
+        return Say::Again;
+    }
+    let Some(header) = first.chunk.header() else {
+        unreachable!()
+    };
+    match first.left {
+        Left::Reported(group) => {
+            let posted = post(mail, group, first.chunk, first.lease.mark());
+            say_by(header.trace, first.left, posted)
+        }
+        Left::Evicted { .. } | Left::Abandoned(_) => Say::Parted(Parted {
+            trace: header.trace,
+            left: first.left,
+            unposted: None,
+        }),
+    }
+}
