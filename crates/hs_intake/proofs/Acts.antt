@@ -1,10 +1,11 @@
 -- How an intake goes on: by ends that received, by acts of its agent, and one after another.
 use Rattle.std.proofs.Common.{◌≡◌, ℕ, List, [], ◌∷◌, ◌++◌, length, map, Option, Some, None, refl, sym, ap, subst, ◌∙◌, append_assoc, append-nil}
-use Rattle.std.specs.Prelude.{true, false, Result, Ok, Err, OnOk, OnErr, IsErr}
+use Rattle.std.specs.Prelude.{Bool, true, false, Result, Ok, Err, OnOk, OnErr, IsErr}
 use Rattle.std.proofs.lemmas.Bool.{false_from_ne_true}
 use Rattle.std.specs.Option.{option_to_list}
 use Rattle.hs_lists.proofs.Alls.{all_push}
 use Rattle.hs_base.specs.declared.told.Crumb.{Crumb}
+use Rattle.hs_base.specs.declared.told.Group.{Group}
 use Rattle.hs_base.specs.declared.told.Told.{Told}
 use Rattle.hs_words.specs.Buffers.{Buffer}
 use Rattle.hs_ring.specs.Parts.{Leased}
@@ -12,7 +13,7 @@ use Rattle.hs_link.specs.Contents.{Incoming}
 use Rattle.hs_live.specs.Keys.{Key, IsChunkOf, IsCrumbOf}
 use Rattle.hs_live.specs.Live.{Port, IsEnd, ReceivesAt}
 use Rattle.hs_agent.specs.Keeping.{PlainAgent}
-use Rattle.hs_agent.specs.Runs.{Run, state_of, Follows, IsSpent, after_chunk, after_turn}
+use Rattle.hs_agent.specs.Runs.{Run, state_of, Follows, IsSpent, after_chunk, after_turn, forgetting}
 use Rattle.hs_agent.specs.Tries.{after_crumb}
 use Rattle.hs_law_agent.specs.Stepping.{Crumbed, told_by}
 use Rattle.hs_mail.specs.Letters.{Letters, Deed}
@@ -78,6 +79,7 @@ chunks_moved run d client items ends stands receives =
       chunks = keys_after run.settings run.node d.port.giver d.clients client d.port.chunks ends items stands.chunks receives;
       crumbs = stands.crumbs;
       triggers = stands.triggers;
+      late = stands.late;
       pooled = stands.pooled;
       waits = stands.waits;
       inbox = stands.inbox;
@@ -93,6 +95,7 @@ crumbs_moved run d client items ends stands receives =
       chunks = stands.chunks;
       crumbs = keys_after run.settings run.node d.port.giver d.clients client d.port.crumbs ends items stands.crumbs receives;
       triggers = stands.triggers;
+      late = stands.late;
       pooled = stands.pooled;
       waits = stands.waits;
       inbox = stands.inbox;
@@ -110,6 +113,7 @@ chunk_taken run d client buffer agent stands pooled follows =
       chunks = stands.chunks;
       crumbs = stands.crumbs;
       triggers = stands.triggers;
+      late = stands.late;
       pooled = all_push (IsPooled d.port.giver) run.buffers buffer stands.pooled pooled;
       waits = stands.waits;
       inbox = stands.inbox;
@@ -125,6 +129,7 @@ crumb_taken run d client crumb agent stands follows =
       chunks = stands.chunks;
       crumbs = stands.crumbs;
       triggers = stands.triggers;
+      late = stands.late;
       pooled = stands.pooled;
       waits = stands.waits;
       inbox = stands.inbox;
@@ -139,6 +144,7 @@ said_since run d m unsaid stands =
       chunks = stands.chunks;
       crumbs = stands.crumbs;
       triggers = stands.triggers;
+      late = stands.late;
       pooled = stands.pooled;
       waits = stands.waits;
       inbox = stands.inbox;
@@ -155,6 +161,7 @@ waits_now run d waiting stands may =
       chunks = stands.chunks;
       crumbs = stands.crumbs;
       triggers = stands.triggers;
+      late = stands.late;
       pooled = stands.pooled;
       waits = may;
       inbox = stands.inbox;
@@ -178,7 +185,7 @@ pub took_chunk : (run : Run Leased) (d : PlainIntake) (client : ℕ) (buffer : B
 took_chunk run d client buffer port agent stands fact receives only follows =
     record {
       item = buffer;
-      moves = record { receives = receives_one client buffer d.port.chunks port.chunks receives; port = only; clients = refl };
+      moves = record { receives = receives_one client buffer d.port.chunks port.chunks receives; others = ap (λ (p : Port). record { port = p; late = d.late }) only; clients = refl };
       back = refl;
       goes =
           record {
@@ -197,7 +204,7 @@ held_chunk run d client buffer port stands fact receives only =
     let held = waits_now run (record d { port = record d.port { chunks = port.chunks } }) (Chunk client buffer) moved came in
     record {
       item = buffer;
-      moves = record { receives = one; port = only; clients = refl };
+      moves = record { receives = one; others = ap (λ (p : Port). record { port = p; late = d.late }) only; clients = refl };
       only = refl;
       stands = subst (λ (p : Port). Stands run (record d { port = p; back = Some (Chunk client buffer) })) (sym only) held;
     }
@@ -235,7 +242,7 @@ pub took_crumb : (run : Run Leased) (d : PlainIntake) (client : ℕ) (crumb : Cr
 took_crumb run d client crumb port agent told m unsaid stands receives only follows none is says_it =
     record {
       item = crumb;
-      moves = record { receives = receives_one client crumb d.port.crumbs port.crumbs receives; port = only; clients = refl };
+      moves = record { receives = receives_one client crumb d.port.crumbs port.crumbs receives; others = ap (λ (p : Port). record { port = p; late = d.late }) only; clients = refl };
       back = refl;
       goes =
           record {
@@ -261,7 +268,7 @@ held_crumb run d client crumb port stands fact receives only =
     let held = waits_now run (record d { port = record d.port { crumbs = port.crumbs } }) (Crumbs client crumb) moved came in
     record {
       item = crumb;
-      moves = record { receives = one; port = only; clients = refl };
+      moves = record { receives = one; others = ap (λ (p : Port). record { port = p; late = d.late }) only; clients = refl };
       only = refl;
       stands = subst (λ (p : Port). Stands run (record d { port = p; back = Some (Crumbs client crumb) })) (sym only) held;
     }
@@ -298,6 +305,7 @@ front_chunk_alive d client buffer agent back none there known after =
             chunks = stands.chunks;
             crumbs = stands.crumbs;
             triggers = stands.triggers;
+            late = stands.late;
             pooled = all_push (IsPooled d.port.giver) run.buffers buffer stands.pooled may.1;
             waits = tt;
             inbox = stands.inbox;
@@ -319,6 +327,7 @@ front_crumb_alive d client crumb agent back m unsaid none known after =
             chunks = stands.chunks;
             crumbs = stands.crumbs;
             triggers = stands.triggers;
+            late = stands.late;
             pooled = stands.pooled;
             waits = tt;
             inbox = stands.inbox;
@@ -336,6 +345,7 @@ turn_stands run d agent stands follows =
       chunks = stands.chunks;
       crumbs = stands.crumbs;
       triggers = stands.triggers;
+      late = stands.late;
       pooled = stands.pooled;
       waits = stands.waits;
       inbox = stands.inbox;
@@ -349,3 +359,25 @@ turn_alive d agent (Ok x) after spent stays stands alive =
     let known = stands (false_from_ne_true d.agent.spent (λ was. let none : false ≡ true = stays was in absurd cc)) in
     (after_turn known.0, turn_stands known.0 d agent known.1 (after known.0 known.1.follows))
 turn_alive d agent (Err x) after spent stays stands alive = let both : false ≡ true = sym alive ∙ spent in absurd cc
+
+-- ---- forgetting
+
+pub forgot_stands : (run : Run Leased) (d : PlainIntake) (group : Group) (agent : PlainAgent Leased) → Stands run d → Follows agent (forgetting group run) → Stands (forgetting group run) (record d { agent = agent })
+forgot_stands run d group agent stands follows =
+    record {
+      follows = follows;
+      offered = stands.offered;
+      size = stands.size;
+      chunks = stands.chunks;
+      crumbs = stands.crumbs;
+      triggers = stands.triggers;
+      late = stands.late;
+      pooled = stands.pooled;
+      waits = stands.waits;
+      inbox = stands.inbox;
+    }
+
+pub forgot_alive : (d : PlainIntake) (group : Group) (agent : PlainAgent Leased) (did : Bool) → (run : Run Leased) × Stands run d
+    → ((run : Run Leased) → Follows d.agent run → did ≡ true → Follows agent (forgetting group run)) → (did ≡ false → agent ≡ d.agent) → (run : Run Leased) × Stands run (record d { agent = agent })
+forgot_alive d group agent true known after same = (forgetting group known.0, forgot_stands known.0 d group agent known.1 (after known.0 known.1.follows refl))
+forgot_alive d group agent false known after same = (known.0, subst (λ (a : PlainAgent Leased). Stands known.0 (record d { agent = a })) (sym (same refl)) known.1)

@@ -105,6 +105,7 @@ gave_stands run d buffer answer back agent giver stands first returns follows =
       chunks = keys_given run.settings run.node old giver d.clients d.port.chunks pool size stands.chunks;
       crumbs = keys_given run.settings run.node old giver d.clients d.port.crumbs pool size stands.crumbs;
       triggers = keys_given run.settings run.node old giver d.clients d.port.triggers pool size stands.triggers;
+      late = keys_given run.settings run.node old giver d.clients d.late pool size stands.late;
       pooled =
           all_given old giver pool size (with_back (after_offer run) back)
           (back_pooled (IsPooled old) run.buffers (first_place (state_of run)) back stands.pooled (one_back old giver buffer answer back returns is));

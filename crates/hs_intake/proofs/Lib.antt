@@ -5,3 +5,4 @@ pub mod Triggers
 pub mod Made
 pub mod Asks
 pub mod Handing
+pub mod Lates

@@ -37,7 +37,7 @@ begins settings limits made are number low =
     (client.0, are.joined.each number client.0 client.1)
 
 pub made_stands : (settings : PlainSettings) (limits : ClientLimits) (made : Made) (agent : PlainAgent Leased) (mail : Letters) (inbox : PlainInbox) → inbox.rules ≡ settings.triggers → limits.size ≡ settings.size
-    → AreMade limits (rules_in_settings settings) made → Follows agent (bare_run settings limits.node) → Stands (bare_run settings limits.node) (new_intake agent made.port mail inbox limits.clients)
+    → AreMade limits (rules_in_settings settings) made → Follows agent (bare_run settings limits.node) → Stands (bare_run settings limits.node) (new_intake agent made.port made.late.items mail inbox limits.clients)
 made_stands settings limits made agent mail inbox rules same are follows =
     let size : made.port.giver.size ≡ settings.size = ap (λ (g : Giving). g.size) are.giver ∙ same in
     record {
@@ -67,6 +67,14 @@ made_stands settings limits made agent mail inbox rules same are follows =
                 let one = begins settings limits made are number (let low = there_low made.port.triggers number r at in let count = are.joined.triggers in omega (arith, low, count)) in
                 key_for settings limits made.port.giver number r.key size
                 (ap (λ (x : Incoming _ Key). x.key) (same_there made.port.triggers number r one.1.ends.triggers at one.1.stand.triggers) ∙ one.1.linked.triggers.keys.1));
+          };
+      late =
+          record {
+            count = are.joined.late;
+            keys = (λ number r at.
+                let one = begins settings limits made are number (let low = there_low made.late.items number r at in let count = are.joined.late in omega (arith, low, count)) in
+                key_for settings limits made.port.giver number r.key size
+                (ap (λ (x : Incoming _ Key). x.key) (same_there made.late.items number r one.1.ends.late at one.1.stand.late) ∙ one.1.linked.late.keys.1));
           };
       pooled = tt;
       waits = tt;

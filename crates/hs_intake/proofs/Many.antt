@@ -6,12 +6,11 @@ use Rattle.hs_base.specs.declared.told.Told.{Told}
 use Rattle.hs_ring.specs.Parts.{Leased}
 use Rattle.hs_link.specs.Contents.{Incoming}
 use Rattle.hs_live.specs.Keys.{Key}
-use Rattle.hs_live.specs.Live.{Port}
 use Rattle.hs_agent.specs.Runs.{Run}
 use Rattle.hs_intake.specs.declared.took.Next.TheVariants as nexts
 use Rattle.hs_intake.specs.declared.took.Stop.{Stop}
 use Rattle.hs_intake.specs.declared.took.Stop.TheVariants.{Empty, Most, Memory, Words}
-use Rattle.hs_intake.specs.Intakes.{PlainIntake, Line, Act, life, told_in, Stands, Tells, Goes}
+use Rattle.hs_intake.specs.Intakes.{PlainIntake, Line, Lines, lines_of, Act, life, told_in, Stands, Tells, Goes}
 use Rattle.hs_intake.specs.Taking.{IsDry, Moves, IsMute, TakesOne, TakesNext, TakesMany}
 use Rattle.hs_intake.proofs.Lines.{receives_none, receives_more}
 use Rattle.hs_intake.proofs.Acts.{map_append, goes_more, goes_nothing}
@@ -30,27 +29,28 @@ pub record SoFar {T : Type 0} (run : Run Leased) (line : Line T) (client : ℕ) 
   pub goes : Goes run (map (line.takes client) items) old new
 
 module _ {T : Type 0} (run : Run Leased) (line : Line T) (client : ℕ) where
-  pub moves_more : ((p : Port) (xs ys : List (Incoming T Key)) → line.with_ends (line.with_ends p xs) ys ≡ line.with_ends p ys)
+  pub moves_more : ((p : Lines) (xs ys : List (Incoming T Key)) → line.with_ends (line.with_ends p xs) ys ≡ line.with_ends p ys)
       → (xs ys : List T) (a b c : PlainIntake) → Moves line client xs a b → Moves line client ys b c → Moves line client (xs ++ ys) a c
   moves_more over xs ys a b c first second =
       record {
-        receives = receives_more client xs ys (line.ends a.port) (line.ends b.port) (line.ends c.port) first.receives second.receives;
-        port = second.port ∙ ap (λ (p : Port). line.with_ends p (line.ends c.port)) first.port ∙ over a.port (line.ends b.port) (line.ends c.port);
+        receives = receives_more client xs ys (line.ends (lines_of a)) (line.ends (lines_of b)) (line.ends (lines_of c)) first.receives second.receives;
+        others =
+            second.others ∙ ap (λ (p : Lines). line.with_ends p (line.ends (lines_of c))) first.others ∙ over (lines_of a) (line.ends (lines_of b)) (line.ends (lines_of c));
         clients = second.clients ∙ first.clients;
       }
 
-  unfoldable pub none_yet : (old : PlainIntake) → Stands run old → old.port ≡ line.with_ends old.port (line.ends old.port) → client < length (line.ends old.port) → SoFar run line client old 0 old
+  unfoldable pub none_yet : (old : PlainIntake) → Stands run old → lines_of old ≡ line.with_ends (lines_of old) (line.ends (lines_of old)) → client < length (line.ends (lines_of old)) → SoFar run line client old 0 old
   none_yet old stands same low =
-      let end = end_there (line.ends old.port) client low in
+      let end = end_there (line.ends (lines_of old)) client low in
       record {
         items = [];
         count_is = refl;
-        moves = record { receives = receives_none client (line.ends old.port) end.0 end.1; port = same; clients = refl };
+        moves = record { receives = receives_none client (line.ends (lines_of old)) end.0 end.1; others = same; clients = refl };
         back = refl;
         goes = goes_nothing run old old stands refl refl;
       }
 
-  unfoldable pub one_more : ((p : Port) (xs ys : List (Incoming T Key)) → line.with_ends (line.with_ends p xs) ys ≡ line.with_ends p ys)
+  unfoldable pub one_more : ((p : Lines) (xs ys : List (Incoming T Key)) → line.with_ends (line.with_ends p xs) ys ≡ line.with_ends p ys)
       → (old mid new : PlainIntake) (count : ℕ) → SoFar run line client old count mid → ((later : Run Leased) → Stands later mid → TakesOne later line client mid new)
       → SoFar run line client old (count + 1) new
   one_more over old mid new count so next =
@@ -70,7 +70,7 @@ module _ {T : Type 0} (run : Run Leased) (line : Line T) (client : ℕ) where
   tells_same told a b c mail unsaid tells =
       record { said = tells.said; mail = mail ∙ tells.mail; all = tells.all ∙ ap (λ (o : Option Told). tells.said ++ option_to_list o) (sym unsaid) }
 
-  unfoldable pub stopped : ((p : Port) (xs ys : List (Incoming T Key)) → line.with_ends (line.with_ends p xs) ys ≡ line.with_ends p ys)
+  unfoldable pub stopped : ((p : Lines) (xs ys : List (Incoming T Key)) → line.with_ends (line.with_ends p xs) ys ≡ line.with_ends p ys)
       → (old mid new : PlainIntake) (count : ℕ) (stop : Stop) → count ≤ MAX_TAKEN → SoFar run line client old count mid
       → ((later : Run Leased) → Stands later mid → TakesNext later line client mid (nexts.Stopped stop) new)
       → TakesMany run line client old (record { count = count; stop = stop }) new
@@ -84,7 +84,7 @@ module _ {T : Type 0} (run : Run Leased) (line : Line T) (client : ℕ) where
         stops = (
           subst (λ (d : PlainIntake). Moves line client so.items old d) (sym same) so.moves,
           ap (λ (d : PlainIntake). d.back) same ∙ so.back,
-          subst (λ (d : PlainIntake). IsDry client (line.ends d.port)) (sym same) dry,
+          subst (λ (d : PlainIntake). IsDry client (line.ends (lines_of d))) (sym same) dry,
         );
       }
   stopped over old mid new count Most few so next = absurd (next (life run (map (line.takes client) so.items)) so.goes.stands)

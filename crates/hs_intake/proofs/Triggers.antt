@@ -34,6 +34,7 @@ stays run d client trigger true stands agent follows =
       chunks = stands.chunks;
       crumbs = stands.crumbs;
       triggers = stands.triggers;
+      late = stands.late;
       pooled = stands.pooled;
       waits = stands.waits;
       inbox = stands.inbox;
@@ -46,6 +47,7 @@ stays run d client trigger false stands agent follows =
       chunks = stands.chunks;
       crumbs = stands.crumbs;
       triggers = stands.triggers;
+      late = stands.late;
       pooled = stands.pooled;
       waits = stands.waits;
       inbox = stands.inbox;
@@ -65,6 +67,7 @@ triggers_moved run d client items ends stands receives =
       chunks = stands.chunks;
       crumbs = stands.crumbs;
       triggers = keys_after run.settings run.node d.port.giver d.clients client d.port.triggers ends items stands.triggers receives;
+      late = stands.late;
       pooled = stands.pooled;
       waits = stands.waits;
       inbox = stands.inbox;
@@ -101,7 +104,7 @@ pub took_trigger : (run : Run Leased) (d : PlainIntake) (client : ℕ) (trigger 
 took_trigger run d client trigger port agent told m unsaid stands receives only follows none is says_it =
     record {
       item = trigger;
-      moves = record { receives = receives_one client trigger d.port.triggers port.triggers receives; port = only; clients = refl };
+      moves = record { receives = receives_one client trigger d.port.triggers port.triggers receives; others = ap (λ (p : Port). record { port = p; late = d.late }) only; clients = refl };
       back = refl;
       goes =
           record {
@@ -120,7 +123,7 @@ held_trigger run d client trigger port stands fact receives only =
     let held = waits_now run (record d { port = record d.port { triggers = port.triggers } }) (Triggers client trigger) moved came in
     record {
       item = trigger;
-      moves = record { receives = one; port = only; clients = refl };
+      moves = record { receives = one; others = ap (λ (p : Port). record { port = p; late = d.late }) only; clients = refl };
       only = refl;
       stands = subst (λ (p : Port). Stands run (record d { port = p; back = Some (Triggers client trigger) })) (sym only) held;
     }

@@ -11,11 +11,12 @@ use Rattle.hs_words.specs.Pages.{page_bytes}
 use Rattle.hs_law_agent.specs.Standings.{sample_sheet}
 use Rattle.hs_law_agent.specs.Samples.{settings_with, chunk, trigger, group, turned}
 use Rattle.hs_law_agent.specs.Stepping.{Given, Missed}
+use Rattle.hs_law_agent.specs.Lives.{is_settled}
 use Rattle.hs_law_agent.specs.State.{start}
 use Rattle.hs_records.specs.Plain.{PlainSettings}
 use Rattle.hs_agent.specs.Runs.{Run, new_run, state_of, offered_next}
 use Rattle.hs_mail.specs.Letters.{Letters, after}
-use Rattle.hs_intake.specs.Intakes.{PlainIntake, Chunk, TakesChunk, Turns, LetsGo, says, SaysIt, Tells, acts_in, told_in, limit_of, limited_in, life, TakesTrigger}
+use Rattle.hs_intake.specs.Intakes.{PlainIntake, Chunk, TakesChunk, Turns, LetsGo, Forgets, says, SaysIt, Tells, acts_in, told_in, limit_of, limited_in, life, TakesTrigger}
 use Rattle.hs_intake.specs.Taking.{Receives}
 use Rattle.hs_intake.specs.Handing.{first_page, was_offered}
 
@@ -75,3 +76,7 @@ it_misses = (refl, refl, refl)
 
 it_goes : let after = life one_reported (LetsGo (Missed 20) (Some cleared) ∷ LetsGo (Given 21) None ∷ []) in ((state_of after).hand ≡ []) × (was_offered after ≡ false)
 it_goes = (refl, refl)
+
+-- A group for which nothing is pinned may be forgotten, and then claims nothing.
+it_is_forgotten : (is_settled (group 0 0 1 1) (state_of one_reported) ≡ true) × ((state_of (life one_reported (Forgets (group 0 0 1 1) ∷ []))).claims ≡ [])
+it_is_forgotten = (refl, refl)

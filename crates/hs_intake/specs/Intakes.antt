@@ -6,6 +6,7 @@ use Rattle.std.specs.Option.{option_to_list}
 use Rattle.hs_base.specs.Rules.{is_declared}
 use Rattle.hs_base.specs.declared.told.Ask.{Ask}
 use Rattle.hs_base.specs.declared.told.Crumb.{Crumb}
+use Rattle.hs_base.specs.declared.told.Group.{Group}
 use Rattle.hs_base.specs.declared.told.Told.{Told}
 use Rattle.hs_base.specs.declared.told.Trigger.{Trigger}
 use Rattle.hs_records.specs.Plain.{PlainSettings}
@@ -17,7 +18,7 @@ use Rattle.hs_live.specs.Live.{Port, IsEnd}
 use Rattle.hs_wire.specs.Messages.{SaysTold}
 use Rattle.hs_law_agent.specs.Stepping.{Answered, Gave, Crumbed, Triggered, Asked, told_by}
 use Rattle.hs_agent.specs.Keeping.{PlainAgent}
-use Rattle.hs_agent.specs.Runs.{Run, state_of, Follows, IsChunkFor, after_chunk, after_turn, after_offer, with_back}
+use Rattle.hs_agent.specs.Runs.{Run, state_of, Follows, IsChunkFor, after_chunk, after_turn, after_offer, with_back, forgetting}
 use Rattle.hs_agent.specs.Tries.{after_crumb, after_trigger, after_ask}
 use Rattle.hs_inbox.specs.Delivering.{PlainInbox}
 use Rattle.hs_mail.specs.Letters.{Letters, Deed, Says}
@@ -32,6 +33,8 @@ pub data Waiting : Type 0 where
 pub record PlainIntake : Type 0 where
   pub agent : PlainAgent Leased
   pub port : Port
+  -- the ends that receive the clients' crumbs of traces that need not be open
+  pub late : List (Incoming Crumb Key)
   pub mail : Letters
   pub inbox : PlainInbox
   pub clients : ℕ
@@ -41,8 +44,8 @@ pub record PlainIntake : Type 0 where
   pub unsaid : Option Told
 
 -- one at whose front nothing waits
-abbrev pub new_intake : PlainAgent Leased → Port → Letters → PlainInbox → ℕ → PlainIntake
-new_intake agent port mail inbox clients = record { agent = agent; port = port; mail = mail; inbox = inbox; clients = clients; back = None; unsaid = None }
+abbrev pub new_intake : PlainAgent Leased → Port → List (Incoming Crumb Key) → Letters → PlainInbox → ℕ → PlainIntake
+new_intake agent port late mail inbox clients = record { agent = agent; port = port; late = late; mail = mail; inbox = inbox; clients = clients; back = None; unsaid = None }
 
 -- ---- what the agent takes
 
@@ -55,6 +58,8 @@ pub data Act : Type 0 where
   Turns : Act
   -- the first of the hand is offered to the pool, which answers so; and what comes back, if it does
   LetsGo : (answer : Answered) (back : Option (Buffer Leased)) → Act
+  -- a group is forgotten
+  Forgets : (group : Group) → Act
 
 -- whether a number is left for one more trigger that is admitted
 abbrev pub has_left : Run Leased → Bool
@@ -69,6 +74,7 @@ after_act run (TakesAsk ask) = after_ask run ask
 after_act run Turns = after_turn run
 after_act run (LetsGo answer back) =
     record run { events = run.events ++ Gave answer ∷ []; buffers = with_back (after_offer run) back; offered = None }
+after_act run (Forgets group) = forgetting group run
 
 -- the run after these acts
 abbrev pub life : Run Leased → List Act → Run Leased
@@ -86,6 +92,7 @@ told_at run (TakesTrigger client trigger) = option_to_list (told_on run client t
 told_at run (TakesAsk ask) = option_to_list (told_by run.settings run.node (state_of run) (Asked ask))
 told_at run Turns = []
 told_at run (LetsGo answer back) = []
+told_at run (Forgets group) = []
 
 -- and what these acts tell, one after another
 abbrev pub told_in : Run Leased → List Act → List Told
@@ -138,6 +145,7 @@ pub record Stands (run : Run Leased) (d : PlainIntake) : Type 0 where
   pub chunks : AreFor run.settings run.node d.port.giver d.clients d.port.chunks
   pub crumbs : AreFor run.settings run.node d.port.giver d.clients d.port.crumbs
   pub triggers : AreFor run.settings run.node d.port.giver d.clients d.port.triggers
+  pub late : AreFor run.settings run.node d.port.giver d.clients d.late
   pub pooled : AllByRecursion (IsPooled d.port.giver) run.buffers
   pub waits : MayWaitIf run.settings run.node d.port.giver d.back
   pub inbox : d.inbox.rules ≡ run.settings.triggers
@@ -166,21 +174,33 @@ pub record Goes (run : Run Leased) (acts : List Act) (old new : PlainIntake) : T
 
 -- ---- the lines of a client
 
+-- all ends of the clients' links
+pub record Lines : Type 0 where
+  pub port : Port
+  pub late : List (Incoming Crumb Key)
+
+abbrev pub lines_of : PlainIntake → Lines
+lines_of d = record { port = d.port; late = d.late }
+
 -- one of the links of each client: its ends, and what an item of it is to the agent
 pub record Line (T : Type 0) : Type 0 where
-  pub ends : Port → List (Incoming T Key)
-  pub with_ends : Port → List (Incoming T Key) → Port
+  pub ends : Lines → List (Incoming T Key)
+  pub with_ends : Lines → List (Incoming T Key) → Lines
   pub takes : ℕ → T → Act
   pub waits : ℕ → T → Waiting
 
 abbrev pub chunk_line : Line (Buffer Leased)
-chunk_line = record { ends = λ port. port.chunks; with_ends = λ port ends. record port { chunks = ends }; takes = TakesChunk; waits = Chunk }
+chunk_line = record { ends = λ lines. lines.port.chunks; with_ends = λ lines ends. record lines { port = record lines.port { chunks = ends } }; takes = TakesChunk; waits = Chunk }
 
 abbrev pub crumb_line : Line Crumb
-crumb_line = record { ends = λ port. port.crumbs; with_ends = λ port ends. record port { crumbs = ends }; takes = TakesCrumb; waits = Crumbs }
+crumb_line = record { ends = λ lines. lines.port.crumbs; with_ends = λ lines ends. record lines { port = record lines.port { crumbs = ends } }; takes = TakesCrumb; waits = Crumbs }
+
+-- crumbs of traces that need not be open
+abbrev pub late_line : Line Crumb
+late_line = record { ends = λ lines. lines.late; with_ends = λ lines ends. record lines { late = ends }; takes = TakesCrumb; waits = Crumbs }
 
 abbrev pub trigger_line : Line Trigger
-trigger_line = record { ends = λ port. port.triggers; with_ends = λ port ends. record port { triggers = ends }; takes = TakesTrigger; waits = Triggers }
+trigger_line = record { ends = λ lines. lines.port.triggers; with_ends = λ lines ends. record lines { port = record lines.port { triggers = ends } }; takes = TakesTrigger; waits = Triggers }
 
 -- ---- the front
 

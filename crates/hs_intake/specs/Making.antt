@@ -12,8 +12,10 @@ use Rattle.hs_intake.specs.Intakes.{Stands}
 -- It stands where its agent has taken nothing and keeps no journal, nothing was done with the clients, and the other ends of their links are its port.
 pub record IsMade (settings : PlainSettings) (limits : ClientLimits) (mail : Letters) (asks : ℕ) (made : MadeIntake) : Type 0 where
   pub stands : Stands (bare_run settings limits.node) made.intake
+  -- the room of the list of ends for late crumbs
+  pub room : ℕ
   pub clients :
       AreMade limits (rules_by settings.autos settings.triggers settings.nodes)
-      (record { port = made.intake.port; late = made.late; segments = made.segments; clients = made.clients })
+      (record { port = made.intake.port; late = record { items = made.intake.late; room = room }; segments = made.segments; clients = made.clients })
   pub mail_is : made.intake.mail ≡ mail
   pub inbox_is : made.intake.inbox ≡ no_asks (record { 0 = limits.node }) settings.triggers asks

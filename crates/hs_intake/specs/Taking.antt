@@ -1,11 +1,13 @@
 -- What is taken of one line of a client: the next item, or as many as a pass takes.
 use Rattle.std.specs.Prelude.{◌≡◌, ℕ, ◌+◌, ◌<◌, ◌≤◌, Bool, true, false, List, [], ◌∷◌, ◌++◌, length, map, slice_set, Some, None, IsSome, ◌⊎◌}
 use Rattle.hs_base.specs.declared.told.Ask.{Ask}
+use Rattle.hs_base.specs.declared.told.Group.{Group}
 use Rattle.hs_base.specs.declared.limits.TheConstants.{MAX_TAKEN}
 use Rattle.hs_ring.specs.Parts.{Leased}
 use Rattle.hs_link.specs.Contents.{Incoming, IsSameReceiver, IsBeginning}
 use Rattle.hs_live.specs.Keys.{Key}
 use Rattle.hs_live.specs.Live.{IsEnd}
+use Rattle.hs_law_agent.specs.Lives.{is_settled}
 use Rattle.hs_agent.specs.Runs.{Run, state_of, IsSpent}
 use Rattle.hs_intake.specs.declared.took.Next.{Next}
 use Rattle.hs_intake.specs.declared.took.Next.TheVariants as nexts
@@ -16,7 +18,7 @@ use Rattle.hs_intake.specs.declared.took.TookTriggers.{TookTriggers}
 use Rattle.hs_intake.specs.declared.took.Turned.{Turned}
 use Rattle.hs_intake.specs.declared.took.Turned.TheVariants.{Done, Full, Spent}
 use Rattle.hs_intake.specs.Intakes as acts
-use Rattle.hs_intake.specs.Intakes.{PlainIntake, Line, trigger_line, limited_in, Stands, Goes, Turns, acts_in}
+use Rattle.hs_intake.specs.Intakes.{PlainIntake, Line, lines_of, trigger_line, limited_in, Stands, Goes, Turns, Forgets, acts_in}
 
 -- The end of the client with this number received these items, and all other ends are as they were.
 pub record Receives {T : Type 0} (client : ℕ) (items : List T) (old new : List (Incoming T Key)) : Type 0 where
@@ -35,8 +37,8 @@ pub record IsDry {T : Type 0} (client : ℕ) (ends : List (Incoming T Key)) : Ty
 
 -- Of this line these items came, and no other end changed.
 pub record Moves {T : Type 0} (line : Line T) (client : ℕ) (items : List T) (old new : PlainIntake) : Type 0 where
-  pub receives : Receives client items (line.ends old.port) (line.ends new.port)
-  pub port : new.port ≡ line.with_ends old.port (line.ends new.port)
+  pub receives : Receives client items (line.ends (lines_of old)) (line.ends (lines_of new))
+  pub others : lines_of new ≡ line.with_ends (lines_of old) (line.ends (lines_of new))
   pub clients : new.clients ≡ old.clients
 
 -- No word has a place, or one that was told still waits for its place.
@@ -56,12 +58,12 @@ pub record TakesOne {T : Type 0} (run : Run Leased) (line : Line T) (client : �
 pub record HoldsOne {T : Type 0} (run : Run Leased) (line : Line T) (client : ℕ) (old new : PlainIntake) : Type 0 where
   pub item : T
   pub moves : Moves line client (item ∷ []) old new
-  pub only : new ≡ record old { port = new.port; back = Some (line.waits client item) }
+  pub only : new ≡ record old { port = new.port; late = new.late; back = Some (line.waits client item) }
   pub stands : Stands run new
 
 abbrev pub TakesNext : {T : Type 0} → Run Leased → Line T → ℕ → PlainIntake → Next → PlainIntake → Type 0
 TakesNext run line client old nexts.Taken new = TakesOne run line client old new
-TakesNext run line client old (nexts.Stopped Empty) new = (new ≡ old) × IsDry client (line.ends old.port)
+TakesNext run line client old (nexts.Stopped Empty) new = (new ≡ old) × IsDry client (line.ends (lines_of old))
 TakesNext run line client old (nexts.Stopped Memory) new = HoldsOne run line client old new
 TakesNext run line client old (nexts.Stopped Words) new = (new ≡ old) × IsMute old
 TakesNext run line client old (nexts.Stopped Most) new = ⊥
@@ -70,7 +72,7 @@ TakesNext run line client old (nexts.Stopped Most) new = ⊥
 
 -- Why no more was taken, where these were.
 abbrev pub StopsBy : {T : Type 0} → Line T → ℕ → List T → PlainIntake → Stop → PlainIntake → Type 0
-StopsBy line client items old Empty new = Moves line client items old new × (new.back ≡ old.back) × IsDry client (line.ends new.port)
+StopsBy line client items old Empty new = Moves line client items old new × (new.back ≡ old.back) × IsDry client (line.ends (lines_of new))
 StopsBy line client items old Most new = Moves line client items old new × (new.back ≡ old.back) × (length items ≡ MAX_TAKEN)
 StopsBy {T} line client items old Memory new = (item : T) × Moves line client (items ++ item ∷ []) old new × (new.back ≡ Some (line.waits client item))
 StopsBy line client items old Words new = Moves line client items old new × (new.back ≡ old.back) × IsMute new
@@ -142,7 +144,7 @@ pub record TakesAsks (run : Run Leased) (old : PlainIntake) (took : Took) (new :
 
 -- What waited at the front was taken, if anything did; or it waits on, and nothing changed.
 abbrev pub TakesBack : Run Leased → PlainIntake → Bool → PlainIntake → Type 0
-TakesBack run old true new = (new.back ≡ None) × ((new.port ≡ old.port) × ((new.clients ≡ old.clients) × Goes run (acts_in old.back) old new))
+TakesBack run old true new = (new.back ≡ None) × ((lines_of new ≡ lines_of old) × ((new.clients ≡ old.clients) × Goes run (acts_in old.back) old new))
 TakesBack run old false new = IsSome old.back × (new ≡ old)
 
 -- ---- a turn
@@ -155,3 +157,10 @@ abbrev pub MakesTurn : Run Leased → PlainIntake → Turned → PlainIntake →
 MakesTurn run old Done new = HavePlaces run old × ((new ≡ record old { agent = new.agent }) × Goes run (Turns ∷ []) old new)
 MakesTurn run old Full new = (HavePlaces run old → ⊥) × (new ≡ old)
 MakesTurn run old Spent new = HavePlaces run old × ((new ≡ record old { agent = new.agent }) × IsSpent new.agent)
+
+-- ---- forgetting
+
+-- No chunk is pinned for the group, and it was forgotten; or one is, and nothing changed.
+abbrev pub ForgetsGroup : Run Leased → Group → PlainIntake → Bool → PlainIntake → Type 0
+ForgetsGroup run group old true new = (is_settled group (state_of run) ≡ true) × ((new ≡ record old { agent = new.agent }) × Goes run (Forgets group ∷ []) old new)
+ForgetsGroup run group old false new = (is_settled group (state_of run) ≡ false) × (new ≡ old)

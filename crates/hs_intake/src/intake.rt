@@ -9,28 +9,32 @@ ghost use Rattle.hs_mail.specs.Letters.{first_offered, pending_at, after, HandsO
 ghost use Rattle.hs_agent.specs.Runs.{Run};
 ghost use Rattle.hs_intake.specs.Intakes.{Stands, chunk_line, crumb_line, SaysIt, new_intake};
 ghost use Rattle.hs_intake.specs.declared.took.Next.TheVariants.{Taken};
-ghost use Rattle.hs_intake.specs.Taking.{TakesNext, TakesMany, IsMute, TakesLine, TakesBack, MakesTurn};
+ghost use Rattle.hs_intake.specs.Taking.{TakesNext, TakesMany, IsMute, TakesLine, TakesBack, MakesTurn, ForgetsGroup};
 
 mod asks;
 mod hand;
+mod late;
 mod triggers;
 
 use crate::took::{Back, Next, Stop, Took, Turned};
 use hs_agent::Agent;
-use hs_base::Told;
 use hs_base::limits::MAX_TAKEN;
+use hs_base::{Crumb, Group, List, Told};
 use hs_inbox::{Delivered, Inbox};
-use hs_live::AgentPort;
+use hs_link::Receiver;
+use hs_live::{AgentPort, ClientKey};
 use hs_mail::Mail;
 use hs_ring::Lease;
 use std::marker::Model;
 
-/// The agent of a node, with the port of its clients, the mail for what it tells, and the inbox of what it is asked. One thing at most waits at the front: what came,
+/// The agent of a node, with the ends of its clients' links, the mail for what it tells, and the inbox of what it is asked. One thing at most waits at the front: what came,
 /// and found no memory.
 #[derive(Drop)]
 pub struct Intake {
     agent: Agent<Lease>,
     port: AgentPort,
+    /// The ends that receive crumbs of traces that need not be open.
+    late: List<Receiver<Crumb, ClientKey>>,
     mail: Mail,
     inbox: Inbox,
     clients: u16,
@@ -145,16 +149,18 @@ impl Intake {
     pub fn make(
         agent: Agent<Lease>,
         port: AgentPort,
+        late: List<Receiver<Crumb, ClientKey>>,
         mail: Mail,
         inbox: Inbox,
         clients: u16,
     ) -> Intake
-        requires { (run : Run Leased) × Stands run (new_intake agent port mail inbox clients) }
-        ensures { result ≡ new_intake agent port mail inbox clients }
+        requires { (run : Run Leased) × Stands run (new_intake agent port late.items mail inbox clients) }
+        ensures { result ≡ new_intake agent port late.items mail inbox clients }
     {
         Intake {
             agent,
             port,
+            late,
             mail,
             inbox,
             clients,
@@ -217,6 +223,13 @@ impl Intake {
             Ok(()) => Turned::Done,
             Err(_) => Turned::Spent,
         }
+    }
+
+    /// Forgets a group for which no chunk is pinned: its claims, and the crumbs of the traces that it claimed. Answers whether it did.
+    pub fn forget(&mut self, group: Group) -> bool
+        ensures { (run : Run Leased) → Stands run self.old → ForgetsGroup run group self.old result self.new }
+    {
+        self.agent.forget(group)
     }
 
     /// The message with the least number of those that are not handed out, with its number, if there is one.

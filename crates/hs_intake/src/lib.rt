@@ -3,8 +3,10 @@
 
 mod intake;
 mod making;
+mod receiving;
 mod took;
 
 pub use intake::Intake;
 pub use making::{MadeIntake, make_intake};
+pub use receiving::receive_at;
 pub use took::{Handed, Parted, Stop, Took, TookTriggers, Turned};

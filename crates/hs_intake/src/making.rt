@@ -8,22 +8,19 @@ ghost use Rattle.hs_intake.specs.Making.{IsMade};
 
 use crate::intake::Intake;
 use hs_agent::Agent;
-use hs_base::{Crumb, List, NodeId, Settings};
+use hs_base::{List, NodeId, Settings};
 use hs_inbox::Inbox;
 use hs_link::Receiver;
-use hs_live::ClientKey;
 use hs_mail::Mail;
 use hs_node_client::{
     ClientLimits, Made, MakeFault, NodeClient, Segment, SegmentKey, make_clients,
 };
 use std::alloc::Global;
 
-/// An intake and the clients of its node, by number, with the ends that receive their crumbs of traces that need not be open, and their
-/// notes of segments.
+/// An intake and the clients of its node, by number, with the ends that receive their notes of segments.
 #[derive(Drop)]
 pub struct MadeIntake {
     pub intake: Intake,
-    pub late: List<Receiver<Crumb, ClientKey>>,
     pub segments: List<Receiver<Segment, SegmentKey>>,
     pub clients: List<NodeClient>,
 }
@@ -62,8 +59,7 @@ pub fn make_intake(
         clients,
     } = made;
     Ok(MadeIntake {
-        intake: Intake::make(agent, port, mail, inbox, limits.clients),
-        late,
+        intake: Intake::make(agent, port, late, mail, inbox, limits.clients),
         segments,
         clients,
     })

@@ -18,10 +18,11 @@ returns-clause-made c =
     subst
     (λ (d : PlainIntake).
     IsMade (settings_of c.args.settings.now) c.args.limits.now c.args.mail c.args.asks
-    (record { intake = d; late = c.in_ok-made.made.late; segments = c.in_ok-made.made.segments; clients = c.in_ok-made.made.clients }))
+    (record { intake = d; segments = c.in_ok-made.made.segments; clients = c.in_ok-made.made.clients }))
     (sym c.make-2.ensures)
     (record {
       stands = made_stands (settings_of c.args.settings.now) c.args.limits.now c.in_ok-made.made c.in-Ok.agent c.args.mail c.in-Ok-make.inbox (ap (λ (i : PlainInbox). i.rules) c.in-Ok-make.ensures) c.requires.size c.in_ok-made.ensures.made c.in-Ok.ensures;
+      room = c.in_ok-made.made.late.room;
       clients = c.in_ok-made.ensures.made;
       mail_is = refl;
       inbox_is = c.in-Ok-make.ensures;

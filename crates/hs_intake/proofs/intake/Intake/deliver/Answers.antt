@@ -9,6 +9,7 @@ invariant_of-self c =
       chunks = c.self.invariant.chunks;
       crumbs = c.self.invariant.crumbs;
       triggers = c.self.invariant.triggers;
+      late = c.self.invariant.late;
       stands = (λ alive.
           let known = c.self.invariant.stands alive in
           (known.0, inbox_moved known.0 d c.deliver.new.self known.1 (rules_stay d.inbox c.deliver.new.self c.args.bytes.now c.deliver.result c.deliver.ensures)));

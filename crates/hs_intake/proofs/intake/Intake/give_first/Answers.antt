@@ -18,6 +18,7 @@ invariant_of-self-2 c =
       chunks = ap (λ (p : Port). length p.chunks) c.give-given.ensures.only ∙ c.self.invariant.chunks;
       crumbs = ap (λ (p : Port). length p.crumbs) c.give-given.ensures.only ∙ c.self.invariant.crumbs;
       triggers = ap (λ (p : Port). length p.triggers) c.give-given.ensures.only ∙ c.self.invariant.triggers;
+      late = c.self.invariant.late;
       stands = (λ alive.
           let known = c.self.invariant.stands (false_from_ne_true c.self.inside.agent.spent (λ was. let none : false ≡ true = c.in-Ok.ensures.stays was in absurd cc)) in
           let first : Some (buffer_of c.in-Some.held) ≡ offered_next known.0 = ap buffer_in (sym c.in-Some.is) ∙ c.in-Ok.ensures.first known.0 known.1.follows in (

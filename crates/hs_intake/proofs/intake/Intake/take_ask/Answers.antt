@@ -29,6 +29,7 @@ invariant_of-self c =
       chunks = c.self.invariant.chunks;
       crumbs = c.self.invariant.crumbs;
       triggers = c.self.invariant.triggers;
+      late = c.self.invariant.late;
       stands = (λ alive.
           ask_alive d c.in-Some.first.now c.try_ask.new.self c.say.new.mail c.say.new.unsaid c.take_first.new.self
           (c.self.invariant.stands (false_from_ne_true c.self.inside.agent.spent (λ was. let none : false ≡ true = c.in-Ok.ensures.stays was in absurd cc))) c.take_first.ensures c.in-Ok.ensures.after);

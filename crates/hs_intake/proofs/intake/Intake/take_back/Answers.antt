@@ -14,6 +14,7 @@ invariant_of-self-in-Ok c =
       chunks = c.self.invariant.chunks;
       crumbs = c.self.invariant.crumbs;
       triggers = c.self.invariant.triggers;
+      late = c.self.invariant.late;
       stands = (λ alive.
           front_chunk_alive d c.in-Some-Chunk.client (buffer_of c.in-Some-Chunk.held) c.try_chunk.new.self (option_map waiting_of c.take.new.self)
           (ap (λ (o : Option Back). option_map waiting_of o) c.take.ensures.after)
@@ -28,6 +29,7 @@ invariant_of-self-in-Ok-try_crumb c =
       chunks = c.self.invariant.chunks;
       crumbs = c.self.invariant.crumbs;
       triggers = c.self.invariant.triggers;
+      late = c.self.invariant.late;
       stands = (λ alive.
           front_crumb_alive d c.in-Some-Crumb.client c.in-Some-Crumb.crumb c.try_crumb.new.self (option_map waiting_of c.take.new.self) c.say.new.mail c.say.new.unsaid
           (ap (λ (o : Option Back). option_map waiting_of o) c.take.ensures.after)

@@ -45,6 +45,7 @@ invariant_of-self-in-Ok c =
       chunks = chunks_counted c.args.client d.clients (buffer ∷ []) d.port.chunks port.chunks (receives_one c.args.client buffer d.port.chunks port.chunks c.in-Some.ensures.received) c.self.invariant.chunks;
       crumbs = ap (λ (p : Port). length p.crumbs) c.chunk.ensures.only ∙ c.self.invariant.crumbs;
       triggers = ap (λ (p : Port). length p.triggers) c.chunk.ensures.only ∙ c.self.invariant.triggers;
+      late = c.self.invariant.late;
       stands = (λ alive.
           took_alive d c.args.client buffer port c.try_chunk.new.self
           (c.self.invariant.stands (false_from_ne_true c.self.inside.agent.spent (λ was. let none : false ≡ true = c.in-Ok.ensures.stays was in absurd cc)))
@@ -60,6 +61,7 @@ invariant_of-self-in-Err c =
       chunks = chunks_counted c.args.client d.clients (buffer ∷ []) d.port.chunks port.chunks (receives_one c.args.client buffer d.port.chunks port.chunks c.in-Some.ensures.received) c.self.invariant.chunks;
       crumbs = ap (λ (p : Port). length p.crumbs) c.chunk.ensures.only ∙ c.self.invariant.crumbs;
       triggers = ap (λ (p : Port). length p.triggers) c.chunk.ensures.only ∙ c.self.invariant.triggers;
+      late = c.self.invariant.late;
       stands = (λ alive.
           subst (λ (b : Buffer Leased). (run : Run Leased) × Stands run (record d { agent = c.try_chunk.new.self; port = port; back = Some (Chunk c.args.client b) })) (sym c.in-Err.ensures.back)
           (subst (λ (a : PlainAgent Leased). (run : Run Leased) × Stands run (record d { agent = a; port = port; back = Some (Chunk c.args.client buffer) })) (sym c.in-Err.ensures.same)

@@ -40,6 +40,7 @@ invariant_of-self-in-Ok c =
       chunks = ap (λ (p : Port). length p.chunks) c.crumb.ensures.only ∙ c.self.invariant.chunks;
       crumbs = crumbs_counted c.args.client d.clients (crumb ∷ []) d.port.crumbs port.crumbs (receives_one c.args.client crumb d.port.crumbs port.crumbs c.in-Some.ensures.received) c.self.invariant.crumbs;
       triggers = ap (λ (p : Port). length p.triggers) c.crumb.ensures.only ∙ c.self.invariant.triggers;
+      late = c.self.invariant.late;
       stands = (λ alive.
           crumb_alive d c.args.client crumb port c.try_crumb.new.self c.say.new.mail c.say.new.unsaid
           (c.self.invariant.stands (false_from_ne_true c.self.inside.agent.spent (λ was. let none : false ≡ true = c.in-Ok.ensures.stays was in absurd cc)))
@@ -55,6 +56,7 @@ invariant_of-self-in-Err c =
       chunks = ap (λ (p : Port). length p.chunks) c.crumb.ensures.only ∙ c.self.invariant.chunks;
       crumbs = crumbs_counted c.args.client d.clients (crumb ∷ []) d.port.crumbs port.crumbs (receives_one c.args.client crumb d.port.crumbs port.crumbs c.in-Some.ensures.received) c.self.invariant.crumbs;
       triggers = ap (λ (p : Port). length p.triggers) c.crumb.ensures.only ∙ c.self.invariant.triggers;
+      late = c.self.invariant.late;
       stands = (λ alive.
           subst (λ (a : PlainAgent Leased). (run : Run Leased) × Stands run (record d { agent = a; port = port; back = Some (Crumbs c.args.client crumb) })) (sym c.in-Err.ensures.same)
           (held_crumb_alive d c.args.client crumb port (c.self.invariant.stands (ap (λ (a : PlainAgent Leased). a.spent) (sym c.in-Err.ensures.same) ∙ alive)) c.in-Some.ensures.fact

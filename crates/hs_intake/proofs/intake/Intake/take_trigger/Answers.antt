@@ -39,6 +39,7 @@ invariant_of-self-in-Ok c =
       chunks = ap (λ (p : Port). length p.chunks) c.trigger.ensures.only ∙ c.self.invariant.chunks;
       crumbs = ap (λ (p : Port). length p.crumbs) c.trigger.ensures.only ∙ c.self.invariant.crumbs;
       triggers = triggers_counted c.args.client d.clients (trigger ∷ []) d.port.triggers port.triggers (receives_one c.args.client trigger d.port.triggers port.triggers c.in-Some.ensures.received) c.self.invariant.triggers;
+      late = c.self.invariant.late;
       stands = (λ alive.
           trigger_alive d c.args.client trigger port c.fire.new.agent c.say.new.mail c.say.new.unsaid
           (c.self.invariant.stands (c.fire.ensures.alive alive))
@@ -54,6 +55,7 @@ invariant_of-self-in-Err c =
       chunks = ap (λ (p : Port). length p.chunks) c.trigger.ensures.only ∙ c.self.invariant.chunks;
       crumbs = ap (λ (p : Port). length p.crumbs) c.trigger.ensures.only ∙ c.self.invariant.crumbs;
       triggers = triggers_counted c.args.client d.clients (trigger ∷ []) d.port.triggers port.triggers (receives_one c.args.client trigger d.port.triggers port.triggers c.in-Some.ensures.received) c.self.invariant.triggers;
+      late = c.self.invariant.late;
       stands = (λ alive.
           subst (λ (a : PlainAgent Leased). (run : Run Leased) × Stands run (record d { agent = a; port = port; back = Some (Triggers c.args.client trigger) })) (sym c.in-Err.ensures.same)
           (held_trigger_alive d c.args.client trigger port (c.self.invariant.stands (ap (λ (a : PlainAgent Leased). a.spent) (sym c.in-Err.ensures.same) ∙ alive)) c.in-Some.ensures.fact

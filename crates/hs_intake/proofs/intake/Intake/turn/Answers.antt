@@ -8,5 +8,6 @@ invariant_of-self c =
       chunks = c.self.invariant.chunks;
       crumbs = c.self.invariant.crumbs;
       triggers = c.self.invariant.triggers;
+      late = c.self.invariant.late;
       stands = turn_alive (intake_in c.self.inside) c.turn.new.self c.turn.result c.turn.ensures.after c.turn.ensures.spent c.turn.ensures.stays c.self.invariant.stands;
     }
