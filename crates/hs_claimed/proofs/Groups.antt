@@ -94,8 +94,8 @@ stands_here groups group place one distinct there named =
     before within k low =
         by_answer (is_the group (get_or groups k one))
         (λ y. let at : slice_get groups k ≡ Some (get_or groups k one) = slice_get-get_or groups k one (omega (arith, low, within)) in
-        let same : (get_or groups k one).group ≡ one.group = sym (group_same group (get_or groups k one).group y) ∙ group_same group one.group named in
-        let places = distinct k place (get_or groups k one) one at there (ap (λ (g : GroupId). same_group g one.group) same ∙ group_refl one.group) in
+        let same : (get_or groups k one).group.id ≡ one.group.id = sym (group_same group (get_or groups k one).group.id y) ∙ group_same group one.group.id named in
+        let places = distinct k place (get_or groups k one) one at there (ap (λ (g : GroupId). same_group g one.group.id) same ∙ group_refl one.group.id) in
         absurd (omega (arith, places, low)))
         (λ n. n)
 
@@ -107,25 +107,25 @@ not_at [] group place one none at = let never : None ≡ Some one = at in absurd
 not_at (y ∷ groups) group zero one none at = ap (is_the group) (sym (same_Some y one at)) ∙ first_false (is_the group y) (list_any (is_the group) groups) none
 not_at (y ∷ groups) group (suc place) one none at = not_at groups group place one (second_false (is_the group y) (list_any (is_the group) groups) none) at
 
-pub push_distinct : (groups : List Claimant) (new : Claimant) → AreDistinct groups → is_some (position (is_the new.group) groups) ≡ false → AreDistinct (groups ++ new ∷ [])
+pub push_distinct : (groups : List Claimant) (new : Claimant) → AreDistinct groups → is_some (position (is_the new.group.id) groups) ≡ false → AreDistinct (groups ++ new ∷ [])
 push_distinct groups new distinct unknown place other a b first second same =
-    let none : list_any (is_the new.group) groups ≡ false = sym (positioned (is_the new.group) groups) ∙ unknown in
+    let none : list_any (is_the new.group.id) groups ≡ false = sym (positioned (is_the new.group.id) groups) ∙ unknown in
     elim (get_push_cases groups new a place first) [
       | inl old ↦
           elim (get_push_cases groups new b other second) [
             | inl older ↦ distinct place other a b old older same
             | inr newer ↦
-                let equal : a.group ≡ new.group = group_same a.group b.group same ∙ ap (λ (c : Claimant). c.group) (sym newer.1) in
-                let on : is_the new.group a ≡ true = ap (same_group new.group) equal ∙ group_refl new.group in
-                let never : true ≡ false = sym on ∙ not_at groups new.group place a none old in
+                let equal : a.group.id ≡ new.group.id = group_same a.group.id b.group.id same ∙ ap (λ (c : Claimant). c.group.id) (sym newer.1) in
+                let on : is_the new.group.id a ≡ true = ap (same_group new.group.id) equal ∙ group_refl new.group.id in
+                let never : true ≡ false = sym on ∙ not_at groups new.group.id place a none old in
                 absurd cc
           ]
       | inr now ↦
           elim (get_push_cases groups new b other second) [
             | inl older ↦
-                let equal : b.group ≡ new.group = sym (group_same a.group b.group same) ∙ ap (λ (c : Claimant). c.group) (sym now.1) in
-                let on : is_the new.group b ≡ true = ap (same_group new.group) equal ∙ group_refl new.group in
-                let never : true ≡ false = sym on ∙ not_at groups new.group other b none older in
+                let equal : b.group.id ≡ new.group.id = sym (group_same a.group.id b.group.id same) ∙ ap (λ (c : Claimant). c.group.id) (sym now.1) in
+                let on : is_the new.group.id b ≡ true = ap (same_group new.group.id) equal ∙ group_refl new.group.id in
+                let never : true ≡ false = sym on ∙ not_at groups new.group.id other b none older in
                 absurd cc
             | inr newer ↦ sym now.0 ∙ newer.0
           ]
@@ -138,21 +138,21 @@ drop_distinct n groups distinct place other a b first second same =
 record Was (groups : List Claimant) (place : ℕ) (x : Claimant) : Type 0 where
   item : Claimant
   there : slice_get groups place ≡ Some item
-  group_is : item.group ≡ x.group
+  group_is : item.group.id ≡ x.group.id
 
-was : (groups : List Claimant) (at : ℕ) (one new : Claimant) → slice_get groups at ≡ Some one → new.group ≡ one.group → (place : ℕ) (x : Claimant) → slice_get (set groups at new) place ≡ Some x → Was groups place x
+was : (groups : List Claimant) (at : ℕ) (one new : Claimant) → slice_get groups at ≡ Some one → new.group.id ≡ one.group.id → (place : ℕ) (x : Claimant) → slice_get (set groups at new) place ≡ Some x → Was groups place x
 was groups at one new here same place x found =
     elim (get_set_cases groups at place one new x here found) [
-      | inl h ↦ record { item = one; there = ap (slice_get groups) (sym h.0) ∙ here; group_is = sym same ∙ ap (λ (c : Claimant). c.group) h.1 }
+      | inl h ↦ record { item = one; there = ap (slice_get groups) (sym h.0) ∙ here; group_is = sym same ∙ ap (λ (c : Claimant). c.group.id) h.1 }
       | inr h ↦ record { item = x; there = h.1; group_is = refl }
     ]
 
-pub set_distinct : (groups : List Claimant) (at : ℕ) (one new : Claimant) → AreDistinct groups → slice_get groups at ≡ Some one → new.group ≡ one.group → AreDistinct (set groups at new)
+pub set_distinct : (groups : List Claimant) (at : ℕ) (one new : Claimant) → AreDistinct groups → slice_get groups at ≡ Some one → new.group.id ≡ one.group.id → AreDistinct (set groups at new)
 set_distinct groups at one new distinct here equal place other a b first second same =
     let before = was groups at one new here equal place a first in
     let after = was groups at one new here equal other b second in
     distinct place other before.item after.item before.there after.there
-    (ap (λ (g : GroupId). same_group g after.item.group) before.group_is ∙ ap (same_group a.group) after.group_is ∙ same)
+    (ap (λ (g : GroupId). same_group g after.item.group.id) before.group_is ∙ ap (same_group a.group.id) after.group_is ∙ same)
 
 pub found_here : (groups : List Claimant) (group : GroupId) (place : ℕ) → AreDistinct groups → option_map_or (is_the group) (slice_get groups place) false ≡ true → position (is_the group) groups ≡ Some place
 found_here groups group place distinct found = at (slice_get groups place) refl found

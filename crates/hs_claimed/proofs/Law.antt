@@ -12,6 +12,7 @@ use Rattle.hs_lists.proofs.Places.{get_map, get_unmap, get_set_cases, get_push_c
 use Rattle.hs_lists.proofs.Parts.{map_append, map_drop, drop_front}
 use Rattle.hs_base.specs.declared.ids.TraceId.{TraceId}
 use Rattle.hs_base.specs.declared.ids.GroupId.{GroupId}
+use Rattle.hs_base.specs.declared.told.Group.{Group}
 use Rattle.hs_base.specs.Ids.{same_trace}
 use Rattle.hs_wire.specs.declared.message.Standing.{Standing}
 use Rattle.hs_claimed.specs.declared.answers.Claim.{Claim}
@@ -26,16 +27,16 @@ abbrev group_of : Claim → GroupId
 group_of claim = claim.group
 
 abbrev ids_of : Claimant → List GroupId
-ids_of one = replicate one.traces one.group
+ids_of one = replicate one.traces one.group.id
 
 any_in : (groups : List Claimant) (i : ℕ) (group : GroupId) → slice_get (flat_map ids_of groups) i ≡ Some group → list_any (is_the group) groups ≡ true
 any_in [] i group at = let none : None ≡ Some group = at in absurd cc
 any_in (one ∷ groups) i group at =
     elim (get_both (ids_of one) (flat_map ids_of groups) i group at) [
       | inl h ↦
-          let same : one.group ≡ group = get_same one.traces one.group i group h in
-          or_first (same_group group one.group) (list_any (is_the group) groups) (subst (λ (x : GroupId). same_group x one.group ≡ true) same (group_refl one.group))
-      | inr h ↦ or_second (same_group group one.group) (list_any (is_the group) groups) (any_in groups h.place group h.there)
+          let same : one.group.id ≡ group = get_same one.traces one.group.id i group h in
+          or_first (same_group group one.group.id) (list_any (is_the group) groups) (subst (λ (x : GroupId). same_group x one.group.id ≡ true) same (group_refl one.group.id))
+      | inr h ↦ or_second (same_group group one.group.id) (list_any (is_the group) groups) (any_in groups h.place group h.there)
     ]
 
 abbrev AreTogether : PlainClaims → Type 0
@@ -117,11 +118,11 @@ nothing_behind : {A : Type 0} (xs : List A) → xs ++ [] ≡ xs
 nothing_behind [] = refl
 nothing_behind {A = A} (x ∷ xs) = ap (λ (ys : List A). x ∷ ys) (nothing_behind xs)
 
-together_new : (s : PlainClaims) (group : GroupId) (traces : List TraceId) → AreTogether s → AreTogether (with_claims s group traces)
+together_new : (s : PlainClaims) (group : Group) (traces : List TraceId) → AreTogether s → AreTogether (with_claims s group traces)
 together_new s group traces together =
-    map_append group_of s.claims (map (claim_of group) traces)
-    ∙ ap (λ (ids : List GroupId). ids ++ map group_of (map (claim_of group) traces)) together
-    ∙ ap (λ (ids : List GroupId). flat_map ids_of s.groups ++ ids) (new_ids group traces ∙ sym (nothing_behind (replicate (length traces) group)))
+    map_append group_of s.claims (map (claim_of group.id) traces)
+    ∙ ap (λ (ids : List GroupId). ids ++ map group_of (map (claim_of group.id) traces)) together
+    ∙ ap (λ (ids : List GroupId). flat_map ids_of s.groups ++ ids) (new_ids group.id traces ∙ sym (nothing_behind (replicate (length traces) group.id)))
     ∙ sym (flat_map-append ids_of s.groups (claimant group (length traces) ∷ []))
 
 -- the claims of a group that is not known
@@ -186,32 +187,32 @@ module _ (s : PlainClaims) (group : GroupId) (traces : List TraceId) (unknown : 
             none ∙ sym (ap (λ b. if b then None else word claim.group claim.trace) on)
       ]
 
-claims_any : (word : GroupId → TraceId → Option Standing) (s : PlainClaims) (group : GroupId) (lead : TraceId) (laterals : List TraceId) → Hold word s
-    → Hold (λ other trace. if same_group other group && not (is_known s group) then None else word other trace) (after_claim s group (traces_of lead laterals))
-claims_any word s group lead laterals hold = at (is_known s group) (is_full_for s (traces_of lead laterals)) refl
+claims_any : (word : GroupId → TraceId → Option Standing) (s : PlainClaims) (group : Group) (laterals : List TraceId) → Hold word s
+    → Hold (λ other trace. if same_group other group.id && not (is_known s group.id) then None else word other trace) (after_claim s group (traces_of group.lead laterals))
+claims_any word s group laterals hold = at (is_known s group.id) (is_full_for s (traces_of group.lead laterals)) refl
   where
     and_off : (b : Bool) → (b && false) ≡ false
     and_off true = refl
     and_off false = refl
 
-    at : (known full : Bool) → is_known s group ≡ known
-        → Hold (λ other trace. if same_group other group && not (is_known s group) then None else word other trace) (if known || full then s else with_claims s group (traces_of lead laterals))
+    at : (known full : Bool) → is_known s group.id ≡ known
+        → Hold (λ other trace. if same_group other group.id && not (is_known s group.id) then None else word other trace) (if known || full then s else with_claims s group (traces_of group.lead laterals))
     at true full known = record {
       together = hold.together;
       once = hold.once;
       said = λ place claim is.
           hold.said place claim is
-          ∙ sym (ap (λ b. if b then None else word claim.group claim.trace) (ap (λ b. same_group claim.group group && not b) known ∙ and_off (same_group claim.group group)));
+          ∙ sym (ap (λ b. if b then None else word claim.group claim.trace) (ap (λ b. same_group claim.group group.id && not b) known ∙ and_off (same_group claim.group group.id)));
     }
     at false true unknown = record {
       together = hold.together;
       once = hold.once;
-      said = said_old s group (traces_of lead laterals) unknown hold.together word hold.said;
+      said = said_old s group.id (traces_of group.lead laterals) unknown hold.together word hold.said;
     }
     at false false unknown = record {
-      together = together_new s group (traces_of lead laterals) hold.together;
-      once = once_new s group (traces_of lead laterals) unknown hold.together (traces_apart lead laterals) hold.once;
-      said = said_new s group (traces_of lead laterals) unknown hold.together word hold.said;
+      together = together_new s group (traces_of group.lead laterals) hold.together;
+      once = once_new s group.id (traces_of group.lead laterals) unknown hold.together (traces_apart group.lead laterals) hold.once;
+      said = said_new s group.id (traces_of group.lead laterals) unknown hold.together word hold.said;
     }
 
 -- ---- a message speaks of a group
@@ -319,7 +320,7 @@ forgets_any word s hold = at s.groups refl
   where
     rest_ids : (groups : List Claimant) (one : Claimant) → drop one.traces (ids_of one ++ flat_map ids_of groups) ≡ flat_map ids_of groups
     rest_ids groups one =
-        ap (λ n. drop n (ids_of one ++ flat_map ids_of groups)) (sym (length-replicate one.traces one.group)) ∙ drop_front (ids_of one) (flat_map ids_of groups)
+        ap (λ n. drop n (ids_of one ++ flat_map ids_of groups)) (sym (length-replicate one.traces one.group.id)) ∙ drop_front (ids_of one) (flat_map ids_of groups)
 
     at : (groups : List Claimant) → s.groups ≡ groups → Hold word (option_map_or (without_oldest s) (slice_get groups 0) s)
     at [] is = hold
@@ -344,7 +345,7 @@ none_hold most = record {
 }
 
 by_deed : (word : GroupId → TraceId → Option Standing) (s : PlainClaims) (deed : Deed) → Hold word s → Hold (λ group trace. news_by s group trace deed (word group trace)) (after s deed)
-by_deed word s (Claims group lead laterals) hold = claims_any word s group lead laterals hold
+by_deed word s (Claims group laterals) hold = claims_any word s group laterals hold
 by_deed word s (Speaks group number) hold = record { together = together_spoke s group number hold.together; once = hold.once; said = hold.said }
 by_deed word s (Says standing number) hold = says_any word s standing number hold
 by_deed word s LooksOn hold = record { together = hold.together; once = hold.once; said = hold.said }

@@ -5,7 +5,7 @@ use Rattle.std.specs.List.{list_any}
 use Rattle.std.proofs.lemmas.List.{length_push}
 use Rattle.hs_base.specs.declared.ids.TraceId.{TraceId}
 use Rattle.hs_base.specs.Ids.{same_trace}
-use Rattle.hs_base.specs.declared.ids.GroupId.{GroupId}
+use Rattle.hs_base.specs.declared.told.Group.{Group}
 use Rattle.hs_claimed.specs.declared.answers.Claiming.TheVariants.{Claimed, Known, Full}
 use Rattle.hs_claimed.specs.Claims.{PlainClaims, with_other, is_known, is_full_for, answer_to_claim, after_claim, with_claims}
 
@@ -18,18 +18,18 @@ others_longer lead others trace = at (same_trace trace lead || list_any (same_tr
 
 -- ---- the answers to a claim
 
-pub when_full : (s : PlainClaims) (group : GroupId) (traces : List TraceId) → is_known s group ≡ false → is_full_for s traces ≡ true
+pub when_full : (s : PlainClaims) (group : Group) (traces : List TraceId) → is_known s group.id ≡ false → is_full_for s traces ≡ true
     → (answer_to_claim s group traces ≡ Full) × (after_claim s group traces ≡ s)
-when_full s group traces known full = at (is_known s group) (is_full_for s traces) known full
+when_full s group traces known full = at (is_known s group.id) (is_full_for s traces) known full
   where
     at : (a b : Bool) → a ≡ false → b ≡ true → ((if a then Known else if b then Full else Claimed) ≡ Full) × ((if a || b then s else with_claims s group traces) ≡ s)
     at true b known full = let never : true ≡ false = known in absurd cc
     at false true known full = (refl, refl)
     at false false known full = let never : false ≡ true = full in absurd cc
 
-pub when_claimed : (s : PlainClaims) (group : GroupId) (traces : List TraceId) → is_known s group ≡ false → is_full_for s traces ≡ false
+pub when_claimed : (s : PlainClaims) (group : Group) (traces : List TraceId) → is_known s group.id ≡ false → is_full_for s traces ≡ false
     → (answer_to_claim s group traces ≡ Claimed) × (after_claim s group traces ≡ with_claims s group traces)
-when_claimed s group traces known free = at (is_known s group) (is_full_for s traces) known free
+when_claimed s group traces known free = at (is_known s group.id) (is_full_for s traces) known free
   where
     at : (a b : Bool) → a ≡ false → b ≡ false → ((if a then Known else if b then Full else Claimed) ≡ Claimed) × ((if a || b then s else with_claims s group traces) ≡ with_claims s group traces)
     at true b known free = let never : true ≡ false = known in absurd cc

@@ -5,6 +5,7 @@ use Rattle.std.specs.List.{list_any}
 use Rattle.std.specs.Option.{option_map_or}
 use Rattle.hs_base.specs.declared.ids.TraceId.{TraceId}
 use Rattle.hs_base.specs.declared.ids.GroupId.{GroupId}
+use Rattle.hs_base.specs.declared.told.Group.{Group}
 use Rattle.hs_base.specs.Ids.{same_trace}
 use Rattle.hs_base.specs.Samples.{t}
 use Rattle.hs_wire.specs.declared.message.Standing.{Standing}
@@ -36,7 +37,7 @@ abbrev pub is_of : GroupId → Claim → Bool
 is_of group claim = same_group group claim.group
 
 abbrev pub is_the : GroupId → Claimant → Bool
-is_the group one = same_group group one.group
+is_the group one = same_group group one.group.id
 
 -- ---- a group claims its traces
 
@@ -55,7 +56,7 @@ abbrev pub claim_of : GroupId → TraceId → Claim
 claim_of group trace = record { group = group; trace = trace; said = None }
 
 -- a group with so many traces, of which no message speaks
-abbrev pub claimant : GroupId → ℕ → Claimant
+abbrev pub claimant : Group → ℕ → Claimant
 claimant group traces = record { group = group; traces = traces; last = None }
 
 abbrev pub is_known : PlainClaims → GroupId → Bool
@@ -65,15 +66,15 @@ is_known s group = is_some (position (is_the group) s.groups)
 abbrev pub is_full_for : PlainClaims → List TraceId → Bool
 is_full_for s traces = nat_lt s.most (length s.claims + length traces) || nat_le s.most (length s.groups)
 
-abbrev pub answer_to_claim : PlainClaims → GroupId → List TraceId → Claiming
-answer_to_claim s group traces = if is_known s group then Known else if is_full_for s traces then Full else Claimed
+abbrev pub answer_to_claim : PlainClaims → Group → List TraceId → Claiming
+answer_to_claim s group traces = if is_known s group.id then Known else if is_full_for s traces then Full else Claimed
 
 -- each trace is claimed, or none
-abbrev pub with_claims : PlainClaims → GroupId → List TraceId → PlainClaims
-with_claims s group traces = record s { claims = s.claims ++ map (claim_of group) traces; groups = s.groups ++ claimant group (length traces) ∷ [] }
+abbrev pub with_claims : PlainClaims → Group → List TraceId → PlainClaims
+with_claims s group traces = record s { claims = s.claims ++ map (claim_of group.id) traces; groups = s.groups ++ claimant group (length traces) ∷ [] }
 
-abbrev pub after_claim : PlainClaims → GroupId → List TraceId → PlainClaims
-after_claim s group traces = if is_known s group || is_full_for s traces then s else with_claims s group traces
+abbrev pub after_claim : PlainClaims → Group → List TraceId → PlainClaims
+after_claim s group traces = if is_known s group.id || is_full_for s traces then s else with_claims s group traces
 
 -- ---- a message speaks of a group
 
@@ -141,21 +142,25 @@ after_forget s = option_map_or (without_oldest s) (oldest s) s
 abbrev pub g : ℕ → GroupId
 g number = record { node = 0; number = number }
 
+-- the group of this number, with trigger id 1 and this lead
+abbrev pub led : (number lead : ℕ) → Group
+led number lead = record { id = g number; trigger = record { 0 = 1 }; lead = t lead }
+
 -- group 7 claims trace 9 and its laterals 8 and 3, of which 8 stands there twice, and the lead as well
 abbrev seven : PlainClaims
-seven = after_claim (no_claims 4) (g 7) (traces_of (t 9) (t 8 ∷ t 9 ∷ t 3 ∷ t 8 ∷ []))
+seven = after_claim (no_claims 4) (led 7 9) (traces_of (t 9) (t 8 ∷ t 9 ∷ t 3 ∷ t 8 ∷ []))
 
 each_once : seven.claims ≡ claim_of (g 7) (t 9) ∷ claim_of (g 7) (t 8) ∷ claim_of (g 7) (t 3) ∷ []
 each_once = refl
 
 -- another group with two traces has too few places, and one with one trace has none to spare
 all_or_none :
-    (answer_to_claim seven (g 5) (traces_of (t 1) (t 2 ∷ [])) ≡ Full) × (after_claim seven (g 5) (traces_of (t 1) (t 2 ∷ [])) ≡ seven) × (answer_to_claim seven (g 7) (traces_of (t 1) []) ≡ Known)
-    × (answer_to_claim seven (g 5) (traces_of (t 9) []) ≡ Claimed)
+    (answer_to_claim seven (led 5 1) (traces_of (t 1) (t 2 ∷ [])) ≡ Full) × (after_claim seven (led 5 1) (traces_of (t 1) (t 2 ∷ [])) ≡ seven) × (answer_to_claim seven (led 7 1) (traces_of (t 1) []) ≡ Known)
+    × (answer_to_claim seven (led 5 9) (traces_of (t 9) []) ≡ Claimed)
 all_or_none = (refl, refl, refl, refl)
 
 abbrev both : PlainClaims
-both = after_claim seven (g 5) (traces_of (t 9) [])
+both = after_claim seven (led 5 9) (traces_of (t 9) [])
 
 -- message 4 says that trace 9 is unheard of at this node, for group 7; saying it again, with another horizon, is nothing new
 abbrev said_9 : PlainClaims
@@ -165,7 +170,7 @@ says_it_once : (is_news_in both (word UnheardSince 0 0) ≡ true) × (is_news_in
 says_it_once = (refl, refl, refl, refl)
 
 -- the greatest number counts
-last_message : (oldest said_9 ≡ Some (record (claimant (g 7) 3) { last = Some 4 })) × (oldest (after_spoke (after_spoke said_9 (g 7) 6) (g 7) 5) ≡ Some (record (claimant (g 7) 3) { last = Some 6 })) × (oldest both ≡ Some (claimant (g 7) 3))
+last_message : (oldest said_9 ≡ Some (record (claimant (led 7 9) 3) { last = Some 4 })) × (oldest (after_spoke (after_spoke said_9 (g 7) 6) (g 7) 5) ≡ Some (record (claimant (led 7 9) 3) { last = Some 6 })) × (oldest both ≡ Some (claimant (led 7 9) 3))
 last_message = (refl, refl, refl)
 
 -- four claims are looked at, one after the other
@@ -176,5 +181,5 @@ comes_round = (refl, refl)
 forgets_seven : (after_forget (advanced (advanced (advanced both)))).claims ≡ claim_of (g 5) (t 9) ∷ []
 forgets_seven = refl
 
-looks_on : ((after_forget (advanced (advanced (advanced both)))).place ≡ 0) × ((after_forget both).place ≡ 0) × (is_above both 3 ≡ true) × (is_above (after_forget both) 3 ≡ false) × (oldest (after_forget both) ≡ Some (claimant (g 5) 1))
+looks_on : ((after_forget (advanced (advanced (advanced both)))).place ≡ 0) × ((after_forget both).place ≡ 0) × (is_above both 3 ≡ true) × (is_above (after_forget both) 3 ≡ false) × (oldest (after_forget both) ≡ Some (claimant (led 5 9) 1))
 looks_on = (refl, refl, refl, refl, refl)

@@ -9,7 +9,7 @@ abbrev pub claims_in : Inside → PlainClaims
 claims_in a = record { most = a.most; claims = a.claims.items; groups = a.groups.items; place = a.place }
 
 abbrev pub AreDistinct : List Claimant → Type 0
-AreDistinct groups = (place other : ℕ) (a b : Claimant) → slice_get groups place ≡ Some a → slice_get groups other ≡ Some b → same_group a.group b.group ≡ true → place ≡ other
+AreDistinct groups = (place other : ℕ) (a b : Claimant) → slice_get groups place ≡ Some a → slice_get groups other ≡ Some b → same_group a.group.id b.group.id ≡ true → place ≡ other
 
 pub record AreClaims (a : Inside) : Type 0 where
   pub few : length a.claims.items ≤ a.most

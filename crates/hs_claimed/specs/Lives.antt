@@ -2,23 +2,24 @@
 use Rattle.std.specs.Prelude.{◌≡◌, ℕ, zero, suc, ◌<◌, Bool, true, not, ◌&&◌, List, [], ◌∷◌, length, slice_get, Option, Some, None, if◌then◌else◌, refl}
 use Rattle.hs_base.specs.declared.ids.TraceId.{TraceId}
 use Rattle.hs_base.specs.declared.ids.GroupId.{GroupId}
+use Rattle.hs_base.specs.declared.told.Group.{Group}
 use Rattle.hs_base.specs.Ids.{same_trace}
 use Rattle.hs_base.specs.Samples.{t}
 use Rattle.hs_wire.specs.declared.message.Standing.{Standing}
 use Rattle.hs_wire.specs.declared.message.Wholeness.TheVariants.{WholeSince, UnheardSince}
 use Rattle.hs_claimed.specs.declared.answers.Claim.{Claim}
 use Rattle.hs_claimed.specs.News.{word}
-use Rattle.hs_claimed.specs.Claims.{PlainClaims, no_claims, same_group, traces_of, is_known, after_claim, after_spoke, is_news_in, after_said, advanced, after_forget, g}
+use Rattle.hs_claimed.specs.Claims.{PlainClaims, no_claims, same_group, traces_of, is_known, after_claim, after_spoke, is_news_in, after_said, advanced, after_forget, g, led}
 
 pub data Deed : Type 0 where
-  Claims : (group : GroupId) → (lead : TraceId) → (laterals : List TraceId) → Deed
+  Claims : (group : Group) → (laterals : List TraceId) → Deed
   Speaks : (group : GroupId) → (number : ℕ) → Deed
   Says : (standing : Standing) → (number : ℕ) → Deed
   LooksOn : Deed
   Forgets : Deed
 
 abbrev pub after : PlainClaims → Deed → PlainClaims
-after s (Claims group lead laterals) = after_claim s group (traces_of lead laterals)
+after s (Claims group laterals) = after_claim s group (traces_of group.lead laterals)
 after s (Speaks group number) = after_spoke s group number
 after s (Says standing number) = after_said s standing number
 after s LooksOn = advanced s
@@ -31,7 +32,7 @@ claims_after most (deed ∷ deeds) = after (claims_after most deeds) deed
 
 -- what was said last of a trace and a group behind a deed, where this was before it: nothing behind a new claim
 abbrev pub news_by : PlainClaims → GroupId → TraceId → Deed → Option Standing → Option Standing
-news_by s group trace (Claims other lead laterals) before = if same_group group other && not (is_known s other) then None else before
+news_by s group trace (Claims other laterals) before = if same_group group other.id && not (is_known s other.id) then None else before
 news_by s group trace (Speaks other number) before = before
 news_by s group trace (Says standing number) before = if is_news_in s standing && (same_group standing.group group && same_trace standing.trace trace) then Some standing else before
 news_by s group trace LooksOn before = before
@@ -69,12 +70,12 @@ pub record ComesRound (s : PlainClaims) (place : ℕ) : Type 0 where
 -- ---- worked examples: group 7 claims trace 9
 
 abbrev life : List Deed
-life = Says (word WholeSince 6 1) 5 ∷ Says (word UnheardSince 2 0) 4 ∷ Says (word UnheardSince 0 0) 3 ∷ Claims (g 7) (t 9) [] ∷ []
+life = Says (word WholeSince 6 1) 5 ∷ Says (word UnheardSince 2 0) 4 ∷ Says (word UnheardSince 0 0) 3 ∷ Claims (led 7 9) [] ∷ []
 
 -- the second word was no news
 latest : (latest_news 4 (g 7) (t 9) life ≡ Some (word WholeSince 6 1)) × (latest_news 4 (g 7) (t 8) life ≡ None)
 latest = (refl, refl)
 
 -- nothing was said of it since it was claimed anew
-anew : latest_news 4 (g 7) (t 9) (Claims (g 7) (t 9) [] ∷ Forgets ∷ life) ≡ None
+anew : latest_news 4 (g 7) (t 9) (Claims (led 7 9) [] ∷ Forgets ∷ life) ≡ None
 anew = refl

@@ -1,6 +1,6 @@
 //! What the calls take and answer.
 
-use hs_base::{GroupId, TraceId};
+use hs_base::{Group, GroupId, TraceId};
 use hs_wire::Standing;
 
 /// A trace that a group claims, with the standing that was said of it last, if one was.
@@ -14,7 +14,7 @@ pub struct Claim {
 /// A group that claims traces: how many, and the greatest number of a message that speaks of it, if one does.
 #[derive(Clone, Copy, Debug, PartialEq, Eq)]
 pub struct Claimant {
-    pub group: GroupId,
+    pub group: Group,
     pub traces: u32,
     pub last: Option<u64>,
 }

@@ -12,7 +12,7 @@ ghost use Rattle.hs_claimed.specs.Claims.{PlainClaims, no_claims, is_of, is_the,
 
 use crate::answers::{Claim, Claimant, Claiming};
 use crate::news::is_news;
-use hs_base::{GroupId, Laterals, Memory, TraceId};
+use hs_base::{Group, GroupId, Laterals, Memory, TraceId};
 use hs_wire::Standing;
 use std::alloc::Global;
 use std::collections::VecDeque;
@@ -155,7 +155,7 @@ impl ClaimedTraces {
         ensures { result ≡ option_map_or (is_the group) (slice_get self.now.groups place) false }
     {
         match self.groups.get(place) {
-            Some(one) => group == one.group,
+            Some(one) => group == one.group.id,
             None => false,
         }
     }
@@ -169,7 +169,7 @@ impl ClaimedTraces {
         if self.stands_at(group, place) {
             return Some(place);
         }
-        self.groups.iter().position(|one| group == one.group)
+        self.groups.iter().position(|one| group == one.group.id)
     }
 
     /// Notes that a group is about to claim behind all others.
@@ -198,31 +198,32 @@ impl ClaimedTraces {
     }
 
     /// Claims each trace of a group that is not known, where there is a place for each.
-    fn enter(&mut self, group: GroupId, lead: TraceId, others: &Laterals)
-        requires free { is_full_for self.old (lead ∷ others.now) ≡ false }
-        requires new { is_known self.old group ≡ false }
-        ensures { self.new ≡ with_claims self.old group (lead ∷ others.now) }
+    fn enter(&mut self, group: Group, others: &Laterals)
+        requires free { is_full_for self.old (group.lead ∷ others.now) ≡ false }
+        requires new { is_known self.old group.id ≡ false }
+        ensures { self.new ≡ with_claims self.old group (group.lead ∷ others.now) }
     {
-        self.set_hint(group);
-        self.claims.push_back_reserved(Claim::new(group, lead));
-        push_claims(&mut self.claims, group, others);
+        self.set_hint(group.id);
+        self.claims
+            .push_back_reserved(Claim::new(group.id, group.lead));
+        push_claims(&mut self.claims, group.id, others);
         self.groups
             .push_back_reserved(Claimant::new(group, others.len() + 1));
     }
 
     /// A group claims its lead and its laterals, each once. After `Known`, and after `Full`, nothing has changed.
-    pub fn claim(&mut self, group: GroupId, lead: TraceId, laterals: &Laterals) -> Claiming
-        ensures answer { result ≡ answer_to_claim self.old group (traces_of lead laterals.now) }
-        ensures after { self.new ≡ after_claim self.old group (traces_of lead laterals.now) }
+    pub fn claim(&mut self, group: Group, laterals: &Laterals) -> Claiming
+        ensures answer { result ≡ answer_to_claim self.old group (traces_of group.lead laterals.now) }
+        ensures after { self.new ≡ after_claim self.old group (traces_of group.lead laterals.now) }
     {
-        if self.is_known(group) {
+        if self.is_known(group.id) {
             return Claiming::Known;
         }
-        let others = others_of(lead, laterals);
+        let others = others_of(group.lead, laterals);
         if self.is_full_for(&others) {
             return Claiming::Full;
         }
-        self.enter(group, lead, &others);
+        self.enter(group, &others);
         Claiming::Claimed
     }
 
@@ -331,7 +332,7 @@ impl Claim {
 
 impl Claimant {
     /// A group with so many traces, of which no message speaks.
-    fn new(group: GroupId, traces: u32) -> Claimant
+    fn new(group: Group, traces: u32) -> Claimant
         ensures { result ≡ claimant group traces }
     {
         Claimant {

@@ -11,14 +11,14 @@ use Rattle.hs_claimed.proofs.claims.ClaimedTraces.enter.Goals as goal
 pub invariant_of-self : goal.invariant_of-self
 invariant_of-self c =
     let groups = c.self.inside.groups.items in
-    let unknown : is_some (position (is_the c.new-2.result.group) groups) ≡ false =
-    ap (λ (one : Claimant). is_some (position (is_the one.group) groups)) c.new-2.ensures
-    ∙ ap (λ (s : PlainClaims). is_known s c.args.group) (c.self.view_is ∙ c.set_hint.ensures)
+    let unknown : is_some (position (is_the c.new-2.result.group.id) groups) ≡ false =
+    ap (λ (one : Claimant). is_some (position (is_the one.group.id) groups)) c.new-2.ensures
+    ∙ ap (λ (s : PlainClaims). is_known s c.args.group.id) (c.self.view_is ∙ c.set_hint.ensures)
     ∙ c.requires.new in
     record {
       few = (
-          let room : nat_lt c.self.inside.most (length c.self.inside.claims.items + length (c.args.lead ∷ c.args.others.now)) ≡ false =
-          first_false _ _ (ap (λ (s : PlainClaims). is_full_for s (c.args.lead ∷ c.args.others.now)) (c.self.view_is ∙ c.set_hint.ensures) ∙ c.requires.free) in
+          let room : nat_lt c.self.inside.most (length c.self.inside.claims.items + length (c.args.group.lead ∷ c.args.others.now)) ≡ false =
+          first_false _ _ (ap (λ (s : PlainClaims). is_full_for s (c.args.group.lead ∷ c.args.others.now)) (c.self.view_is ∙ c.set_hint.ensures) ∙ c.requires.free) in
           let low : length c.self.inside.claims.items + (length c.args.others.now + 1) ≤ c.self.inside.most = grind (arith, room) in
           let one = ap length c.push_back_reserved.ensures.items in
           let pushed = length_push c.self.inside.claims.items c.new.result in
