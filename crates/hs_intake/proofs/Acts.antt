@@ -1,6 +1,6 @@
 -- How an intake goes on: by ends that received, by acts of its agent, and one after another.
-use Rattle.std.proofs.Common.{◌≡◌, ℕ, List, [], ◌∷◌, ◌++◌, length, map, Option, Some, None, refl, sym, ap, subst, ◌∙◌, append_assoc, append-nil}
-use Rattle.std.specs.Prelude.{Bool, true, false, Result, Ok, Err, OnOk, OnErr, IsErr}
+use Rattle.std.proofs.Common.{◌≡◌, ℕ, List, [], ◌∷◌, ◌++◌, length, Option, Some, None, refl, sym, ap, subst, ◌∙◌, append_assoc}
+use Rattle.std.specs.Prelude.{Bool, true, false, filter_map, Result, Ok, Err, OnOk, OnErr, IsErr}
 use Rattle.std.proofs.lemmas.Bool.{false_from_ne_true}
 use Rattle.std.specs.Option.{option_to_list}
 use Rattle.hs_lists.proofs.Alls.{all_push}
@@ -16,11 +16,11 @@ use Rattle.hs_agent.specs.Keeping.{PlainAgent}
 use Rattle.hs_agent.specs.Runs.{Run, state_of, Follows, IsSpent, after_chunk, after_turn, forgetting}
 use Rattle.hs_agent.specs.Tries.{after_crumb}
 use Rattle.hs_law_agent.specs.Stepping.{Crumbed, told_by}
-use Rattle.hs_mail.specs.Letters.{Letters, Deed}
-use Rattle.hs_mail.specs.Letters as letters
-use Rattle.hs_mail.specs.Lives as mail
-use Rattle.hs_intake.specs.Intakes.{PlainIntake, Waiting, Chunk, Crumbs, Act, after_act, life, told_at, told_in, IsPooled, MayWait, MayWaitIf, Stands, says, Tells, Goes, SaysIt, chunk_line, crumb_line}
+use Rattle.hs_mail.specs.Letters.{Letters}
+use Rattle.hs_claimed.specs.Claims.{PlainClaims}
+use Rattle.hs_intake.specs.Intakes.{PlainIntake, Waiting, Chunk, Crumbs, Act, after_act, life, told_at, told_in, IsPooled, MayWait, MayWaitIf, Stands, Tells, Goes, SaysIt, claim_by, chunk_line, crumb_line}
 use Rattle.hs_intake.specs.Taking.{Receives, TakesOne, HoldsOne}
+use Rattle.hs_intake.proofs.Claiming.{tells_nothing, tells_more, tells_said, tells_listed, crumb_claims}
 use Rattle.hs_intake.proofs.Lines.{keys_after, receives_one, chunk_came, crumb_came, length_set}
 
 -- ---- acts one after another
@@ -33,32 +33,8 @@ pub told_append : (xs ys : List Act) (run : Run Leased) → told_in run (xs ++ y
 told_append [] ys run = refl
 told_append (x ∷ xs) ys run = ap (λ (l : List Told). told_at run x ++ l) (told_append xs ys (after_act run x)) ∙ sym (append_assoc (told_at run x) (told_in (after_act run x) xs) (told_in (life (after_act run x) xs) ys))
 
-mail_append : (xs ys : List Deed) (m : Letters) → mail.life m (xs ++ ys) ≡ mail.life (mail.life m xs) ys
-mail_append [] ys m = refl
-mail_append (x ∷ xs) ys m = mail_append xs ys (letters.after m x)
-
-pub map_append : {A B : Type 0} (f : A → B) (xs ys : List A) → map f (xs ++ ys) ≡ map f xs ++ map f ys
-map_append f [] ys = refl
-map_append f (x ∷ xs) ys = ap (λ l. f x ∷ l) (map_append f xs ys)
-
-pub tells_nothing : (old new : PlainIntake) → new.mail ≡ old.mail → new.unsaid ≡ old.unsaid → Tells old [] new
-tells_nothing old new mail unsaid =
-    record { said = []; mail = mail; all = append-nil (option_to_list old.unsaid) ∙ ap (λ (o : Option Told). option_to_list o) (sym unsaid) }
-
-pub tells_more : (a b c : PlainIntake) (first second : List Told) → Tells a first b → Tells b second c → Tells a (first ++ second) c
-tells_more a b c first second one two =
-    record {
-      said = one.said ++ two.said;
-      mail =
-          two.mail ∙ ap (λ (m : Letters). mail.life m (map says two.said)) one.mail
-          ∙ sym (ap (λ (ds : List Deed). mail.life a.mail ds) (map_append says one.said two.said) ∙ mail_append (map says one.said) (map says two.said) a.mail);
-      all =
-          sym (append_assoc (option_to_list a.unsaid) first second) ∙ ap (λ (l : List Told). l ++ second) one.all ∙ append_assoc one.said (option_to_list b.unsaid) second
-          ∙ ap (λ (l : List Told). one.said ++ l) two.all ∙ sym (append_assoc one.said two.said (option_to_list c.unsaid));
-    }
-
-pub goes_nothing : (run : Run Leased) (old new : PlainIntake) → Stands run new → new.mail ≡ old.mail → new.unsaid ≡ old.unsaid → Goes run [] old new
-goes_nothing run old new stands mail unsaid = record { stands = stands; tells = tells_nothing old new mail unsaid }
+pub goes_nothing : (run : Run Leased) (old new : PlainIntake) → Stands run new → new.mail ≡ old.mail → new.unsaid ≡ old.unsaid → new.claims ≡ old.claims → Goes run [] old new
+goes_nothing run old new stands mail unsaid claims = record { stands = stands; tells = tells_nothing old new mail unsaid claims }
 
 pub goes_more : (run : Run Leased) (xs ys : List Act) (a b c : PlainIntake) → Goes run xs a b → Goes (life run xs) ys b c → Goes run (xs ++ ys) a c
 goes_more run xs ys a b c first second =
@@ -135,8 +111,8 @@ crumb_taken run d client crumb agent stands follows =
       inbox = stands.inbox;
     }
 
-pub said_since : (run : Run Leased) (d : PlainIntake) (m : Letters) (unsaid : Option Told) → Stands run d → Stands run (record d { mail = m; unsaid = unsaid })
-said_since run d m unsaid stands =
+pub said_since : (run : Run Leased) (d : PlainIntake) (m : Letters) (claims : PlainClaims) (unsaid : Option Told) → Stands run d → Stands run (record d { mail = m; claims = claims; unsaid = unsaid })
+said_since run d m claims unsaid stands =
     record {
       follows = stands.follows;
       offered = stands.offered;
@@ -190,7 +166,7 @@ took_chunk run d client buffer port agent stands fact receives only follows =
       goes =
           record {
             stands = chunk_stands run d client buffer port agent stands fact receives only follows;
-            tells = tells_nothing d (record d { agent = agent; port = port }) refl refl;
+            tells = tells_nothing d (record d { agent = agent; port = port }) refl refl refl;
           };
     }
 
@@ -226,35 +202,31 @@ held_alive d client buffer port known fact receives only = (known.0, (held_chunk
 
 -- ---- one crumb
 
-crumb_stands : (run : Run Leased) (d : PlainIntake) (client : ℕ) (crumb : Crumb) (port : Port) (agent : PlainAgent Leased) (m : Letters) (unsaid : Option Told)
+crumb_stands : (run : Run Leased) (d : PlainIntake) (client : ℕ) (crumb : Crumb) (port : Port) (agent : PlainAgent Leased) (m : Letters) (claims : PlainClaims) (unsaid : Option Told)
     → Stands run d → ReceivesAt client d.port.crumbs (Some crumb) port.crumbs → port ≡ record d.port { crumbs = port.crumbs } → Follows agent (after_crumb run client crumb)
-    → Stands (after_crumb run client crumb) (record d { agent = agent; port = port; mail = m; unsaid = unsaid })
-crumb_stands run d client crumb port agent m unsaid stands receives only follows =
+    → Stands (after_crumb run client crumb) (record d { agent = agent; port = port; mail = m; claims = claims; unsaid = unsaid })
+crumb_stands run d client crumb port agent m claims unsaid stands receives only follows =
     let one = receives_one client crumb d.port.crumbs port.crumbs receives in
     let moved = crumbs_moved run d client (crumb ∷ []) port.crumbs stands one in
     let taken = crumb_taken run (record d { port = record d.port { crumbs = port.crumbs } }) client crumb agent moved follows in
-    subst (λ (p : Port). Stands (after_crumb run client crumb) (record d { agent = agent; port = p; mail = m; unsaid = unsaid })) (sym only) (said_since (after_crumb run client crumb) (record d { agent = agent; port = record d.port { crumbs = port.crumbs } }) m unsaid taken)
+    subst (λ (p : Port). Stands (after_crumb run client crumb) (record d { agent = agent; port = p; mail = m; claims = claims; unsaid = unsaid })) (sym only) (said_since (after_crumb run client crumb) (record d { agent = agent; port = record d.port { crumbs = port.crumbs } }) m claims unsaid taken)
 
-pub took_crumb : (run : Run Leased) (d : PlainIntake) (client : ℕ) (crumb : Crumb) (port : Port) (agent : PlainAgent Leased) (told : Option Told) (m : Letters) (unsaid : Option Told)
+pub took_crumb : (run : Run Leased) (d : PlainIntake) (client : ℕ) (crumb : Crumb) (port : Port) (agent : PlainAgent Leased) (told : Option Told) (m : Letters) (claims : PlainClaims) (unsaid : Option Told)
     → Stands run d → ReceivesAt client d.port.crumbs (Some crumb) port.crumbs → port ≡ record d.port { crumbs = port.crumbs } → Follows agent (after_crumb run client crumb)
-    → d.unsaid ≡ None → told ≡ told_by run.settings run.node (state_of run) (Crumbed client crumb) → SaysIt d.mail told m unsaid
-    → TakesOne run crumb_line client d (record d { agent = agent; port = port; mail = m; unsaid = unsaid })
-took_crumb run d client crumb port agent told m unsaid stands receives only follows none is says_it =
+    → d.unsaid ≡ None → told ≡ told_by run.settings run.node (state_of run) (Crumbed client crumb) → SaysIt d.mail d.claims told m claims unsaid
+    → TakesOne run crumb_line client d (record d { agent = agent; port = port; mail = m; claims = claims; unsaid = unsaid })
+took_crumb run d client crumb port agent told m claims unsaid stands receives only follows none is says_it =
     record {
       item = crumb;
       moves = record { receives = receives_one client crumb d.port.crumbs port.crumbs receives; others = ap (λ (p : Port). record { port = p; late = d.late }) only; clients = refl };
       back = refl;
       goes =
           record {
-            stands = crumb_stands run d client crumb port agent m unsaid stands receives only follows;
+            stands = crumb_stands run d client crumb port agent m claims unsaid stands receives only follows;
             tells =
-                record {
-                  said = says_it.said;
-                  mail = says_it.mail;
-                  all =
-                      ap (λ (o : Option Told). option_to_list o ++ (option_to_list (told_by run.settings run.node (state_of run) (Crumbed client crumb)) ++ [])) none
-                      ∙ append-nil (option_to_list (told_by run.settings run.node (state_of run) (Crumbed client crumb))) ∙ ap (λ (o : Option Told). option_to_list o) (sym is) ∙ says_it.all;
-                };
+                tells_listed d (record d { agent = agent; port = port; mail = m; claims = claims; unsaid = unsaid }) told (told_by run.settings run.node (state_of run) (Crumbed client crumb)) is
+                (tells_said d (record d { agent = agent; port = port; mail = m; claims = claims; unsaid = unsaid }) told none
+                (ap (λ (o : Option Told). filter_map claim_by (option_to_list o)) is ∙ crumb_claims run.settings run.node (state_of run) client crumb) says_it);
           };
     }
 
@@ -273,11 +245,11 @@ held_crumb run d client crumb port stands fact receives only =
       stands = subst (λ (p : Port). Stands run (record d { port = p; back = Some (Crumbs client crumb) })) (sym only) held;
     }
 
-pub crumb_alive : (d : PlainIntake) (client : ℕ) (crumb : Crumb) (port : Port) (agent : PlainAgent Leased) (m : Letters) (unsaid : Option Told) → (run : Run Leased) × Stands run d
+pub crumb_alive : (d : PlainIntake) (client : ℕ) (crumb : Crumb) (port : Port) (agent : PlainAgent Leased) (m : Letters) (claims : PlainClaims) (unsaid : Option Told) → (run : Run Leased) × Stands run d
     → ReceivesAt client d.port.crumbs (Some crumb) port.crumbs → port ≡ record d.port { crumbs = port.crumbs }
-    → ((run : Run Leased) → Follows d.agent run → Follows agent (after_crumb run client crumb)) → (run : Run Leased) × Stands run (record d { agent = agent; port = port; mail = m; unsaid = unsaid })
-crumb_alive d client crumb port agent m unsaid known receives only after =
-    (after_crumb known.0 client crumb, crumb_stands known.0 d client crumb port agent m unsaid known.1 receives only (after known.0 known.1.follows))
+    → ((run : Run Leased) → Follows d.agent run → Follows agent (after_crumb run client crumb)) → (run : Run Leased) × Stands run (record d { agent = agent; port = port; mail = m; claims = claims; unsaid = unsaid })
+crumb_alive d client crumb port agent m claims unsaid known receives only after =
+    (after_crumb known.0 client crumb, crumb_stands known.0 d client crumb port agent m claims unsaid known.1 receives only (after known.0 known.1.follows))
 
 pub held_crumb_alive : (d : PlainIntake) (client : ℕ) (crumb : Crumb) (port : Port) → (run : Run Leased) × Stands run d
     → (r : Incoming Crumb Key) × IsEnd client d.port.crumbs r × IsCrumbOf r.key crumb → ReceivesAt client d.port.crumbs (Some crumb) port.crumbs
@@ -312,14 +284,14 @@ front_chunk_alive d client buffer agent back none there known after =
           }),
     )
 
-pub front_crumb_alive : (d : PlainIntake) (client : ℕ) (crumb : Crumb) (agent : PlainAgent Leased) (back : Option Waiting) (m : Letters) (unsaid : Option Told) → back ≡ None
+pub front_crumb_alive : (d : PlainIntake) (client : ℕ) (crumb : Crumb) (agent : PlainAgent Leased) (back : Option Waiting) (m : Letters) (claims : PlainClaims) (unsaid : Option Told) → back ≡ None
     → (run : Run Leased) × Stands run d → ((run : Run Leased) → Follows d.agent run → Follows agent (after_crumb run client crumb))
-    → (run : Run Leased) × Stands run (record d { agent = agent; back = back; mail = m; unsaid = unsaid })
-front_crumb_alive d client crumb agent back m unsaid none known after =
+    → (run : Run Leased) × Stands run (record d { agent = agent; back = back; mail = m; claims = claims; unsaid = unsaid })
+front_crumb_alive d client crumb agent back m claims unsaid none known after =
     let run = known.0 in
     let stands = known.1 in (
       after_crumb run client crumb,
-      subst (λ (o : Option Waiting). Stands (after_crumb run client crumb) (record d { agent = agent; back = o; mail = m; unsaid = unsaid })) (sym none)
+      subst (λ (o : Option Waiting). Stands (after_crumb run client crumb) (record d { agent = agent; back = o; mail = m; claims = claims; unsaid = unsaid })) (sym none)
           (record {
             follows = after run stands.follows;
             offered = stands.offered;

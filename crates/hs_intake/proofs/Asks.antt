@@ -1,5 +1,6 @@
 -- Asks that an intake takes, one after another.
-use Rattle.std.proofs.Common.{◌≡◌, ℕ, ◌+◌, ◌≤◌, List, [], ◌∷◌, ◌++◌, length, drop, map, Option, Some, None, refl, sym, ap, subst, ◌∙◌, arith, append-nil, append_assoc, length-append, slice_get}
+use Rattle.std.proofs.Common.{◌≡◌, ℕ, ◌+◌, ◌≤◌, List, [], ◌∷◌, ◌++◌, length, drop, map, Option, Some, None, refl, sym, ap, subst, ◌∙◌, arith, append_assoc, length-append, slice_get}
+use Rattle.std.specs.Prelude.{filter_map}
 use Rattle.std.specs.Option.{option_to_list}
 use Rattle.hs_base.specs.declared.limits.TheConstants.{MAX_TAKEN}
 use Rattle.hs_base.specs.declared.told.Ask.{Ask}
@@ -13,13 +14,15 @@ use Rattle.hs_inbox.specs.Delivering.{PlainInbox, Delivers}
 use Rattle.hs_inbox.specs.declared.inbox.Delivered.{Delivered}
 use Rattle.hs_inbox.specs.declared.inbox.Delivered.TheVariants as delivered
 use Rattle.hs_mail.specs.Letters.{Letters}
+use Rattle.hs_claimed.specs.Claims.{PlainClaims}
 use Rattle.hs_intake.specs.declared.took.Next.TheVariants as nexts
 use Rattle.hs_intake.specs.declared.took.Stop.{Stop}
-use Rattle.hs_intake.specs.declared.took.Stop.TheVariants.{Empty, Most, Memory, Words}
+use Rattle.hs_intake.specs.declared.took.Stop.TheVariants.{Empty, Most, Memory, Words, Claims}
 use Rattle.hs_intake.specs.Intakes as acts
-use Rattle.hs_intake.specs.Intakes.{PlainIntake, Act, life, Stands, SaysIt, Goes}
+use Rattle.hs_intake.specs.Intakes.{PlainIntake, Act, life, Stands, SaysIt, Goes, HasRoom, claims_life, claim_by}
 use Rattle.hs_intake.specs.Taking.{TakesFirst, TakesAsk, TakesAsks}
-use Rattle.hs_intake.proofs.Acts.{map_append, goes_more, goes_nothing}
+use Rattle.hs_intake.proofs.Claiming.{map_append, tells_claimed, tells_listed}
+use Rattle.hs_intake.proofs.Acts.{goes_more, goes_nothing}
 
 -- ---- the inbox
 
@@ -55,10 +58,10 @@ inbox_moved run d inbox stands same =
 
 -- ---- one ask
 
-ask_stands : (run : Run Leased) (d : PlainIntake) (ask : Ask) (agent : PlainAgent Leased) (m : Letters) (unsaid : Option Told) (inbox : PlainInbox)
+ask_stands : (run : Run Leased) (d : PlainIntake) (ask : Ask) (agent : PlainAgent Leased) (m : Letters) (claims : PlainClaims) (unsaid : Option Told) (inbox : PlainInbox)
     → Stands run d → inbox ≡ record d.inbox { asks = drop 1 d.inbox.asks } → Follows agent (after_ask run ask)
-    → Stands (after_ask run ask) (record d { agent = agent; mail = m; unsaid = unsaid; inbox = inbox })
-ask_stands run d ask agent m unsaid inbox stands without follows =
+    → Stands (after_ask run ask) (record d { agent = agent; mail = m; claims = claims; unsaid = unsaid; inbox = inbox })
+ask_stands run d ask agent m claims unsaid inbox stands without follows =
     record {
       follows = follows;
       offered = stands.offered;
@@ -72,35 +75,31 @@ ask_stands run d ask agent m unsaid inbox stands without follows =
       inbox = ap (λ (i : PlainInbox). i.rules) without ∙ stands.inbox;
     }
 
-pub took_ask : (run : Run Leased) (d : PlainIntake) (ask : Ask) (agent : PlainAgent Leased) (told : Told) (m : Letters) (unsaid : Option Told) (inbox : PlainInbox)
+pub took_ask : (run : Run Leased) (d : PlainIntake) (ask : Ask) (agent : PlainAgent Leased) (told : Told) (mid : PlainClaims) (m : Letters) (claims : PlainClaims) (unsaid : Option Told) (inbox : PlainInbox)
     → Stands run d → Some ask ≡ slice_get d.inbox.asks 0 → inbox ≡ record d.inbox { asks = drop 1 d.inbox.asks } → Follows agent (after_ask run ask)
-    → d.unsaid ≡ None → Some told ≡ told_by run.settings run.node (state_of run) (Asked ask) → SaysIt d.mail (Some told) m unsaid
-    → TakesFirst run d (record d { agent = agent; mail = m; unsaid = unsaid; inbox = inbox })
-took_ask run d ask agent told m unsaid inbox stands first without follows none is says_it =
+    → d.unsaid ≡ None → HasRoom d.claims → mid ≡ claims_life d.claims (filter_map claim_by (option_to_list (Some told))) → Some told ≡ told_by run.settings run.node (state_of run) (Asked ask)
+    → SaysIt d.mail mid (Some told) m claims unsaid
+    → TakesFirst run d (record d { agent = agent; mail = m; claims = claims; unsaid = unsaid; inbox = inbox })
+took_ask run d ask agent told mid m claims unsaid inbox stands first without follows none room entered is says_it =
     record {
       ask = ask;
       rest = drop 1 d.inbox.asks;
       waited = first_there d.inbox.asks ask first;
-      only = ap (λ (i : PlainInbox). record d { agent = agent; mail = m; unsaid = unsaid; inbox = i }) without;
+      only = ap (λ (i : PlainInbox). record d { agent = agent; mail = m; claims = claims; unsaid = unsaid; inbox = i }) without;
       goes =
           record {
-            stands = ask_stands run d ask agent m unsaid inbox stands without follows;
+            stands = ask_stands run d ask agent m claims unsaid inbox stands without follows;
             tells =
-                record {
-                  said = says_it.said;
-                  mail = says_it.mail;
-                  all =
-                      ap (λ (o : Option Told). option_to_list o ++ (option_to_list (told_by run.settings run.node (state_of run) (Asked ask)) ++ [])) none
-                      ∙ append-nil (option_to_list (told_by run.settings run.node (state_of run) (Asked ask))) ∙ ap (λ (o : Option Told). option_to_list o) (sym is) ∙ says_it.all;
-                };
+                tells_listed d (record d { agent = agent; mail = m; claims = claims; unsaid = unsaid; inbox = inbox }) (Some told) (told_by run.settings run.node (state_of run) (Asked ask)) is
+                (tells_claimed d (record d { agent = agent; mail = m; claims = claims; unsaid = unsaid; inbox = inbox }) (Some told) mid none room entered says_it);
           };
     }
 
-pub ask_alive : (d : PlainIntake) (ask : Ask) (agent : PlainAgent Leased) (m : Letters) (unsaid : Option Told) (inbox : PlainInbox) → (run : Run Leased) × Stands run d
+pub ask_alive : (d : PlainIntake) (ask : Ask) (agent : PlainAgent Leased) (m : Letters) (claims : PlainClaims) (unsaid : Option Told) (inbox : PlainInbox) → (run : Run Leased) × Stands run d
     → inbox ≡ record d.inbox { asks = drop 1 d.inbox.asks } → ((run : Run Leased) → Follows d.agent run → Follows agent (after_ask run ask))
-    → (run : Run Leased) × Stands run (record d { agent = agent; mail = m; unsaid = unsaid; inbox = inbox })
-ask_alive d ask agent m unsaid inbox known without after =
-    (after_ask known.0 ask, ask_stands known.0 d ask agent m unsaid inbox known.1 without (after known.0 known.1.follows))
+    → (run : Run Leased) × Stands run (record d { agent = agent; mail = m; claims = claims; unsaid = unsaid; inbox = inbox })
+ask_alive d ask agent m claims unsaid inbox known without after =
+    (after_ask known.0 ask, ask_stands known.0 d ask agent m claims unsaid inbox known.1 without (after known.0 known.1.follows))
 
 -- ---- one after another
 
@@ -110,18 +109,18 @@ pub record SoAsked (run : Run Leased) (old : PlainIntake) (count : ℕ) (new : P
   pub rest : List Ask
   pub waited : old.inbox.asks ≡ asks ++ rest
   pub count_is : length asks ≡ count
-  pub only : new ≡ record old { agent = new.agent; mail = new.mail; unsaid = new.unsaid; inbox = record old.inbox { asks = rest } }
+  pub only : new ≡ record old { agent = new.agent; mail = new.mail; claims = new.claims; unsaid = new.unsaid; inbox = record old.inbox { asks = rest } }
   pub goes : Goes run (map acts.TakesAsk asks) old new
 
 pub none_asked : (run : Run Leased) (old : PlainIntake) → Stands run old → SoAsked run old 0 old
 none_asked run old stands =
-    record { asks = []; rest = old.inbox.asks; waited = refl; count_is = refl; only = refl; goes = goes_nothing run old old stands refl refl }
+    record { asks = []; rest = old.inbox.asks; waited = refl; count_is = refl; only = refl; goes = goes_nothing run old old stands refl refl refl }
 
-only_more : (a b c : PlainIntake) (first second : List Ask) → b ≡ record a { agent = b.agent; mail = b.mail; unsaid = b.unsaid; inbox = record a.inbox { asks = first } }
-    → c ≡ record b { agent = c.agent; mail = c.mail; unsaid = c.unsaid; inbox = record b.inbox { asks = second } }
-    → c ≡ record a { agent = c.agent; mail = c.mail; unsaid = c.unsaid; inbox = record a.inbox { asks = second } }
+only_more : (a b c : PlainIntake) (first second : List Ask) → b ≡ record a { agent = b.agent; mail = b.mail; claims = b.claims; unsaid = b.unsaid; inbox = record a.inbox { asks = first } }
+    → c ≡ record b { agent = c.agent; mail = c.mail; claims = c.claims; unsaid = c.unsaid; inbox = record b.inbox { asks = second } }
+    → c ≡ record a { agent = c.agent; mail = c.mail; claims = c.claims; unsaid = c.unsaid; inbox = record a.inbox { asks = second } }
 only_more a b c first second one two =
-    two ∙ ap (λ (d : PlainIntake). record d { agent = c.agent; mail = c.mail; unsaid = c.unsaid; inbox = record d.inbox { asks = second } }) one
+    two ∙ ap (λ (d : PlainIntake). record d { agent = c.agent; mail = c.mail; claims = c.claims; unsaid = c.unsaid; inbox = record d.inbox { asks = second } }) one
 
 pub one_ask_more : (run : Run Leased) (old mid new : PlainIntake) (count : ℕ) → SoAsked run old count mid → ((later : Run Leased) → Stands later mid → TakesFirst later mid new)
     → SoAsked run old (count + 1) new
@@ -172,6 +171,19 @@ asks_stopped run old mid new count Memory few so next =
 asks_stopped run old mid new count Words few so next =
     let (same, mute) = next (life run (map acts.TakesAsk so.asks)) so.goes.stands in
     subst (λ (d : PlainIntake). TakesAsks run old (record { count = count; stop = Words }) d) (sym same)
+    (record {
+      asks = so.asks;
+      rest = so.rest;
+      waited = so.waited;
+      count = so.count_is;
+      few = (let is = so.count_is in omega (arith, is, few));
+      only = so.only;
+      goes = so.goes;
+      stops = mute;
+    })
+asks_stopped run old mid new count Claims few so next =
+    let (same, mute) = next (life run (map acts.TakesAsk so.asks)) so.goes.stands in
+    subst (λ (d : PlainIntake). TakesAsks run old (record { count = count; stop = Claims }) d) (sym same)
     (record {
       asks = so.asks;
       rest = so.rest;

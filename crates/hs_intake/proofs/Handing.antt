@@ -18,10 +18,9 @@ use Rattle.hs_law_agent.specs.Stepping.{Answered}
 use Rattle.hs_law_agent.specs.Stepping as model
 use Rattle.hs_agent.specs.Keeping.{PlainAgent}
 use Rattle.hs_agent.specs.Runs.{Run, state_of, first_place, offered_next, after_offer, with_back, answer_of, back_in, Follows}
-use Rattle.hs_mail.specs.Letters.{Letters}
 use Rattle.hs_intake.specs.declared.took.Parted.{Parted}
 use Rattle.hs_intake.specs.Intakes.{PlainIntake, Waiting, Chunk, Crumbs, Triggers, AreFor, IsPooled, MayWaitIf, LetsGo, after_act, Stands}
-use Rattle.hs_intake.specs.Handing.{Returns, GivesFirst, SaysIf, HandsOut, handed_by}
+use Rattle.hs_intake.specs.Handing.{Returns, GivesFirst, Word, word_of, SaysIf, HandsOut, handed_by}
 
 -- ---- another giver of the same pool and size
 
@@ -122,18 +121,19 @@ gave_on run d buffer answer back agent port stands first returns only follows =
 
 -- ---- what was said, and then the offer
 
--- the mail changed, and then the first of the hand was offered
-pub said_and_gave : (run : Run Leased) (old new : PlainIntake) (m : Letters) (parted : Option Parted) (was_given : Option Bool) → SaysIf run old.mail parted m
-    → GivesFirst run (record old { mail = m }) was_given new → HandsOut run old (handed_by parted was_given) new
-said_and_gave run old new m parted None says (only, spent) =
-    (only_mail old new m only, (spent, (parted, subst (λ (x : Letters). SaysIf run old.mail parted x) (sym (ap (λ (d : PlainIntake). d.mail) only)) says)))
-  where
-    only_mail : (old new : PlainIntake) (m : Letters) → new ≡ record (record old { mail = m }) { agent = new.agent } → new ≡ record old { agent = new.agent; mail = new.mail }
-    only_mail old new m only = only ∙ ap (λ (x : Letters). record old { agent = new.agent; mail = x }) (sym (ap (λ (d : PlainIntake). d.mail) only))
-said_and_gave run old new m parted (Some was_given) says (only, offers) = (
-  only ∙ ap (λ (x : Letters). record old { agent = new.agent; port = record old.port { giver = new.port.giver }; mail = x }) (sym (ap (λ (d : PlainIntake). d.mail) only)),
-  (
-    subst (λ (x : Letters). SaysIf run old.mail parted x) (sym (ap (λ (d : PlainIntake). d.mail) only)) says,
-    record { buffer = offers.buffer; first = offers.first; answer = offers.answer; back = offers.back; given = offers.given; returns = offers.returns; stands = offers.stands },
-  ),
-)
+-- what was said changed the mail and the claims, and then the first of the hand was offered
+pub said_and_gave : (run : Run Leased) (old new : PlainIntake) (w : Word) (parted : Option Parted) (was_given : Option Bool) → SaysIf run (word_of old) parted w
+    → GivesFirst run (record old { mail = w.mail; claims = w.claims }) was_given new → HandsOut run old (handed_by parted was_given) new
+said_and_gave run old new w parted None says (only, spent) =
+    let word : w ≡ word_of new = ap word_of (sym only) in (
+      only ∙ ap (λ (x : Word). record old { agent = new.agent; mail = x.mail; claims = x.claims }) word,
+      (spent, (parted, subst (λ (x : Word). SaysIf run (word_of old) parted x) word says)),
+    )
+said_and_gave run old new w parted (Some was_given) says (only, offers) =
+    let word : w ≡ word_of new = ap word_of (sym only) in (
+      only ∙ ap (λ (x : Word). record old { agent = new.agent; port = record old.port { giver = new.port.giver }; mail = x.mail; claims = x.claims }) word,
+      (
+        subst (λ (x : Word). SaysIf run (word_of old) parted x) word says,
+        record { buffer = offers.buffer; first = offers.first; answer = offers.answer; back = offers.back; given = offers.given; returns = offers.returns; stands = offers.stands },
+      ),
+    )

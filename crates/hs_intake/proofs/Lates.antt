@@ -1,5 +1,6 @@
 -- Crumbs of traces that need not be open, which an intake takes as other crumbs.
-use Rattle.std.proofs.Common.{◌≡◌, ℕ, List, [], ◌∷◌, ◌++◌, Option, Some, None, refl, sym, ap, ◌∙◌, append-nil}
+use Rattle.std.proofs.Common.{◌≡◌, ℕ, List, [], ◌∷◌, Option, Some, None, refl, ap, ◌∙◌}
+use Rattle.std.specs.Prelude.{filter_map}
 use Rattle.std.specs.Option.{option_to_list}
 use Rattle.hs_base.specs.declared.told.Crumb.{Crumb}
 use Rattle.hs_base.specs.declared.told.Told.{Told}
@@ -12,9 +13,11 @@ use Rattle.hs_agent.specs.Runs.{Run, state_of, Follows}
 use Rattle.hs_agent.specs.Tries.{after_crumb}
 use Rattle.hs_law_agent.specs.Stepping.{Crumbed, told_by}
 use Rattle.hs_mail.specs.Letters.{Letters}
-use Rattle.hs_intake.specs.Intakes.{PlainIntake, Crumbs, Stands, SaysIt, late_line}
+use Rattle.hs_claimed.specs.Claims.{PlainClaims}
+use Rattle.hs_intake.specs.Intakes.{PlainIntake, Crumbs, Stands, SaysIt, claim_by, late_line}
 use Rattle.hs_intake.specs.Taking.{Receives, TakesOne, HoldsOne}
 use Rattle.hs_intake.proofs.Lines.{keys_after, receives_one, crumb_came}
+use Rattle.hs_intake.proofs.Claiming.{tells_said, tells_listed, crumb_claims}
 use Rattle.hs_intake.proofs.Acts.{crumb_taken, said_since, waits_now}
 
 lates_moved : (run : Run Leased) (d : PlainIntake) (client : ℕ) (items : List Crumb) (ends : List (Incoming Crumb Key))
@@ -33,33 +36,29 @@ lates_moved run d client items ends stands receives =
       inbox = stands.inbox;
     }
 
-late_stands : (run : Run Leased) (d : PlainIntake) (client : ℕ) (crumb : Crumb) (ends : List (Incoming Crumb Key)) (agent : PlainAgent Leased) (m : Letters) (unsaid : Option Told)
+late_stands : (run : Run Leased) (d : PlainIntake) (client : ℕ) (crumb : Crumb) (ends : List (Incoming Crumb Key)) (agent : PlainAgent Leased) (m : Letters) (claims : PlainClaims) (unsaid : Option Told)
     → Stands run d → ReceivesAt client d.late (Some crumb) ends → Follows agent (after_crumb run client crumb)
-    → Stands (after_crumb run client crumb) (record d { agent = agent; late = ends; mail = m; unsaid = unsaid })
-late_stands run d client crumb ends agent m unsaid stands receives follows =
+    → Stands (after_crumb run client crumb) (record d { agent = agent; late = ends; mail = m; claims = claims; unsaid = unsaid })
+late_stands run d client crumb ends agent m claims unsaid stands receives follows =
     let moved = lates_moved run d client (crumb ∷ []) ends stands (receives_one client crumb d.late ends receives) in
-    said_since (after_crumb run client crumb) (record d { agent = agent; late = ends }) m unsaid (crumb_taken run (record d { late = ends }) client crumb agent moved follows)
+    said_since (after_crumb run client crumb) (record d { agent = agent; late = ends }) m claims unsaid (crumb_taken run (record d { late = ends }) client crumb agent moved follows)
 
-pub took_late : (run : Run Leased) (d : PlainIntake) (client : ℕ) (crumb : Crumb) (ends : List (Incoming Crumb Key)) (agent : PlainAgent Leased) (told : Option Told) (m : Letters) (unsaid : Option Told)
+pub took_late : (run : Run Leased) (d : PlainIntake) (client : ℕ) (crumb : Crumb) (ends : List (Incoming Crumb Key)) (agent : PlainAgent Leased) (told : Option Told) (m : Letters) (claims : PlainClaims) (unsaid : Option Told)
     → Stands run d → ReceivesAt client d.late (Some crumb) ends → Follows agent (after_crumb run client crumb)
-    → d.unsaid ≡ None → told ≡ told_by run.settings run.node (state_of run) (Crumbed client crumb) → SaysIt d.mail told m unsaid
-    → TakesOne run late_line client d (record d { agent = agent; late = ends; mail = m; unsaid = unsaid })
-took_late run d client crumb ends agent told m unsaid stands receives follows none is says_it =
+    → d.unsaid ≡ None → told ≡ told_by run.settings run.node (state_of run) (Crumbed client crumb) → SaysIt d.mail d.claims told m claims unsaid
+    → TakesOne run late_line client d (record d { agent = agent; late = ends; mail = m; claims = claims; unsaid = unsaid })
+took_late run d client crumb ends agent told m claims unsaid stands receives follows none is says_it =
     record {
       item = crumb;
       moves = record { receives = receives_one client crumb d.late ends receives; others = refl; clients = refl };
       back = refl;
       goes =
           record {
-            stands = late_stands run d client crumb ends agent m unsaid stands receives follows;
+            stands = late_stands run d client crumb ends agent m claims unsaid stands receives follows;
             tells =
-                record {
-                  said = says_it.said;
-                  mail = says_it.mail;
-                  all =
-                      ap (λ (o : Option Told). option_to_list o ++ (option_to_list (told_by run.settings run.node (state_of run) (Crumbed client crumb)) ++ [])) none
-                      ∙ append-nil (option_to_list (told_by run.settings run.node (state_of run) (Crumbed client crumb))) ∙ ap (λ (o : Option Told). option_to_list o) (sym is) ∙ says_it.all;
-                };
+                tells_listed d (record d { agent = agent; late = ends; mail = m; claims = claims; unsaid = unsaid }) told (told_by run.settings run.node (state_of run) (Crumbed client crumb)) is
+                (tells_said d (record d { agent = agent; late = ends; mail = m; claims = claims; unsaid = unsaid }) told none
+                (ap (λ (o : Option Told). filter_map claim_by (option_to_list o)) is ∙ crumb_claims run.settings run.node (state_of run) client crumb) says_it);
           };
     }
 
@@ -77,8 +76,8 @@ held_late run d client crumb ends stands fact receives =
       stands = waits_now run (record d { late = ends }) (Crumbs client crumb) moved came;
     }
 
-pub late_alive : (d : PlainIntake) (client : ℕ) (crumb : Crumb) (ends : List (Incoming Crumb Key)) (agent : PlainAgent Leased) (m : Letters) (unsaid : Option Told) → (run : Run Leased) × Stands run d
+pub late_alive : (d : PlainIntake) (client : ℕ) (crumb : Crumb) (ends : List (Incoming Crumb Key)) (agent : PlainAgent Leased) (m : Letters) (claims : PlainClaims) (unsaid : Option Told) → (run : Run Leased) × Stands run d
     → ReceivesAt client d.late (Some crumb) ends → ((run : Run Leased) → Follows d.agent run → Follows agent (after_crumb run client crumb))
-    → (run : Run Leased) × Stands run (record d { agent = agent; late = ends; mail = m; unsaid = unsaid })
-late_alive d client crumb ends agent m unsaid known receives after =
-    (after_crumb known.0 client crumb, late_stands known.0 d client crumb ends agent m unsaid known.1 receives (after known.0 known.1.follows))
+    → (run : Run Leased) × Stands run (record d { agent = agent; late = ends; mail = m; claims = claims; unsaid = unsaid })
+late_alive d client crumb ends agent m claims unsaid known receives after =
+    (after_crumb known.0 client crumb, late_stands known.0 d client crumb ends agent m claims unsaid known.1 receives (after known.0 known.1.follows))

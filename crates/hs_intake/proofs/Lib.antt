@@ -1,4 +1,5 @@
 pub mod Lines
+pub mod Claiming
 pub mod Acts
 pub mod Many
 pub mod Triggers
@@ -6,3 +7,4 @@ pub mod Made
 pub mod Asks
 pub mod Handing
 pub mod Lates
+pub mod Fronts

@@ -8,6 +8,7 @@ use Rattle.hs_agent.specs.Keeping.{PlainAgent}
 use Rattle.hs_agent.specs.Runs.{bare_run, Follows}
 use Rattle.hs_inbox.specs.Delivering.{PlainInbox}
 use Rattle.hs_mail.specs.Letters.{Letters}
+use Rattle.hs_claimed.specs.Claims.{PlainClaims}
 use Rattle.hs_node_client.specs.declared.limits.ClientLimits.{ClientLimits}
 use Rattle.hs_node_client.specs.declared.making.Made.{Made}
 use Rattle.hs_node_client.specs.Making.{AreMade, BeginsAt, PlainRules, rules_by, key_of, id_of, receiving_of}
@@ -36,9 +37,9 @@ begins settings limits made are number low =
     let client = end_there made.clients.items number (let count = are.joined.clients_are in omega (arith, low, count)) in
     (client.0, are.joined.each number client.0 client.1)
 
-pub made_stands : (settings : PlainSettings) (limits : ClientLimits) (made : Made) (agent : PlainAgent Leased) (mail : Letters) (inbox : PlainInbox) → inbox.rules ≡ settings.triggers → limits.size ≡ settings.size
-    → AreMade limits (rules_in_settings settings) made → Follows agent (bare_run settings limits.node) → Stands (bare_run settings limits.node) (new_intake agent made.port made.late.items mail inbox limits.clients)
-made_stands settings limits made agent mail inbox rules same are follows =
+pub made_stands : (settings : PlainSettings) (limits : ClientLimits) (made : Made) (agent : PlainAgent Leased) (mail : Letters) (inbox : PlainInbox) (claims : PlainClaims) → inbox.rules ≡ settings.triggers → limits.size ≡ settings.size
+    → AreMade limits (rules_in_settings settings) made → Follows agent (bare_run settings limits.node) → Stands (bare_run settings limits.node) (new_intake agent made.port made.late.items mail inbox claims limits.clients)
+made_stands settings limits made agent mail inbox claims rules same are follows =
     let size : made.port.giver.size ≡ settings.size = ap (λ (g : Giving). g.size) are.giver ∙ same in
     record {
       follows = follows;

@@ -7,13 +7,16 @@ use Rattle.hs_ring.specs.Parts.{Leased}
 use Rattle.hs_link.specs.Contents.{Incoming}
 use Rattle.hs_live.specs.Keys.{Key}
 use Rattle.hs_agent.specs.Runs.{Run}
+use Rattle.hs_claimed.specs.Claims.{PlainClaims}
+use Rattle.hs_wire.specs.Messages.{SaysTold}
 use Rattle.hs_intake.specs.declared.took.Next.TheVariants as nexts
 use Rattle.hs_intake.specs.declared.took.Stop.{Stop}
-use Rattle.hs_intake.specs.declared.took.Stop.TheVariants.{Empty, Most, Memory, Words}
-use Rattle.hs_intake.specs.Intakes.{PlainIntake, Line, Lines, lines_of, Act, life, told_in, Stands, Tells, Goes}
-use Rattle.hs_intake.specs.Taking.{IsDry, Moves, IsMute, TakesOne, TakesNext, TakesMany}
+use Rattle.hs_intake.specs.declared.took.Stop.TheVariants.{Empty, Most, Memory, Words, Claims}
+use Rattle.hs_intake.specs.Intakes.{PlainIntake, Line, Lines, lines_of, Act, life, told_in, Stands, ClaimsBy, Tells, Goes}
+use Rattle.hs_intake.specs.Taking.{IsDry, Moves, IsMute, IsShort, TakesOne, TakesNext, TakesMany}
 use Rattle.hs_intake.proofs.Lines.{receives_none, receives_more}
-use Rattle.hs_intake.proofs.Acts.{map_append, goes_more, goes_nothing}
+use Rattle.hs_intake.proofs.Claiming.{map_append}
+use Rattle.hs_intake.proofs.Acts.{goes_more, goes_nothing}
 
 pub end_there : {A : Type 0} (xs : List A) (i : ℕ) → i < length xs → (x : A) × (slice_get xs i ≡ Some x)
 end_there [] i low = absurd (omega arith)
@@ -47,7 +50,7 @@ module _ {T : Type 0} (run : Run Leased) (line : Line T) (client : ℕ) where
         count_is = refl;
         moves = record { receives = receives_none client (line.ends (lines_of old)) end.0 end.1; others = same; clients = refl };
         back = refl;
-        goes = goes_nothing run old old stands refl refl;
+        goes = goes_nothing run old old stands refl refl refl;
       }
 
   unfoldable pub one_more : ((p : Lines) (xs ys : List (Incoming T Key)) → line.with_ends (line.with_ends p xs) ys ≡ line.with_ends p ys)
@@ -66,9 +69,9 @@ module _ {T : Type 0} (run : Run Leased) (line : Line T) (client : ℕ) where
             (goes_more run acts (line.takes client one.item ∷ []) old mid new so.goes one.goes);
       }
 
-  pub tells_same : (told : List Told) (a b c : PlainIntake) → c.mail ≡ b.mail → c.unsaid ≡ b.unsaid → Tells a told b → Tells a told c
-  tells_same told a b c mail unsaid tells =
-      record { said = tells.said; mail = mail ∙ tells.mail; all = tells.all ∙ ap (λ (o : Option Told). tells.said ++ option_to_list o) (sym unsaid) }
+  pub tells_same : (told : List Told) (a b c : PlainIntake) → c.mail ≡ b.mail → c.unsaid ≡ b.unsaid → c.claims ≡ b.claims → Tells a told b → Tells a told c
+  tells_same told a b c mail unsaid claims tells =
+      record { said = tells.said; mail = mail ∙ tells.mail; all = tells.all ∙ ap (λ (o : Option Told). tells.said ++ option_to_list o) (sym unsaid); claims = subst (λ (s : PlainClaims). ClaimsBy a.claims told a.mail.fresh (map SaysTold tells.said) s) (sym claims) tells.claims }
 
   unfoldable pub stopped : ((p : Lines) (xs ys : List (Incoming T Key)) → line.with_ends (line.with_ends p xs) ys ≡ line.with_ends p ys)
       → (old mid new : PlainIntake) (count : ℕ) (stop : Stop) → count ≤ MAX_TAKEN → SoFar run line client old count mid
@@ -98,7 +101,7 @@ module _ {T : Type 0} (run : Run Leased) (line : Line T) (client : ℕ) where
         goes =
             record {
               stands = held.stands;
-              tells = tells_same (told_in run acts) old mid new (ap (λ (d : PlainIntake). d.mail) held.only) (ap (λ (d : PlainIntake). d.unsaid) held.only) so.goes.tells;
+              tells = tells_same (told_in run acts) old mid new (ap (λ (d : PlainIntake). d.mail) held.only) (ap (λ (d : PlainIntake). d.unsaid) held.only) (ap (λ (d : PlainIntake). d.claims) held.only) so.goes.tells;
             };
         stops = (held.item, moves_more over so.items (held.item ∷ []) old mid new so.moves held.moves, ap (λ (d : PlainIntake). d.back) held.only);
       }
@@ -113,6 +116,19 @@ module _ {T : Type 0} (run : Run Leased) (line : Line T) (client : ℕ) where
           subst (λ (d : PlainIntake). Moves line client so.items old d) (sym same) so.moves,
           ap (λ (d : PlainIntake). d.back) same ∙ so.back,
           subst (λ (d : PlainIntake). IsMute d) (sym same) mute,
+        );
+      }
+  stopped over old mid new count Claims few so next =
+      let (same, short) = next (life run (map (line.takes client) so.items)) so.goes.stands in
+      record {
+        items = so.items;
+        count = so.count_is;
+        few = (let is = so.count_is in omega (arith, is, few));
+        goes = subst (λ (d : PlainIntake). Goes run (map (line.takes client) so.items) old d) (sym same) so.goes;
+        stops = (
+          subst (λ (d : PlainIntake). Moves line client so.items old d) (sym same) so.moves,
+          ap (λ (d : PlainIntake). d.back) same ∙ so.back,
+          subst (λ (d : PlainIntake). IsShort d) (sym same) short,
         );
       }
 

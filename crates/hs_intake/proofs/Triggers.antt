@@ -1,5 +1,6 @@
 -- Triggers that an intake takes, with a number for one more or without.
-use Rattle.std.proofs.Common.{◌≡◌, ℕ, ◌+◌, ◌<◌, ◌≤◌, Bool, true, false, if◌then◌else◌, List, [], ◌∷◌, ◌++◌, length, map, Option, Some, None, refl, sym, ap, subst, ◌∙◌, arith, append-nil}
+use Rattle.std.proofs.Common.{◌≡◌, ℕ, ◌+◌, ◌<◌, ◌≤◌, Bool, true, false, if◌then◌else◌, List, [], ◌∷◌, ◌++◌, length, map, Option, Some, None, refl, sym, ap, subst, ◌∙◌, arith}
+use Rattle.std.specs.Prelude.{filter_map}
 use Rattle.std.specs.Option.{option_to_list}
 use Rattle.hs_base.specs.declared.limits.TheConstants.{MAX_TAKEN}
 use Rattle.hs_base.specs.declared.told.Told.{Told}
@@ -12,12 +13,14 @@ use Rattle.hs_agent.specs.Keeping.{PlainAgent}
 use Rattle.hs_agent.specs.Runs.{Run, Follows}
 use Rattle.hs_agent.specs.Tries.{after_trigger}
 use Rattle.hs_mail.specs.Letters.{Letters}
-use Rattle.hs_intake.specs.Intakes.{PlainIntake, Triggers, TakesTrigger, after_act, life, has_left, told_on, limit_of, limited_in, Stands, Tells, SaysIt, told_in, trigger_line}
+use Rattle.hs_claimed.specs.Claims.{PlainClaims}
+use Rattle.hs_intake.specs.Intakes.{PlainIntake, Triggers, TakesTrigger, after_act, life, has_left, told_on, limit_of, limited_in, Stands, Tells, SaysIt, told_in, trigger_line, HasRoom, claims_life, claim_by}
 use Rattle.hs_intake.specs.declared.took.Next.TheVariants as nexts
 use Rattle.hs_intake.specs.declared.took.Stop.{Stop}
-use Rattle.hs_intake.specs.declared.took.Stop.TheVariants.{Empty, Most, Memory, Words}
+use Rattle.hs_intake.specs.declared.took.Stop.TheVariants.{Empty, Most, Memory, Words, Claims}
 use Rattle.hs_intake.specs.Taking.{Receives, TakesOne, TakesNext, TakesMost, HoldsOne}
 use Rattle.hs_intake.proofs.Lines.{keys_after, receives_one, trigger_came, length_set}
+use Rattle.hs_intake.proofs.Claiming.{tells_claimed, tells_listed}
 use Rattle.hs_intake.proofs.Acts.{said_since, waits_now}
 use Rattle.hs_intake.proofs.Many.{SoFar, none_yet, one_more, stopped, all_taken}
 
@@ -75,41 +78,36 @@ triggers_moved run d client items ends stands receives =
 
 -- ---- one trigger
 
-trigger_stands : (run : Run Leased) (d : PlainIntake) (client : ℕ) (trigger : Trigger) (port : Port) (agent : PlainAgent Leased) (m : Letters) (unsaid : Option Told)
+trigger_stands : (run : Run Leased) (d : PlainIntake) (client : ℕ) (trigger : Trigger) (port : Port) (agent : PlainAgent Leased) (m : Letters) (claims : PlainClaims) (unsaid : Option Told)
     → Stands run d → ReceivesAt client d.port.triggers (Some trigger) port.triggers → port ≡ record d.port { triggers = port.triggers } → Follows agent (after_act run (TakesTrigger client trigger))
-    → Stands (after_act run (TakesTrigger client trigger)) (record d { agent = agent; port = port; mail = m; unsaid = unsaid })
-trigger_stands run d client trigger port agent m unsaid stands receives only follows =
+    → Stands (after_act run (TakesTrigger client trigger)) (record d { agent = agent; port = port; mail = m; claims = claims; unsaid = unsaid })
+trigger_stands run d client trigger port agent m claims unsaid stands receives only follows =
     let one = receives_one client trigger d.port.triggers port.triggers receives in
     let moved = triggers_moved run d client (trigger ∷ []) port.triggers stands one in
     let taken = trigger_taken run (record d { port = record d.port { triggers = port.triggers } }) client trigger agent moved follows in
-    subst (λ (p : Port). Stands (after_act run (TakesTrigger client trigger)) (record d { agent = agent; port = p; mail = m; unsaid = unsaid })) (sym only)
-    (said_since (after_act run (TakesTrigger client trigger)) (record d { agent = agent; port = record d.port { triggers = port.triggers } }) m unsaid taken)
+    subst (λ (p : Port). Stands (after_act run (TakesTrigger client trigger)) (record d { agent = agent; port = p; mail = m; claims = claims; unsaid = unsaid })) (sym only)
+    (said_since (after_act run (TakesTrigger client trigger)) (record d { agent = agent; port = record d.port { triggers = port.triggers } }) m claims unsaid taken)
 
 -- it tells what the agent answers
-trigger_tells : (run : Run Leased) (d new : PlainIntake) (client : ℕ) (trigger : Trigger) (told : Option Told)
-    → d.unsaid ≡ None → told ≡ told_on run client trigger → SaysIt d.mail told new.mail new.unsaid → Tells d (told_in run (TakesTrigger client trigger ∷ [])) new
-trigger_tells run d new client trigger told none is says_it =
-    record {
-      said = says_it.said;
-      mail = says_it.mail;
-      all =
-          ap (λ (o : Option Told). option_to_list o ++ (option_to_list (told_on run client trigger) ++ [])) none
-          ∙ append-nil (option_to_list (told_on run client trigger)) ∙ ap (λ (o : Option Told). option_to_list o) (sym is) ∙ says_it.all;
-    }
+trigger_tells : (run : Run Leased) (d new : PlainIntake) (client : ℕ) (trigger : Trigger) (told : Option Told) (mid : PlainClaims)
+    → d.unsaid ≡ None → HasRoom d.claims → mid ≡ claims_life d.claims (filter_map claim_by (option_to_list told)) → told ≡ told_on run client trigger
+    → SaysIt d.mail mid told new.mail new.claims new.unsaid → Tells d (told_in run (TakesTrigger client trigger ∷ [])) new
+trigger_tells run d new client trigger told mid none room entered is says_it =
+    tells_listed d new told (told_on run client trigger) is (tells_claimed d new told mid none room entered says_it)
 
-pub took_trigger : (run : Run Leased) (d : PlainIntake) (client : ℕ) (trigger : Trigger) (port : Port) (agent : PlainAgent Leased) (told : Option Told) (m : Letters) (unsaid : Option Told)
+pub took_trigger : (run : Run Leased) (d : PlainIntake) (client : ℕ) (trigger : Trigger) (port : Port) (agent : PlainAgent Leased) (told : Option Told) (mid : PlainClaims) (m : Letters) (claims : PlainClaims) (unsaid : Option Told)
     → Stands run d → ReceivesAt client d.port.triggers (Some trigger) port.triggers → port ≡ record d.port { triggers = port.triggers } → Follows agent (after_act run (TakesTrigger client trigger))
-    → d.unsaid ≡ None → told ≡ told_on run client trigger → SaysIt d.mail told m unsaid
-    → TakesOne run trigger_line client d (record d { agent = agent; port = port; mail = m; unsaid = unsaid })
-took_trigger run d client trigger port agent told m unsaid stands receives only follows none is says_it =
+    → d.unsaid ≡ None → HasRoom d.claims → mid ≡ claims_life d.claims (filter_map claim_by (option_to_list told)) → told ≡ told_on run client trigger → SaysIt d.mail mid told m claims unsaid
+    → TakesOne run trigger_line client d (record d { agent = agent; port = port; mail = m; claims = claims; unsaid = unsaid })
+took_trigger run d client trigger port agent told mid m claims unsaid stands receives only follows none room entered is says_it =
     record {
       item = trigger;
       moves = record { receives = receives_one client trigger d.port.triggers port.triggers receives; others = ap (λ (p : Port). record { port = p; late = d.late }) only; clients = refl };
       back = refl;
       goes =
           record {
-            stands = trigger_stands run d client trigger port agent m unsaid stands receives only follows;
-            tells = trigger_tells run d (record d { agent = agent; port = port; mail = m; unsaid = unsaid }) client trigger told none is says_it;
+            stands = trigger_stands run d client trigger port agent m claims unsaid stands receives only follows;
+            tells = trigger_tells run d (record d { agent = agent; port = port; mail = m; claims = claims; unsaid = unsaid }) client trigger told mid none room entered is says_it;
           };
     }
 
@@ -128,12 +126,12 @@ held_trigger run d client trigger port stands fact receives only =
       stands = subst (λ (p : Port). Stands run (record d { port = p; back = Some (Triggers client trigger) })) (sym only) held;
     }
 
-pub trigger_alive : (d : PlainIntake) (client : ℕ) (trigger : Trigger) (port : Port) (agent : PlainAgent Leased) (m : Letters) (unsaid : Option Told) → (run : Run Leased) × Stands run d
+pub trigger_alive : (d : PlainIntake) (client : ℕ) (trigger : Trigger) (port : Port) (agent : PlainAgent Leased) (m : Letters) (claims : PlainClaims) (unsaid : Option Told) → (run : Run Leased) × Stands run d
     → ReceivesAt client d.port.triggers (Some trigger) port.triggers → port ≡ record d.port { triggers = port.triggers }
     → ((run : Run Leased) → Follows d.agent run → Follows agent (after_act run (TakesTrigger client trigger)))
-    → (run : Run Leased) × Stands run (record d { agent = agent; port = port; mail = m; unsaid = unsaid })
-trigger_alive d client trigger port agent m unsaid known receives only after =
-    (after_act known.0 (TakesTrigger client trigger), trigger_stands known.0 d client trigger port agent m unsaid known.1 receives only (after known.0 known.1.follows))
+    → (run : Run Leased) × Stands run (record d { agent = agent; port = port; mail = m; claims = claims; unsaid = unsaid })
+trigger_alive d client trigger port agent m claims unsaid known receives only after =
+    (after_act known.0 (TakesTrigger client trigger), trigger_stands known.0 d client trigger port agent m claims unsaid known.1 receives only (after known.0 known.1.follows))
 
 pub held_trigger_alive : (d : PlainIntake) (client : ℕ) (trigger : Trigger) (port : Port) → (run : Run Leased) × Stands run d
     → (r : Incoming Trigger Key) × IsEnd client d.port.triggers r × IsTriggerOf r.key trigger → ReceivesAt client d.port.triggers (Some trigger) port.triggers
@@ -171,6 +169,7 @@ triggers_stopped run client old mid new count limited Empty few (so, is) next = 
 triggers_stopped run client old mid new count limited Most few (so, is) next = absurd (next (life run (map (TakesTrigger client) so.items)) so.goes.stands)
 triggers_stopped run client old mid new count limited Memory few (so, is) next = (stopped run trigger_line client (λ p xs ys. refl) old mid new count Memory few so next, is)
 triggers_stopped run client old mid new count limited Words few (so, is) next = (stopped run trigger_line client (λ p xs ys. refl) old mid new count Words few so next, is)
+triggers_stopped run client old mid new count limited Claims few (so, is) next = (stopped run trigger_line client (λ p xs ys. refl) old mid new count Claims few so next, is)
 
 pub no_trigger_yet : (run : Run Leased) (client : ℕ) (old : PlainIntake) → Stands run old → client < length old.port.triggers → SoMany run client old 0 0 old
 unfolding none_yet

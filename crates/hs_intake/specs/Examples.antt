@@ -1,6 +1,11 @@
 -- Worked examples of what an intake receives, says and takes.
-use Rattle.std.specs.Prelude.{◌≡◌, ℕ, true, false, [], ◌∷◌, ◌++◌, Some, None, refl}
+use Rattle.std.specs.Prelude.{◌≡◌, ℕ, true, false, [], ◌∷◌, ◌++◌, filter_map, Some, None, refl}
 use Rattle.hs_base.specs.declared.told.Told.{Told}
+use Rattle.hs_base.specs.declared.told.Why.TheVariants.{Fired, Late}
+use Rattle.hs_claimed.specs.Claims.{PlainClaims, after_spoke}
+use Rattle.hs_claimed.specs.Lives.{Claims, Speaks, Says}
+use Rattle.hs_wire.specs.Messages.{PlainReported, SaysTold, SaysReported, SaysStanding}
+use Rattle.hs_wire.specs.declared.message.Standing.{Standing}
 use Rattle.hs_base.specs.declared.told.Trigger.{Trigger}
 use Rattle.hs_ring.specs.Parts.{Leased}
 use Rattle.hs_words.specs.Buffers.{Buffer}
@@ -16,7 +21,7 @@ use Rattle.hs_law_agent.specs.State.{start}
 use Rattle.hs_records.specs.Plain.{PlainSettings}
 use Rattle.hs_agent.specs.Runs.{Run, new_run, state_of, offered_next}
 use Rattle.hs_mail.specs.Letters.{Letters, after}
-use Rattle.hs_intake.specs.Intakes.{PlainIntake, Chunk, TakesChunk, Turns, LetsGo, Forgets, says, SaysIt, Tells, acts_in, told_in, limit_of, limited_in, life, TakesTrigger}
+use Rattle.hs_intake.specs.Intakes.{Chunk, TakesChunk, Turns, LetsGo, Forgets, says, SaysIt, claim_by, notes_from, acts_in, told_in, limit_of, limited_in, life, TakesTrigger}
 use Rattle.hs_intake.specs.Taking.{Receives}
 use Rattle.hs_intake.specs.Handing.{first_page, was_offered}
 
@@ -24,17 +29,21 @@ use Rattle.hs_intake.specs.Handing.{first_page, was_offered}
 two_are_received : (a b : Incoming ℕ Key) → Receives 1 (7 ∷ 8 ∷ []) (a ∷ b ∷ []) (a ∷ record b { received = b.received ++ 7 ∷ 8 ∷ [] } ∷ [])
 two_are_received a b = record { before = b; later = record b { received = b.received ++ 7 ∷ 8 ∷ [] }; at = refl; new_is = refl; same = (refl, refl, refl); received = refl }
 
--- A message that has a place is said; one that has none waits.
-has_a_place : (m : Letters) (told : Told) → SaysIt m (Some told) (after m (says told)) None
-has_a_place m told = record { said = told ∷ []; mail = refl; all = refl }
+-- A message that has a place is said, and noted with its number; one that has none waits.
+has_a_place : (m : Letters) (s : PlainClaims) (told : Told) → SaysIt m s (Some told) (after m (says told)) (after_spoke s told.group.id m.fresh) None
+has_a_place m s told = record { said = told ∷ []; mail = refl; all = refl; noted = refl }
 
-has_no_place : (m : Letters) (told : Told) → SaysIt m (Some told) m (Some told)
-has_no_place m told = record { said = []; mail = refl; all = refl }
+has_no_place : (m : Letters) (s : PlainClaims) (told : Told) → SaysIt m s (Some told) m s (Some told)
+has_no_place m s told = record { said = []; mail = refl; all = refl; noted = refl }
 
--- What waited is said before what is told later.
-in_order : (d : PlainIntake) (first second : Told)
-    → Tells (record d { unsaid = Some first }) (second ∷ []) (record d { mail = after d.mail (says first); unsaid = Some second })
-in_order d first second = record { said = first ∷ []; mail = refl; all = refl }
+-- The group of a message that fired claims its traces; one that tells a late crumb claims nothing.
+one_claims : (told : Told) → filter_map claim_by (record told { why = Fired } ∷ record told { why = Late } ∷ []) ≡ Claims told.group told.laterals ∷ []
+one_claims told = refl
+
+-- Of three messages from number 7 on each is noted with its number.
+noted : (told : Told) (page : PlainReported) (standing : Standing)
+    → notes_from 7 (SaysTold told ∷ SaysReported page ∷ SaysStanding standing ∷ []) ≡ Speaks told.group.id 7 ∷ Speaks page.group.id 8 ∷ Says standing 9 ∷ []
+noted told page standing = refl
 
 -- A chunk at the front is taken by one act, which tells nothing, nor does a turn.
 a_chunk_waits : (run : Run Leased) (buffer : Buffer Leased) → (acts_in (Some (Chunk 3 buffer)) ≡ TakesChunk 3 buffer ∷ []) × (told_in run (TakesChunk 3 buffer ∷ Turns ∷ []) ≡ [])

@@ -9,6 +9,7 @@ use Rattle.hs_words.specs.Ends.{answered, unread}
 use Rattle.hs_words.specs.PoolHistory as pool
 use Rattle.hs_ring.specs.Parts.{Leased, Giving, after_turn}
 use Rattle.hs_wire.specs.Messages.{PlainReported, SaysReported}
+use Rattle.hs_claimed.specs.Claims.{PlainClaims, after_spoke}
 use Rattle.hs_mail.specs.Letters.{Letters, Posts}
 use Rattle.hs_mail.specs.declared.mail.Unposted.{Unposted}
 use Rattle.hs_mail.specs.declared.mail.Unposted.TheVariants.{Full, TooLong, NoSpelling, Ended}
@@ -69,14 +70,23 @@ may_wait TooLong = false
 may_wait NoSpelling = false
 may_wait Ended = true
 
--- The page is posted, if there is one, or it never can be.
-abbrev pub PostsPage : Option PlainReported → Letters → Option Unposted → Letters → Type 0
+-- what is said, and noted of the claims
+pub record Word : Type 0 where
+  pub mail : Letters
+  pub claims : PlainClaims
+
+abbrev pub word_of : PlainIntake → Word
+word_of d = record { mail = d.mail; claims = d.claims }
+
+-- The page is posted, if there is one, and noted with its number; or it never can be.
+abbrev pub PostsPage : Option PlainReported → Word → Option Unposted → Word → Type 0
 PostsPage None old unposted new = (unposted ≡ None) × (new ≡ old)
-PostsPage (Some page) old None new = (number : ℕ) × Posts old (SaysReported page) (Ok number) new
-PostsPage (Some page) old (Some fault) new = (may_wait fault ≡ false) × Posts old (SaysReported page) (Err fault) new
+PostsPage (Some page) old None new =
+    (number : ℕ) × Posts old.mail (SaysReported page) (Ok number) new.mail × (new.claims ≡ after_spoke old.claims page.group.id number)
+PostsPage (Some page) old (Some fault) new = (may_wait fault ≡ false) × Posts old.mail (SaysReported page) (Err fault) new.mail × (new.claims ≡ old.claims)
 
 -- At the first offer it is said why it left; at a later one nothing.
-abbrev pub SaysIf : Run Leased → Letters → Option Parted → Letters → Type 0
+abbrev pub SaysIf : Run Leased → Word → Option Parted → Word → Type 0
 SaysIf run old None new = (was_offered run ≡ true) × (new ≡ old)
 SaysIf run old (Some parted) new = (was_offered run ≡ false) × (IsParted run parted × PostsPage (first_page run) old parted.unposted new)
 
@@ -96,10 +106,10 @@ say_by trace left (Err TooLong) = says.Parted (record { trace = trace; left = le
 say_by trace left (Err NoSpelling) = says.Parted (record { trace = trace; left = left; unposted = Some NoSpelling })
 say_by trace left (Err Ended) = says.Waits Ended
 
-abbrev pub SaysFirst : Run Leased → Letters → Say → Letters → Type 0
+abbrev pub SaysFirst : Run Leased → Word → Say → Word → Type 0
 SaysFirst run old says.Nothing new = (new ≡ old) × ((state_of run).hand ≡ [])
 SaysFirst run old says.Again new = IsSome (first_place (state_of run)) × SaysIf run old None new
-SaysFirst run old (says.Waits fault) new = (new ≡ old) × Waits run old fault
+SaysFirst run old (says.Waits fault) new = (new ≡ old) × Waits run old.mail fault
 SaysFirst run old (says.Parted parted) new = IsSome (first_place (state_of run)) × SaysIf run old (Some parted) new
 
 -- ---- what becomes of its buffer
@@ -138,10 +148,10 @@ abbrev pub HandsOut : Run Leased → PlainIntake → Handed → PlainIntake → 
 HandsOut run old handed.Empty new = (new ≡ old) × ((state_of run).hand ≡ [])
 HandsOut run old (handed.Waits fault) new = (new ≡ old) × Waits run old.mail fault
 HandsOut run old (handed.Offered parted was_given) new =
-    (new ≡ record old { agent = new.agent; port = record old.port { giver = new.port.giver }; mail = new.mail })
-    × (SaysIf run old.mail parted new.mail × Offers run old was_given new)
+    (new ≡ record old { agent = new.agent; port = record old.port { giver = new.port.giver }; mail = new.mail; claims = new.claims })
+    × (SaysIf run (word_of old) parted (word_of new) × Offers run old was_given new)
 HandsOut run old handed.Spent new =
-    (new ≡ record old { agent = new.agent; mail = new.mail }) × (IsSpent new.agent × ((parted : Option Parted) × SaysIf run old.mail parted new.mail))
+    (new ≡ record old { agent = new.agent; mail = new.mail; claims = new.claims }) × (IsSpent new.agent × ((parted : Option Parted) × SaysIf run (word_of old) parted (word_of new)))
 
 -- what the call answers
 abbrev pub handed_by : Option Parted → Option Bool → Handed

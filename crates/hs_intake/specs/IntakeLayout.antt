@@ -14,7 +14,7 @@ waiting_of (backs.Crumb client crumb) = Crumbs client crumb
 waiting_of (backs.Trigger client trigger) = Triggers client trigger
 
 abbrev pub intake_in : Inside → PlainIntake
-intake_in d = record { agent = d.agent; port = d.port; late = d.late.items; mail = d.mail; inbox = d.inbox; clients = d.clients; back = option_map waiting_of d.back; unsaid = d.unsaid }
+intake_in d = record { agent = d.agent; port = d.port; late = d.late.items; mail = d.mail; inbox = d.inbox; claims = d.claims; clients = d.clients; back = option_map waiting_of d.back; unsaid = d.unsaid }
 
 -- The four lines have an end of each client; and memory failed the agent in a turn, or the intake stands at some run.
 pub record IsIntake (d : Inside) : Type 0 where

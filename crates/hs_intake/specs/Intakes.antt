@@ -1,6 +1,6 @@
 -- What contracts see of the intake of a node: its agent, the ends of its clients' links, its mail, and what waits at the front. Which run
 -- of the agent's model it stands at, and what an act makes of that run.
-use Rattle.std.specs.Prelude.{◌≡◌, ℕ, ◌+◌, ◌<◌, ◌^◌, nat_lt, if◌then◌else◌, Bool, true, List, [], ◌∷◌, ◌++◌, length, map, fold, Option, Some, None}
+use Rattle.std.specs.Prelude.{◌≡◌, ℕ, ◌+◌, ◌<◌, ◌≤◌, ◌^◌, nat_lt, if◌then◌else◌, Bool, true, false, List, [], ◌∷◌, ◌++◌, length, map, fold, filter, filter_map, Option, Some, None}
 use Rattle.std.specs.List.{AllByRecursion}
 use Rattle.std.specs.Option.{option_to_list}
 use Rattle.hs_base.specs.Rules.{is_declared}
@@ -9,13 +9,18 @@ use Rattle.hs_base.specs.declared.told.Crumb.{Crumb}
 use Rattle.hs_base.specs.declared.told.Group.{Group}
 use Rattle.hs_base.specs.declared.told.Told.{Told}
 use Rattle.hs_base.specs.declared.told.Trigger.{Trigger}
+use Rattle.hs_base.specs.declared.told.Why.{Why}
+use Rattle.hs_base.specs.declared.told.Why.TheVariants.{Fired, Answer, Late}
+use Rattle.hs_base.specs.declared.limits.TheConstants.{MAX_LATERALS}
 use Rattle.hs_records.specs.Plain.{PlainSettings}
 use Rattle.hs_words.specs.Buffers.{Buffer}
 use Rattle.hs_ring.specs.Parts.{Leased, Giving}
 use Rattle.hs_link.specs.Contents.{Incoming}
 use Rattle.hs_live.specs.Keys.{Key}
 use Rattle.hs_live.specs.Live.{Port, IsEnd}
-use Rattle.hs_wire.specs.Messages.{SaysTold}
+use Rattle.hs_wire.specs.Messages.{Said, SaysHello, SaysTold, SaysAsk, SaysReported, SaysStanding}
+use Rattle.hs_claimed.specs.Claims.{PlainClaims}
+use Rattle.hs_claimed.specs.Lives as claimed
 use Rattle.hs_law_agent.specs.Stepping.{Answered, Gave, Crumbed, Triggered, Asked, told_by}
 use Rattle.hs_agent.specs.Keeping.{PlainAgent}
 use Rattle.hs_agent.specs.Runs.{Run, state_of, Follows, IsChunkFor, after_chunk, after_turn, after_offer, with_back, forgetting}
@@ -37,6 +42,8 @@ pub record PlainIntake : Type 0 where
   pub late : List (Incoming Crumb Key)
   pub mail : Letters
   pub inbox : PlainInbox
+  -- the traces that groups claim, until the groups are forgotten
+  pub claims : PlainClaims
   pub clients : ℕ
   -- what waits at the front
   pub back : Option Waiting
@@ -44,8 +51,8 @@ pub record PlainIntake : Type 0 where
   pub unsaid : Option Told
 
 -- one at whose front nothing waits
-abbrev pub new_intake : PlainAgent Leased → Port → List (Incoming Crumb Key) → Letters → PlainInbox → ℕ → PlainIntake
-new_intake agent port late mail inbox clients = record { agent = agent; port = port; late = late; mail = mail; inbox = inbox; clients = clients; back = None; unsaid = None }
+abbrev pub new_intake : PlainAgent Leased → Port → List (Incoming Crumb Key) → Letters → PlainInbox → PlainClaims → ℕ → PlainIntake
+new_intake agent port late mail inbox claims clients = record { agent = agent; port = port; late = late; mail = mail; inbox = inbox; claims = claims; clients = clients; back = None; unsaid = None }
 
 -- ---- what the agent takes
 
@@ -150,6 +157,65 @@ pub record Stands (run : Run Leased) (d : PlainIntake) : Type 0 where
   pub waits : MayWaitIf run.settings run.node d.port.giver d.back
   pub inbox : d.inbox.rules ≡ run.settings.triggers
 
+-- ---- what is claimed
+
+-- the claims after these deeds, one after another
+abbrev pub claims_life : PlainClaims → List claimed.Deed → PlainClaims
+claims_life = fold claimed.after
+
+-- a group that fired or answered claims its lead and its laterals
+abbrev pub claim_for : Why → Told → Option claimed.Deed
+claim_for Fired told = Some (claimed.Claims told.group told.laterals)
+claim_for Answer told = Some (claimed.Claims told.group told.laterals)
+claim_for Late told = None
+
+abbrev pub claim_by : Told → Option claimed.Deed
+claim_by told = claim_for told.why told
+
+-- what is noted of a message with this number: that it speaks of its group
+abbrev pub note_of : ℕ → Said → Option claimed.Deed
+note_of number (SaysHello hello) = None
+note_of number (SaysTold told) = Some (claimed.Speaks told.group.id number)
+note_of number (SaysAsk ask) = None
+note_of number (SaysReported reported) = Some (claimed.Speaks reported.group.id number)
+note_of number (SaysStanding standing) = Some (claimed.Says standing number)
+
+-- and of messages with the numbers from this one on
+abbrev pub notes_from : ℕ → List Said → List claimed.Deed
+notes_from number [] = []
+notes_from number (said ∷ later) = option_to_list (note_of number said) ++ notes_from (number + 1) later
+
+abbrev pub is_claim : claimed.Deed → Bool
+is_claim (claimed.Claims group laterals) = true
+is_claim (claimed.Speaks group number) = false
+is_claim (claimed.Says standing number) = false
+is_claim claimed.LooksOn = false
+is_claim claimed.Forgets = false
+
+abbrev pub is_note : claimed.Deed → Bool
+is_note (claimed.Claims group laterals) = false
+is_note (claimed.Speaks group number) = true
+is_note (claimed.Says standing number) = true
+is_note claimed.LooksOn = false
+is_note claimed.Forgets = false
+
+-- there is a place for each trace that one more group may claim
+abbrev pub HasRoom : PlainClaims → Type 0
+HasRoom claims = length claims.claims + (MAX_LATERALS + 1) ≤ claims.most
+
+-- Each claim of these deeds has room when it is made.
+abbrev pub HaveRoom : PlainClaims → List claimed.Deed → Type 0
+HaveRoom claims [] = Unit {0}
+HaveRoom claims (deed ∷ deeds) = (is_claim deed ≡ true → HasRoom claims) × HaveRoom (claimed.after claims deed) deeds
+
+-- The claims of what was told are made where each has room, and what was said is noted with the numbers from this one on.
+pub record ClaimsBy (old : PlainClaims) (told : List Told) (number : ℕ) (said : List Said) (new : PlainClaims) : Type 0 where
+  pub deeds : List claimed.Deed
+  pub claims : new ≡ claims_life old deeds
+  pub made : filter is_claim deeds ≡ filter_map claim_by told
+  pub noted : filter is_note deeds ≡ notes_from number said
+  pub room : HaveRoom old deeds
+
 -- ---- what is told
 
 abbrev pub says : Told → Deed
@@ -160,12 +226,16 @@ pub record Tells (old : PlainIntake) (told : List Told) (new : PlainIntake) : Ty
   pub said : List Told
   pub mail : new.mail ≡ mail.life old.mail (map says said)
   pub all : option_to_list old.unsaid ++ told ≡ said ++ option_to_list new.unsaid
+  -- the groups that fired or answered claim their traces, and what is said is noted with its number
+  pub claims : ClaimsBy old.claims told old.mail.fresh (map SaysTold said) new.claims
 
--- The same of one message at most, where none waits for its place.
-pub record SaysIt (old : Letters) (told : Option Told) (new : Letters) (unsaid : Option Told) : Type 0 where
+-- What waits is said, if anything does, or it waits on.
+pub record SaysIt (old : Letters) (claims : PlainClaims) (told : Option Told) (new : Letters) (claims' : PlainClaims) (unsaid : Option Told) : Type 0 where
   pub said : List Told
   pub mail : new ≡ mail.life old (map says said)
   pub all : option_to_list told ≡ said ++ option_to_list unsaid
+  -- and is noted with its number
+  pub noted : claims' ≡ claims_life claims (notes_from old.fresh (map SaysTold said))
 
 -- The agent's run goes on by these acts, and what they tell is said.
 pub record Goes (run : Run Leased) (acts : List Act) (old new : PlainIntake) : Type 0 where

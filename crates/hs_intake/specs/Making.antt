@@ -3,6 +3,7 @@ use Rattle.std.specs.Prelude.{◌≡◌, ℕ}
 use Rattle.hs_records.specs.Plain.{PlainSettings}
 use Rattle.hs_agent.specs.Runs.{bare_run}
 use Rattle.hs_inbox.specs.Delivering.{no_asks}
+use Rattle.hs_claimed.specs.Claims.{no_claims}
 use Rattle.hs_mail.specs.Letters.{Letters}
 use Rattle.hs_node_client.specs.declared.limits.ClientLimits.{ClientLimits}
 use Rattle.hs_node_client.specs.Making.{AreMade, rules_by}
@@ -10,7 +11,7 @@ use Rattle.hs_intake.specs.declared.making.MadeIntake.{MadeIntake}
 use Rattle.hs_intake.specs.Intakes.{Stands}
 
 -- It stands where its agent has taken nothing and keeps no journal, nothing was done with the clients, and the other ends of their links are its port.
-pub record IsMade (settings : PlainSettings) (limits : ClientLimits) (mail : Letters) (asks : ℕ) (made : MadeIntake) : Type 0 where
+pub record IsMade (settings : PlainSettings) (limits : ClientLimits) (mail : Letters) (asks claims : ℕ) (made : MadeIntake) : Type 0 where
   pub stands : Stands (bare_run settings limits.node) made.intake
   -- the room of the list of ends for late crumbs
   pub room : ℕ
@@ -19,3 +20,4 @@ pub record IsMade (settings : PlainSettings) (limits : ClientLimits) (mail : Let
       (record { port = made.intake.port; late = record { items = made.intake.late; room = room }; segments = made.segments; clients = made.clients })
   pub mail_is : made.intake.mail ≡ mail
   pub inbox_is : made.intake.inbox ≡ no_asks (record { 0 = limits.node }) settings.triggers asks
+  pub claims_is : made.intake.claims ≡ no_claims claims

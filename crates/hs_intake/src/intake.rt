@@ -1,25 +1,27 @@
 //! The intake of a node.
 
-ghost use Rattle.std.specs.Prelude.{◌≡◌, ◌<◌, ◌≤◌, ◌+◌, length, map, ◌||◌, option_map, true, false, Some, None};
-ghost use Rattle.std.specs.Option.{is_some};
+ghost use Rattle.std.specs.Prelude.{◌≡◌, ◌<◌, ◌≤◌, ◌+◌, length, map, ◌||◌, option_map, filter_map, true, false, Some, None};
+ghost use Rattle.std.specs.Option.{is_some, option_to_list};
 ghost use Rattle.hs_ring.specs.Parts.{Leased};
 ghost use Rattle.hs_words.specs.Buffers.{Buffer};
 ghost use Rattle.hs_outbox.specs.Queue.{waits, has_number};
 ghost use Rattle.hs_mail.specs.Letters.{first_offered, pending_at, after, HandsOut, Acknowledges, OffersAgain};
 ghost use Rattle.hs_agent.specs.Runs.{Run};
-ghost use Rattle.hs_intake.specs.Intakes.{Stands, chunk_line, crumb_line, SaysIt, new_intake};
+ghost use Rattle.hs_intake.specs.Intakes.{Stands, chunk_line, crumb_line, SaysIt, HasRoom, claims_life, claim_by, new_intake};
 ghost use Rattle.hs_intake.specs.declared.took.Next.TheVariants.{Taken};
-ghost use Rattle.hs_intake.specs.Taking.{TakesNext, TakesMany, IsMute, TakesLine, TakesBack, MakesTurn, ForgetsGroup};
+ghost use Rattle.hs_intake.specs.Taking.{TakesNext, TakesMany, IsMute, TakesLine, IsShort, TakesBack, MakesTurn};
 
 mod asks;
+mod claims;
 mod hand;
 mod late;
 mod triggers;
 
 use crate::took::{Back, Next, Stop, Took, Turned};
 use hs_agent::Agent;
-use hs_base::limits::MAX_TAKEN;
-use hs_base::{Crumb, Group, List, Told};
+use hs_base::limits::{MAX_LATERALS, MAX_TAKEN};
+use hs_base::{Crumb, List, Told, Why};
+use hs_claimed::ClaimedTraces;
 use hs_inbox::{Delivered, Inbox};
 use hs_link::Receiver;
 use hs_live::{AgentPort, ClientKey};
@@ -37,6 +39,7 @@ pub struct Intake {
     late: List<Receiver<Crumb, ClientKey>>,
     mail: Mail,
     inbox: Inbox,
+    claims: ClaimedTraces,
     clients: u16,
     back: Option<Back>,
     unsaid: Option<Told>,
@@ -100,6 +103,14 @@ impl Intake {
         self.unsaid.is_some() || self.mail.free_words() == 0
     }
 
+    /// Whether not each trace that one more group may claim has a place.
+    fn is_short(&self) -> bool
+        ensures short { result ≡ true → IsShort self.now }
+        ensures room { result ≡ false → HasRoom self.now.claims }
+    {
+        self.claims.free() <= MAX_LATERALS
+    }
+
     /// The agent takes the next crumb of a client, if one has come and a word has a place. What it tells is said.
     fn take_crumb(&mut self, client: u16) -> Next
         requires low { client < self.old.clients }
@@ -117,7 +128,7 @@ impl Intake {
         match self.agent.try_crumb(client, crumb) {
             Ok(told) => {
                 self.unsaid = told;
-                say(&mut self.mail, &mut self.unsaid);
+                say(&mut self.mail, &mut self.claims, &mut self.unsaid);
                 Next::Taken
             }
             Err(_) => {
@@ -152,10 +163,11 @@ impl Intake {
         late: List<Receiver<Crumb, ClientKey>>,
         mail: Mail,
         inbox: Inbox,
+        claims: ClaimedTraces,
         clients: u16,
     ) -> Intake
-        requires { (run : Run Leased) × Stands run (new_intake agent port late.items mail inbox clients) }
-        ensures { result ≡ new_intake agent port late.items mail inbox clients }
+        requires { (run : Run Leased) × Stands run (new_intake agent port late.items mail inbox claims clients) }
+        ensures { result ≡ new_intake agent port late.items mail inbox claims clients }
     {
         Intake {
             agent,
@@ -163,6 +175,7 @@ impl Intake {
             late,
             mail,
             inbox,
+            claims,
             clients,
             back: None,
             unsaid: None,
@@ -206,10 +219,10 @@ impl Intake {
 
     /// Says what waits to be said, if anything does.
     pub fn say(&mut self)
-        ensures said { SaysIt self.old.mail self.old.unsaid self.new.mail self.new.unsaid }
-        ensures only { self.new ≡ record self.old { mail = self.new.mail; unsaid = self.new.unsaid } }
+        ensures said { SaysIt self.old.mail self.old.claims self.old.unsaid self.new.mail self.new.claims self.new.unsaid }
+        ensures only { self.new ≡ record self.old { mail = self.new.mail; claims = self.new.claims; unsaid = self.new.unsaid } }
     {
-        say(&mut self.mail, &mut self.unsaid);
+        say(&mut self.mail, &mut self.claims, &mut self.unsaid);
     }
 
     /// The agent makes a fair turn, if the mail has a place for each chunk that is pinned.
@@ -223,13 +236,6 @@ impl Intake {
             Ok(()) => Turned::Done,
             Err(_) => Turned::Spent,
         }
-    }
-
-    /// Forgets a group for which no chunk is pinned: its claims, and the crumbs of the traces that it claimed. Answers whether it did.
-    pub fn forget(&mut self, group: Group) -> bool
-        ensures { (run : Run Leased) → Stands run self.old → ForgetsGroup run group self.old result self.new }
-    {
-        self.agent.forget(group)
     }
 
     /// The message with the least number of those that are not handed out, with its number, if there is one.
@@ -267,6 +273,7 @@ impl Intake {
         ensures { (run : Run Leased) → Stands run self.old → TakesBack run self.old result self.new }
     {
         let is_mute = self.is_mute();
+        let is_short = self.is_short();
         match self.back.take() {
             None => true,
             Some(Back::Chunk { client, held }) => match self.agent.try_chunk(client, held) {
@@ -284,7 +291,7 @@ impl Intake {
                 match self.agent.try_crumb(client, crumb) {
                     Ok(told) => {
                         self.unsaid = told;
-                        say(&mut self.mail, &mut self.unsaid);
+                        say(&mut self.mail, &mut self.claims, &mut self.unsaid);
                         true
                     }
                     Err(_) => {
@@ -294,14 +301,15 @@ impl Intake {
                 }
             }
             Some(Back::Trigger { client, trigger }) => {
-                if is_mute {
+                if is_mute || is_short {
                     self.back = Some(Back::Trigger { client, trigger });
                     return false;
                 }
                 match triggers::fire(&mut self.agent, client, &trigger) {
                     Ok(told) => {
                         self.unsaid = told;
-                        say(&mut self.mail, &mut self.unsaid);
+                        enter(&mut self.claims, &self.unsaid);
+                        say(&mut self.mail, &mut self.claims, &mut self.unsaid);
                         true
                     }
                     Err(_) => {
@@ -314,13 +322,29 @@ impl Intake {
     }
 }
 
-/// Says what waits to be said, if anything does. What finds no place waits on.
-fn say(mail: &mut Mail, unsaid: &mut Option<Told>)
-    ensures { SaysIt mail.old unsaid.old mail.new unsaid.new }
+/// Says what waits to be said, if anything does, and notes its number. What finds no place waits on.
+fn say(mail: &mut Mail, claims: &mut ClaimedTraces, unsaid: &mut Option<Told>)
+    ensures { SaysIt mail.old claims.old unsaid.old mail.new claims.new unsaid.new }
 {
     if let Some(told) = unsaid {
-        if mail.told(*told).is_ok() {
+        if let Ok(number) = mail.told(*told) {
+            claims.spoke(told.group.id, number);
             *unsaid = None;
         }
+    }
+}
+
+/// A group that fired or answered claims its traces.
+fn enter(claims: &mut ClaimedTraces, told: &Option<Told>)
+    ensures { claims.new ≡ claims_life claims.old (filter_map claim_by (option_to_list told.now)) }
+{
+    let Some(told) = told else {
+        return;
+    };
+    match told.why {
+        Why::Fired | Why::Answer => {
+            claims.claim(told.group, &told.laterals);
+        }
+        Why::Late => {}
     }
 }

@@ -9,6 +9,7 @@ ghost use Rattle.hs_intake.specs.Making.{IsMade};
 use crate::intake::Intake;
 use hs_agent::Agent;
 use hs_base::{List, NodeId, Settings};
+use hs_claimed::ClaimedTraces;
 use hs_inbox::Inbox;
 use hs_link::Receiver;
 use hs_mail::Mail;
@@ -25,18 +26,19 @@ pub struct MadeIntake {
     pub clients: List<NodeClient>,
 }
 
-/// An intake that has taken nothing, with the clients of its node, of which nothing was done. Its agent keeps no journal, and so many
-/// asks may wait.
+/// An intake that has taken nothing, with the clients of its node, of which nothing was done. Its agent keeps no journal. So many asks
+/// may wait, and so many traces may be claimed.
 pub fn make_intake(
     alloc: Global,
     settings: &Settings,
     limits: &ClientLimits,
     mail: Mail,
     asks: u32,
+    claims: u32,
 ) -> Result<MadeIntake, MakeFault>
     requires rules { AreRules settings.now.triggers.items }
     requires size { limits.now.size ≡ settings.now.size }
-    ensures made { IfOk result (IsMade (settings_of settings.now) limits.now mail asks) }
+    ensures made { IfOk result (IsMade (settings_of settings.now) limits.now mail asks claims) }
     ensures fault { IfErr result (HasFault limits.now settings.now.autos.items settings.now.triggers.items settings.now.nodes) }
 {
     let made = make_clients(
@@ -52,6 +54,9 @@ pub fn make_intake(
     let Ok(inbox) = Inbox::make(alloc, NodeId(limits.node), &settings.triggers, asks) else {
         return Err(MakeFault::Memory);
     };
+    let Ok(claims) = ClaimedTraces::make(alloc, claims) else {
+        return Err(MakeFault::Memory);
+    };
     let Made {
         port,
         late,
@@ -59,7 +64,7 @@ pub fn make_intake(
         clients,
     } = made;
     Ok(MadeIntake {
-        intake: Intake::make(agent, port, late, mail, inbox, limits.clients),
+        intake: Intake::make(agent, port, late, mail, inbox, claims, limits.clients),
         segments,
         clients,
     })

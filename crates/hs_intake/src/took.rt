@@ -19,6 +19,8 @@ pub enum Stop {
     Memory,
     /// There is no place for the message that the next one may make.
     Words,
+    /// There is no place for each trace that the next one may claim.
+    Claims,
 }
 
 /// How many were taken, and why no more.
@@ -37,7 +39,8 @@ impl Took {
     }
 }
 
-/// How many triggers were taken, and why no more. For `limited` of them no number was left, and they changed nothing.
+/// How many triggers were taken, and why no more. For `limited` of them no number was left, or no place for what they may claim, and they
+/// changed nothing.
 #[derive(Clone, Copy, Debug, PartialEq, Eq)]
 pub struct TookTriggers {
     pub took: Took,
@@ -52,6 +55,16 @@ impl TookTriggers {
         TookTriggers {
             took: Took::none(stop),
             limited: 0,
+        }
+    }
+
+    /// So many left, and the agent did not see them.
+    pub(crate) fn dropped(count: u32, stop: Stop) -> TookTriggers
+        ensures { result ≡ record { took = record { count = count; stop = stop }; limited = count } }
+    {
+        TookTriggers {
+            took: Took { count, stop },
+            limited: count,
         }
     }
 }
@@ -90,6 +103,17 @@ pub enum Handed {
     },
     /// Memory was wanting, and the agent is spent.
     Spent,
+}
+
+/// What became of a standing.
+#[derive(Clone, Copy, Debug, PartialEq, Eq)]
+pub enum Stated {
+    /// It was said.
+    Said,
+    /// It says no more of the claim that is looked at than was said of it last, or is of another one.
+    Known,
+    /// It cannot be said now.
+    Waits(Unposted),
 }
 
 /// What is said of the first of the hand.

@@ -1,6 +1,7 @@
 //! The hand of an intake: the chunks whose buffers are to be given back.
 
-ghost use Rattle.std.specs.Prelude.{◌≡◌, IfSome, IsSome, None};
+ghost use Rattle.std.specs.Prelude.{◌≡◌, IfSome, IsSome, IfOk, OnErr, None};
+ghost use Rattle.hs_claimed.specs.Claims.{after_spoke};
 ghost use Rattle.hs_ring.specs.Parts.{Leased};
 ghost use Rattle.hs_agent.specs.Runs.{Run, Follows, Knows, state_of, first_place, answer_of};
 ghost use Rattle.hs_wire.specs.Messages.{SaysReported};
@@ -12,6 +13,7 @@ use super::Intake;
 use crate::took::{Handed, Parted, Say};
 use hs_agent::{Agent, Left};
 use hs_base::{Group, TraceId};
+use hs_claimed::ClaimedTraces;
 use hs_mail::{Mail, Unposted};
 use hs_ring::Lease;
 use hs_wire::Reported;
@@ -38,7 +40,7 @@ impl Intake {
     pub fn hand_out(&mut self) -> Handed
         ensures { (run : Run Leased) → Stands run self.old → HandsOut run self.old result self.new }
     {
-        match say_first(&self.agent, &mut self.mail) {
+        match say_first(&self.agent, &mut self.mail, &mut self.claims) {
             Say::Nothing => Handed::Empty,
             Say::Waits(fault) => Handed::Waits(fault),
             Say::Again => handed_by(None, self.give_first()),
@@ -67,20 +69,30 @@ fn is_given(given: &Given<Lease>) -> bool
     }
 }
 
-/// Posts the page of a chunk that was reported for a group, and whose client numbered its core so.
-fn post(mail: &mut Mail, group: Group, chunk: &Chunk, core: u64) -> Result<u64, Unposted>
+/// Posts the page of a chunk that was reported for a group, and whose client numbered its core so. Its number is noted.
+fn post(
+    mail: &mut Mail,
+    claims: &mut ClaimedTraces,
+    group: Group,
+    chunk: &Chunk,
+    core: u64,
+) -> Result<u64, Unposted>
     requires { IsSome chunk.now.page }
-    ensures { IfSome chunk.now.page (λ sheet. Posts mail.old (SaysReported (page_of group core sheet)) result mail.new) }
+    ensures posts { IfSome chunk.now.page (λ sheet. Posts mail.old (SaysReported (page_of group core sheet)) result mail.new) }
+    ensures noted { IfOk result (λ number. claims.new ≡ after_spoke claims.old group.id number) }
+    ensures same { OnErr result (claims.new ≡ claims.old) }
 {
     let Some(header) = chunk.header() else {
         unreachable!()
     };
-    mail.page(&Reported {
+    let number = mail.page(&Reported {
         group,
         client: header.client.number,
         core,
         page: chunk.bytes(),
-    })
+    })?;
+    claims.spoke(group.id, number);
+    Ok(number)
 }
 
 /// What is said of a reported chunk, where its page was posted or not.
@@ -101,9 +113,10 @@ fn say_by(trace: TraceId, left: Left, posted: Result<u64, Unposted>) -> Say
 }
 
 /// Says why the first of the hand left, unless it was said before.
-fn say_first(agent: &Agent<Lease>, mail: &mut Mail) -> Say
+fn say_first(agent: &Agent<Lease>, mail: &mut Mail, claims: &mut ClaimedTraces) -> Say
     requires { Knows agent.now (λ run. run.offered ≡ None) }
-    ensures { (run : Run Leased) → Follows agent.now run → run.offered ≡ None → SaysFirst run mail.old result mail.new }
+    ensures { (run : Run Leased) → Follows agent.now run → run.offered ≡ None
+        → SaysFirst run (record { mail = mail.old; claims = claims.old }) result (record { mail = mail.new; claims = claims.new }) }
 {
     let Some(first) = agent.first() else {
         return Say::Nothing;
@@ -116,7 +129,7 @@ fn say_first(agent: &Agent<Lease>, mail: &mut Mail) -> Say
     };
     match first.left {
         Left::Reported(group) => {
-            let posted = post(mail, group, first.chunk, first.lease.mark());
+            let posted = post(mail, claims, group, first.chunk, first.lease.mark());
             say_by(header.trace, first.left, posted)
         }
         Left::Evicted { .. } | Left::Abandoned(_) => Say::Parted(Parted {

@@ -30,7 +30,7 @@ impl Intake {
         match self.agent.try_crumb(client, crumb) {
             Ok(told) => {
                 self.unsaid = told;
-                say(&mut self.mail, &mut self.unsaid);
+                say(&mut self.mail, &mut self.claims, &mut self.unsaid);
                 Next::Taken
             }
             Err(_) => {

@@ -6,9 +6,9 @@ ghost use Rattle.hs_ring.specs.Parts.{Leased};
 ghost use Rattle.hs_agent.specs.Runs.{Run, Follows, Knows};
 ghost use Rattle.hs_intake.specs.Intakes.{Stands, TakesTrigger, after_act, told_on, limit_of, trigger_line};
 ghost use Rattle.hs_intake.specs.declared.took.Next.TheVariants.{Taken};
-ghost use Rattle.hs_intake.specs.Taking.{TakesNext, TakesMost, TakesTriggers};
+ghost use Rattle.hs_intake.specs.Taking.{TakesNext, TakesMost, DropsOne, DropsMany, TakesTriggers};
 
-use super::{Intake, say};
+use super::{Intake, enter, say};
 use crate::took::{Back, Next, Stop, Took, TookTriggers};
 use hs_agent::Agent;
 use hs_base::limits::MAX_TAKEN;
@@ -38,13 +38,17 @@ impl Intake {
         if self.is_mute() {
             return Next::Stopped(Stop::Words);
         }
+        if self.is_short() {
+            return Next::Stopped(Stop::Claims);
+        }
         let Some(trigger) = self.port.trigger(client) else {
             return Next::Stopped(Stop::Empty);
         };
         match fire(&mut self.agent, client, &trigger) {
             Ok(told) => {
                 self.unsaid = told;
-                say(&mut self.mail, &mut self.unsaid);
+                enter(&mut self.claims, &self.unsaid);
+                say(&mut self.mail, &mut self.claims, &mut self.unsaid);
                 Next::Taken
             }
             Err(_) => {
@@ -81,9 +85,31 @@ impl Intake {
         }
     }
 
-    /// The agent takes the triggers of a client that have come, at most 64, while words have a place. Where no number is left for one more
-    /// that is admitted, a trigger leaves its link, and the agent does not see it: the answer counts these. There is no more of a client
-    /// that is not there, and while something waits at the front nothing is taken.
+    /// The next trigger of a client leaves its link, if one has come. The agent does not see it.
+    fn drop_trigger(&mut self, client: u16) -> bool
+        requires { client < self.old.clients }
+        ensures drops { (run : Run Leased) → Stands run self.old → DropsOne run client self.old result self.new }
+        ensures clients { self.new.clients ≡ self.old.clients }
+    {
+        self.port.trigger(client).is_some()
+    }
+
+    /// The triggers of a client that have come leave their link, at most 64. The agent does not see them.
+    fn drop_triggers(&mut self, client: u16) -> TookTriggers
+        requires { client < self.old.clients }
+        ensures { (run : Run Leased) → Stands run self.old → DropsMany run client self.old result self.new }
+    {
+        for count in 0..MAX_TAKEN {
+            if !self.drop_trigger(client) {
+                return TookTriggers::dropped(count, Stop::Empty);
+            }
+        }
+        TookTriggers::dropped(MAX_TAKEN, Stop::Most)
+    }
+
+    /// The agent takes the triggers of a client that have come, at most 64, while words and claims have a place. Where claims have none at
+    /// first, or no number is left for one more that is admitted, a trigger leaves its link, and the agent does not see it: the answer
+    /// counts these. There is no more of a client that is not there, and while something waits at the front nothing is taken.
     pub fn triggers_of(&mut self, client: u16) -> TookTriggers
         ensures { (run : Run Leased) → Stands run self.old → TakesTriggers run client self.old result self.new }
     {
@@ -92,6 +118,9 @@ impl Intake {
         }
         if self.has_front() {
             return TookTriggers::none(Stop::Memory);
+        }
+        if self.is_short() {
+            return self.drop_triggers(client);
         }
         self.take_triggers(client)
     }

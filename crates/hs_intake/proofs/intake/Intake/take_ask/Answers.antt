@@ -2,7 +2,7 @@ use Rattle.std.proofs.Common.{◌≡◌, List, None, true, false, refl, sym, ap,
 use Rattle.std.proofs.lemmas.Bool.{false_from_ne_true}
 use Rattle.hs_base.specs.Rules.{is_declared}
 use Rattle.hs_base.specs.declared.settings.TriggerRule.{TriggerRule}
-use Rattle.hs_intake.specs.Intakes.{PlainIntake, Stands}
+use Rattle.hs_intake.specs.Intakes.{PlainIntake, Stands, HasRoom}
 use Rattle.hs_intake.specs.IntakeLayout.{intake_in}
 use Rattle.hs_intake.specs.Taking.{TakesFirst}
 use Rattle.hs_intake.proofs.Asks.{none_there, took_ask, ask_alive}
@@ -18,9 +18,10 @@ returns-in-Ok c = λ run stands.
     let d = intake_in c.self.inside in
     let there : Stands run d = subst (λ (x : PlainIntake). Stands run x) (sym c.self.view_is) stands in
     let none : d.unsaid ≡ None = ap (λ (x : PlainIntake). x.unsaid) c.self.view_is ∙ c.is_mute.ensures.open c.if-is_mute.false in
-    subst (λ (x : PlainIntake). TakesFirst run x (record d { agent = c.try_ask.new.self; mail = c.say.new.mail; unsaid = c.say.new.unsaid; inbox = c.take_first.new.self })) c.self.view_is
-    (took_ask run d c.in-Some.first.now c.try_ask.new.self c.in-Ok.told c.say.new.mail c.say.new.unsaid c.take_first.new.self there c.in-Some.ensures.first c.take_first.ensures
-    (c.in-Ok.ensures.after run there.follows) none (c.in-Ok.ensures.told run there.follows) c.say.ensures)
+    let room : HasRoom d.claims = subst (λ (x : PlainIntake). HasRoom x.claims) (sym c.self.view_is) (c.is_short-is_short.ensures.room c.if-is_short.false) in
+    subst (λ (x : PlainIntake). TakesFirst run x (record d { agent = c.try_ask.new.self; mail = c.say.new.mail; claims = c.say.new.claims; unsaid = c.say.new.unsaid; inbox = c.take_first.new.self })) c.self.view_is
+    (took_ask run d c.in-Some.first.now c.try_ask.new.self c.in-Ok.told c.enter.new.claims c.say.new.mail c.say.new.claims c.say.new.unsaid c.take_first.new.self there c.in-Some.ensures.first c.take_first.ensures
+    (c.in-Ok.ensures.after run there.follows) none room c.enter.ensures (c.in-Ok.ensures.told run there.follows) c.say.ensures)
 
 pub invariant_of-self : goal.invariant_of-self
 invariant_of-self c =
@@ -31,7 +32,7 @@ invariant_of-self c =
       triggers = c.self.invariant.triggers;
       late = c.self.invariant.late;
       stands = (λ alive.
-          ask_alive d c.in-Some.first.now c.try_ask.new.self c.say.new.mail c.say.new.unsaid c.take_first.new.self
+          ask_alive d c.in-Some.first.now c.try_ask.new.self c.say.new.mail c.say.new.claims c.say.new.unsaid c.take_first.new.self
           (c.self.invariant.stands (false_from_ne_true c.self.inside.agent.spent (λ was. let none : false ≡ true = c.in-Ok.ensures.stays was in absurd cc))) c.take_first.ensures c.in-Ok.ensures.after);
     }
 

@@ -16,9 +16,9 @@ returns-in-Ok-clause-next c = λ run stands.
     let d = intake_in c.self.inside in
     let there : Stands run d = subst (λ (x : PlainIntake). Stands run x) (sym c.self.view_is) stands in
     let none : d.unsaid ≡ None = ap (λ (x : PlainIntake). x.unsaid) c.self.view_is ∙ c.is_mute.ensures.open c.if-is_mute.false in
-    subst (λ (x : PlainIntake). TakesOne run crumb_line c.args.client x (record d { agent = c.try_crumb.new.self; port = c.crumb.new.self; mail = c.say.new.mail; unsaid = c.say.new.unsaid }))
+    subst (λ (x : PlainIntake). TakesOne run crumb_line c.args.client x (record d { agent = c.try_crumb.new.self; port = c.crumb.new.self; mail = c.say.new.mail; claims = c.say.new.claims; unsaid = c.say.new.unsaid }))
     c.self.view_is
-    (took_crumb run d c.args.client c.in-Some.crumb c.crumb.new.self c.try_crumb.new.self c.in-Ok.told c.say.new.mail c.say.new.unsaid there c.in-Some.ensures.received
+    (took_crumb run d c.args.client c.in-Some.crumb c.crumb.new.self c.try_crumb.new.self c.in-Ok.told c.say.new.mail c.say.new.claims c.say.new.unsaid there c.in-Some.ensures.received
     c.crumb.ensures.only (c.in-Ok.ensures.after run there.follows) none (c.in-Ok.ensures.told run there.follows) c.say.ensures)
 
 pub returns-in-Err-clause-next : goal.returns-in-Err-clause-next
@@ -42,7 +42,7 @@ invariant_of-self-in-Ok c =
       triggers = ap (λ (p : Port). length p.triggers) c.crumb.ensures.only ∙ c.self.invariant.triggers;
       late = c.self.invariant.late;
       stands = (λ alive.
-          crumb_alive d c.args.client crumb port c.try_crumb.new.self c.say.new.mail c.say.new.unsaid
+          crumb_alive d c.args.client crumb port c.try_crumb.new.self c.say.new.mail c.say.new.claims c.say.new.unsaid
           (c.self.invariant.stands (false_from_ne_true c.self.inside.agent.spent (λ was. let none : false ≡ true = c.in-Ok.ensures.stays was in absurd cc)))
           c.in-Some.ensures.received c.crumb.ensures.only c.in-Ok.ensures.after);
     }

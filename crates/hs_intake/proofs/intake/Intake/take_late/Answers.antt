@@ -16,9 +16,9 @@ returns-in-Ok-clause-next c = λ run stands.
     let d = intake_in c.self.inside in
     let there : Stands run d = subst (λ (x : PlainIntake). Stands run x) (sym c.self.view_is) stands in
     let none : d.unsaid ≡ None = ap (λ (x : PlainIntake). x.unsaid) c.self.view_is ∙ c.is_mute.ensures.open c.if-is_mute.false in
-    subst (λ (x : PlainIntake). TakesOne run late_line c.args.client x (record d { agent = c.try_crumb.new.self; late = c.receive_at.new.receivers.items; mail = c.say.new.mail; unsaid = c.say.new.unsaid }))
+    subst (λ (x : PlainIntake). TakesOne run late_line c.args.client x (record d { agent = c.try_crumb.new.self; late = c.receive_at.new.receivers.items; mail = c.say.new.mail; claims = c.say.new.claims; unsaid = c.say.new.unsaid }))
     c.self.view_is
-    (took_late run d c.args.client c.in-Some.crumb c.receive_at.new.receivers.items c.try_crumb.new.self c.in-Ok.told c.say.new.mail c.say.new.unsaid there c.in-Some.ensures.received
+    (took_late run d c.args.client c.in-Some.crumb c.receive_at.new.receivers.items c.try_crumb.new.self c.in-Ok.told c.say.new.mail c.say.new.claims c.say.new.unsaid there c.in-Some.ensures.received
     (c.in-Ok.ensures.after run there.follows) none (c.in-Ok.ensures.told run there.follows) c.say.ensures)
 
 pub returns-in-Err-clause-next : goal.returns-in-Err-clause-next
@@ -42,7 +42,7 @@ invariant_of-self-in-Ok c =
       triggers = c.self.invariant.triggers;
       late = crumbs_counted c.args.client d.clients (crumb ∷ []) d.late ends (receives_one c.args.client crumb d.late ends c.in-Some.ensures.received) c.self.invariant.late;
       stands = (λ alive.
-          late_alive d c.args.client crumb ends c.try_crumb.new.self c.say.new.mail c.say.new.unsaid
+          late_alive d c.args.client crumb ends c.try_crumb.new.self c.say.new.mail c.say.new.claims c.say.new.unsaid
           (c.self.invariant.stands (false_from_ne_true c.self.inside.agent.spent (λ was. let none : false ≡ true = c.in-Ok.ensures.stays was in absurd cc)))
           c.in-Some.ensures.received c.in-Ok.ensures.after);
     }

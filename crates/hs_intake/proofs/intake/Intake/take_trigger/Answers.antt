@@ -3,7 +3,7 @@ use Rattle.hs_ring.specs.Parts.{Leased}
 use Rattle.hs_live.specs.Live.{Port}
 use Rattle.hs_agent.specs.Keeping.{PlainAgent}
 use Rattle.hs_agent.specs.Runs.{Run}
-use Rattle.hs_intake.specs.Intakes.{PlainIntake, Stands, Triggers, trigger_line}
+use Rattle.hs_intake.specs.Intakes.{PlainIntake, Stands, Triggers, HasRoom, trigger_line}
 use Rattle.hs_intake.specs.IntakeLayout.{intake_in}
 use Rattle.hs_intake.specs.Taking.{TakesOne, HoldsOne}
 use Rattle.hs_intake.proofs.Triggers.{took_trigger, held_trigger, trigger_alive, held_trigger_alive, triggers_counted}
@@ -15,10 +15,11 @@ returns-in-Ok-clause-next c = λ run stands.
     let d = intake_in c.self.inside in
     let there : Stands run d = subst (λ (x : PlainIntake). Stands run x) (sym c.self.view_is) stands in
     let none : d.unsaid ≡ None = ap (λ (x : PlainIntake). x.unsaid) c.self.view_is ∙ c.is_mute.ensures.open c.if-is_mute.false in
-    subst (λ (x : PlainIntake). TakesOne run trigger_line c.args.client x (record d { agent = c.fire.new.agent; port = c.trigger.new.self; mail = c.say.new.mail; unsaid = c.say.new.unsaid }))
+    let room : HasRoom d.claims = subst (λ (x : PlainIntake). HasRoom x.claims) (sym c.self.view_is) (c.is_short.ensures.room c.if-is_short.false) in
+    subst (λ (x : PlainIntake). TakesOne run trigger_line c.args.client x (record d { agent = c.fire.new.agent; port = c.trigger.new.self; mail = c.say.new.mail; claims = c.say.new.claims; unsaid = c.say.new.unsaid }))
     c.self.view_is
-    (took_trigger run d c.args.client c.in-Some.trigger c.trigger.new.self c.fire.new.agent c.in-Ok.told c.say.new.mail c.say.new.unsaid there c.in-Some.ensures.received
-    c.trigger.ensures.only (c.in-Ok.ensures.after run there.follows) none (c.in-Ok.ensures.told run there.follows) c.say.ensures)
+    (took_trigger run d c.args.client c.in-Some.trigger c.trigger.new.self c.fire.new.agent c.in-Ok.told c.enter.new.claims c.say.new.mail c.say.new.claims c.say.new.unsaid there c.in-Some.ensures.received
+    c.trigger.ensures.only (c.in-Ok.ensures.after run there.follows) none room c.enter.ensures (c.in-Ok.ensures.told run there.follows) c.say.ensures)
 
 pub returns-in-Err-clause-next : goal.returns-in-Err-clause-next
 returns-in-Err-clause-next c = λ run stands.
@@ -41,7 +42,7 @@ invariant_of-self-in-Ok c =
       triggers = triggers_counted c.args.client d.clients (trigger ∷ []) d.port.triggers port.triggers (receives_one c.args.client trigger d.port.triggers port.triggers c.in-Some.ensures.received) c.self.invariant.triggers;
       late = c.self.invariant.late;
       stands = (λ alive.
-          trigger_alive d c.args.client trigger port c.fire.new.agent c.say.new.mail c.say.new.unsaid
+          trigger_alive d c.args.client trigger port c.fire.new.agent c.say.new.mail c.say.new.claims c.say.new.unsaid
           (c.self.invariant.stands (c.fire.ensures.alive alive))
           c.in-Some.ensures.received c.trigger.ensures.only c.in-Ok.ensures.after);
     }
