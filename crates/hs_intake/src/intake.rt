@@ -5,7 +5,8 @@ ghost use Rattle.std.specs.Option.{is_some, option_to_list};
 ghost use Rattle.hs_ring.specs.Parts.{Leased};
 ghost use Rattle.hs_words.specs.Buffers.{Buffer};
 ghost use Rattle.hs_outbox.specs.Queue.{waits, has_number};
-ghost use Rattle.hs_mail.specs.Letters.{first_offered, pending_at, after, HandsOut, Acknowledges, OffersAgain};
+ghost use Rattle.hs_mail.specs.Letters.{first_offered, pending_at, after, HandsOut, Acknowledges, OffersAgain, Posts};
+ghost use Rattle.hs_wire.specs.Messages.{SaysHello, plain_hello};
 ghost use Rattle.hs_agent.specs.Runs.{Run};
 ghost use Rattle.hs_intake.specs.Intakes.{Stands, chunk_line, crumb_line, SaysIt, HasRoom, claims_life, claim_by, new_intake};
 ghost use Rattle.hs_intake.specs.declared.took.Next.TheVariants.{Taken};
@@ -25,8 +26,9 @@ use hs_claimed::ClaimedTraces;
 use hs_inbox::{Delivered, Inbox};
 use hs_link::Receiver;
 use hs_live::{AgentPort, ClientKey};
-use hs_mail::Mail;
+use hs_mail::{Mail, Unposted};
 use hs_ring::Lease;
+use hs_wire::Hello;
 use std::marker::Model;
 
 /// The agent of a node, with the ends of its clients' links, the mail for what it tells, and the inbox of what it is asked. One thing at most waits at the front: what came,
@@ -236,6 +238,14 @@ impl Intake {
             Ok(()) => Turned::Done,
             Err(_) => Turned::Spent,
         }
+    }
+
+    /// Says who the node is. The answer is the number of the message.
+    pub fn hello(&mut self, hello: &Hello<'_>) -> Result<u64, Unposted>
+        ensures posts { Posts self.old.mail (SaysHello (plain_hello hello.now)) result self.new.mail }
+        ensures only { self.new ≡ record self.old { mail = self.new.mail } }
+    {
+        self.mail.hello(hello)
     }
 
     /// The message with the least number of those that are not handed out, with its number, if there is one.
