@@ -1,0 +1,305 @@
+-- How a node goes on by each part of a pass.
+use Rattle.std.proofs.Common.{◌≡◌, ℕ, Bool, true, false, if◌then◌else◌, inl, inr, List, [], ◌∷◌, ◌++◌, map, Option, Some, None, refl, sym, ap, subst, ◌∙◌, append-nil}
+use Rattle.std.specs.Prelude.{Result, Ok, Err, OnOk, OnErr, filter, filter_map, fold, option_map, nat_le}
+use Rattle.std.specs.Option.{option_to_list}
+use Rattle.hs_base.specs.declared.told.Told.{Told}
+use Rattle.hs_ring.specs.Parts.{Leased}
+use Rattle.hs_agent.specs.Runs.{Run}
+use Rattle.hs_claimed.specs.Claims.{PlainClaims, advanced, after_said}
+use Rattle.hs_link.specs.Contents.{Incoming}
+use Rattle.hs_live.specs.Live.{ReceivesAt}
+use Rattle.hs_law_agent.specs.Standings.{Taken}
+use Rattle.hs_mail.specs.Letters.{Letters, Says, Posts}
+use Rattle.hs_mail.specs.Letters as letters
+use Rattle.hs_mail.specs.Lives as mail
+use Rattle.hs_mail.specs.declared.mail.Unposted.{Unposted}
+use Rattle.hs_wire.specs.Messages.{Said, PlainReported, SaysTold, SaysReported, SaysStanding}
+use Rattle.hs_wire.specs.declared.message.Standing.{Standing}
+use Rattle.hs_node_client.specs.declared.segment.Segment.{Segment}
+use Rattle.hs_node_client.specs.declared.segment.SegmentKey.{SegmentKey}
+use Rattle.hs_node_client.specs.declared.segment.SegmentState.{SegmentState}
+use Rattle.hs_node_client.specs.declared.segment.SegmentState.TheVariants.{Opened, Closed}
+use Rattle.hs_agent.specs.declared.hand.Left.{Left}
+use Rattle.hs_agent.specs.declared.hand.Left.TheVariants.{Reported, Evicted, Abandoned}
+use Rattle.hs_base.specs.declared.ids.TraceId.{TraceId}
+use Rattle.hs_node_client.specs.declared.segment.SegmentCounts.{SegmentCounts}
+use Rattle.hs_whole.specs.Notes.{PlainNotes, missed, opened, closed, after_opened, after_closed}
+use Rattle.hs_whole.specs.History.{Deed, Opens, Closes, Misses, after}
+use Rattle.hs_intake.specs.declared.took.Took.{Took}
+use Rattle.hs_intake.specs.declared.took.TookTriggers.{TookTriggers}
+use Rattle.hs_intake.specs.declared.took.Turned.{Turned}
+use Rattle.hs_intake.specs.declared.took.Turned.TheVariants as turned
+use Rattle.hs_intake.specs.declared.took.Handed.TheVariants as handed
+use Rattle.hs_intake.specs.declared.took.Parted.{Parted}
+use Rattle.hs_intake.specs.declared.took.Stated.{Stated}
+use Rattle.hs_intake.specs.declared.took.Stated.TheVariants as stated
+use Rattle.hs_intake.specs.Intakes.{PlainIntake, Waiting, Chunk, Crumbs, Triggers, Act, TakesTrigger, TakesAsk, LetsGo, Forgets, Turns, after_act, Line, chunk_line, crumb_line, late_line, acts_in, SaysIt, Stands}
+use Rattle.hs_intake.specs.Taking.{TakesLine, TakesTriggers, TakesAsks, TakesBack, MakesTurn, ForgetsOldest, StatesIt}
+use Rattle.hs_intake.specs.Handing.{first_taken, first_page, was_offered, word_of, PostsPage, HandsOut}
+use Rattle.hs_intake.proofs.Acts.{said_since}
+use Rattle.hs_node.specs.Nodes.{PlainNode, told_of, page_of, Part, part_of, part_at, parts_in, AreParted, posted_of, report_of, note_if, IsNoteOf, NotesIt, AreNotes, Receives, is_note, is_part, deed_if, deed_for, GoesOn, GoesOnIf, is_unspent}
+use Rattle.hs_node.proofs.Joining.{on_same, on_nothing, on_tells, tolds, no_pages, all_say}
+
+-- ---- what the agent takes
+
+-- acts at which nothing leaves
+no_parts : {T : Type 0} (f : T → Act) → ((run : Run Leased) (x : T) → part_at run (f x) ≡ None) → (xs : List T) (run : Run Leased) → parts_in run (map f xs) ≡ []
+no_parts f none [] run = refl
+no_parts f none (x ∷ xs) run = ap (λ (o : Option Part). option_to_list o ++ parts_in (after_act run (f x)) (map f xs)) (none run x) ∙ no_parts f none xs (after_act run (f x))
+
+line_on : {T : Type 0} (run : Run Leased) (line : Line T) (client : ℕ) (old : PlainNode) (took : Took) (intake : PlainIntake) → Stands run old.intake
+    → ((later : Run Leased) (x : T) → part_at later (line.takes client x) ≡ None) → TakesLine run line client old.intake took intake → GoesOn run old (record old { intake = intake })
+line_on run line client old took intake stands none (inl (high, (is, same))) =
+    subst (λ (d : PlainIntake). GoesOn run old (record old { intake = d })) (sym same) (on_nothing run old stands)
+line_on run line client old took intake stands none (inr (inl (low, (front, (is, same))))) =
+    subst (λ (d : PlainIntake). GoesOn run old (record old { intake = d })) (sym same) (on_nothing run old stands)
+line_on run line client old took intake stands none (inr (inr (low, (front, many)))) =
+    on_tells run (map (line.takes client) many.items) old intake many.goes.stands many.goes.tells (no_parts (line.takes client) none many.items run)
+
+pub chunks_on : (run : Run Leased) (client : ℕ) (old : PlainNode) (took : Took) (intake : PlainIntake) → Stands run old.intake → TakesLine run chunk_line client old.intake took intake
+    → GoesOn run old (record old { intake = intake })
+chunks_on run client old took intake stands takes = line_on run chunk_line client old took intake stands (λ later x. refl) takes
+
+pub crumbs_on : (run : Run Leased) (client : ℕ) (old : PlainNode) (took : Took) (intake : PlainIntake) → Stands run old.intake → TakesLine run crumb_line client old.intake took intake
+    → GoesOn run old (record old { intake = intake })
+crumbs_on run client old took intake stands takes = line_on run crumb_line client old took intake stands (λ later x. refl) takes
+
+pub lates_on : (run : Run Leased) (client : ℕ) (old : PlainNode) (took : Took) (intake : PlainIntake) → Stands run old.intake → TakesLine run late_line client old.intake took intake
+    → GoesOn run old (record old { intake = intake })
+lates_on run client old took intake stands takes = line_on run late_line client old took intake stands (λ later x. refl) takes
+
+pub triggers_on : (run : Run Leased) (client : ℕ) (old : PlainNode) (took : TookTriggers) (intake : PlainIntake) → Stands run old.intake → TakesTriggers run client old.intake took intake
+    → GoesOn run old (record old { intake = intake })
+triggers_on run client old took intake stands (inl (high, (is, same))) =
+    subst (λ (d : PlainIntake). GoesOn run old (record old { intake = d })) (sym same) (on_nothing run old stands)
+triggers_on run client old took intake stands (inr (inl (low, (front, (is, same))))) =
+    subst (λ (d : PlainIntake). GoesOn run old (record old { intake = d })) (sym same) (on_nothing run old stands)
+triggers_on run client old took intake stands (inr (inr (low, (front, inl (room, (many, limited)))))) =
+    on_tells run (map (TakesTrigger client) many.items) old intake many.goes.stands many.goes.tells (no_parts (TakesTrigger client) (λ later x. refl) many.items run)
+triggers_on run client old took intake stands (inr (inr (low, (front, inr (short, drops))))) =
+    on_same run old intake drops.stands (ap (λ (d : PlainIntake). d.mail) drops.only) (ap (λ (d : PlainIntake). d.unsaid) drops.only)
+
+pub asks_on : (run : Run Leased) (old : PlainNode) (took : Took) (intake : PlainIntake) → TakesAsks run old.intake took intake → GoesOn run old (record old { intake = intake })
+asks_on run old took intake takes =
+    on_tells run (map TakesAsk takes.asks) old intake takes.goes.stands takes.goes.tells (no_parts TakesAsk (λ later x. refl) takes.asks run)
+
+none_at_front : (run : Run Leased) (back : Option Waiting) → parts_in run (acts_in back) ≡ []
+none_at_front run None = refl
+none_at_front run (Some (Chunk client buffer)) = refl
+none_at_front run (Some (Crumbs client crumb)) = refl
+none_at_front run (Some (Triggers client trigger)) = refl
+
+pub back_on : (run : Run Leased) (old : PlainNode) (did : Bool) (intake : PlainIntake) → Stands run old.intake → TakesBack run old.intake did intake → GoesOn run old (record old { intake = intake })
+back_on run old true intake stands (free, (lines, (clients, goes))) = on_tells run (acts_in old.intake.back) old intake goes.stands goes.tells (none_at_front run old.intake.back)
+back_on run old false intake stands (there, same) = subst (λ (d : PlainIntake). GoesOn run old (record old { intake = d })) (sym same) (on_nothing run old stands)
+
+pub turn_on : (run : Run Leased) (old : PlainNode) (did : Turned) (intake : PlainIntake) → Stands run old.intake → MakesTurn run old.intake did intake
+    → GoesOnIf run (is_unspent did) old (record old { intake = intake })
+turn_on run old turned.Done intake stands (places, (only, goes)) = on_tells run (Turns ∷ []) old intake goes.stands goes.tells refl
+turn_on run old turned.Full intake stands (none, same) = subst (λ (d : PlainIntake). GoesOn run old (record old { intake = d })) (sym same) (on_nothing run old stands)
+turn_on run old turned.Spent intake stands (places, (only, spent)) = spent
+
+-- ---- what is said
+
+pub say_on : (run : Run Leased) (old : PlainNode) (m : Letters) (claims : PlainClaims) (unsaid : Option Told) → Stands run old.intake
+    → SaysIt old.intake.mail old.intake.claims old.intake.unsaid m claims unsaid → GoesOn run old (record old { intake = record old.intake { mail = m; claims = claims; unsaid = unsaid } })
+say_on run old m claims unsaid stands says_it =
+    record {
+      acts = [];
+      stands = said_since run old.intake m claims unsaid stands;
+      said = map SaysTold says_it.said;
+      mail = says_it.mail ∙ ap (λ (ds : List letters.Deed). mail.life old.intake.mail ds) (sym (all_say says_it.said));
+      told = append-nil (option_to_list old.intake.unsaid) ∙ says_it.all ∙ ap (λ (l : List Told). l ++ option_to_list unsaid) (sym (tolds says_it.said));
+      parted = [];
+      parts = no_pages says_it.said;
+      came = [];
+      ends = refl;
+      heard = [];
+      notes = refl;
+      noted = tt;
+      gone = refl;
+    }
+
+pub state_on : (run : Run Leased) (old : PlainNode) (standing : Standing) (did : Stated) (intake : PlainIntake) → Stands run old.intake → StatesIt old.intake standing did intake
+    → GoesOn run old (record old { intake = intake })
+state_on run old standing stated.Said intake stands (news, (number, posts, only)) =
+    let m = intake.mail in
+    record {
+      acts = [];
+      stands = subst (λ (d : PlainIntake). Stands run d) (sym only) (said_since run old.intake m (after_said old.intake.claims standing number) old.intake.unsaid stands);
+      said = SaysStanding standing ∷ [];
+      mail = posts.done;
+      told = append-nil (option_to_list old.intake.unsaid) ∙ ap (λ (d : PlainIntake). option_to_list d.unsaid) (sym only);
+      parted = [];
+      parts = refl;
+      came = [];
+      ends = refl;
+      heard = [];
+      notes = refl;
+      noted = tt;
+      gone = refl;
+    }
+state_on run old standing stated.Known intake stands (news, same) = subst (λ (d : PlainIntake). GoesOn run old (record old { intake = d })) (sym same) (on_nothing run old stands)
+state_on run old standing (stated.Waits fault) intake stands (news, (same, posts)) = subst (λ (d : PlainIntake). GoesOn run old (record old { intake = d })) (sym same) (on_nothing run old stands)
+
+pub look_on : (run : Run Leased) (old : PlainNode) (intake : PlainIntake) → Stands run old.intake → intake ≡ record old.intake { claims = advanced old.intake.claims } → GoesOn run old (record old { intake = intake })
+look_on run old intake stands only =
+    subst (λ (d : PlainIntake). GoesOn run old (record old { intake = d })) (sym only)
+    (on_same run old (record old.intake { claims = advanced old.intake.claims }) (said_since run old.intake old.intake.mail (advanced old.intake.claims) old.intake.unsaid stands) refl refl)
+
+pub forget_on : (run : Run Leased) (old : PlainNode) (did : Bool) (intake : PlainIntake) → Stands run old.intake → ForgetsOldest run old.intake did intake → GoesOn run old (record old { intake = intake })
+forget_on run old true intake stands (one, oldest, due, only, later) =
+    record {
+      acts = Forgets one.group ∷ [];
+      stands = later;
+      said = [];
+      mail = ap (λ (d : PlainIntake). d.mail) only;
+      told = append-nil (option_to_list old.intake.unsaid) ∙ ap (λ (d : PlainIntake). option_to_list d.unsaid) (sym only);
+      parted = [];
+      parts = refl;
+      came = [];
+      ends = refl;
+      heard = [];
+      notes = refl;
+      noted = tt;
+      gone = refl;
+    }
+forget_on run old false intake stands (same, not_due) = subst (λ (d : PlainIntake). GoesOn run old (record old { intake = d })) (sym same) (on_nothing run old stands)
+
+-- ---- the hand
+
+-- what is heard of a chunk that left is no note
+no_note : (trace : TraceId) (left : Left) (unposted : Option Unposted) → (filter is_note (deed_if trace left unposted ∷ []) ≡ []) × (filter is_part (deed_if trace left unposted ∷ []) ≡ deed_if trace left unposted ∷ [])
+no_note trace (Reported group) None = (refl, refl)
+no_note trace (Reported group) (Some fault) = (refl, refl)
+no_note trace (Evicted chunks traces) unposted = (refl, refl)
+no_note trace (Abandoned group) unposted = (refl, refl)
+
+-- the messages by which the first of the hand is said, and its pages
+record Spoken (old : Letters) (part : Part) (unposted : Option Unposted) (new : Letters) : Type 0 where
+  pub said : List Said
+  pub mail : new ≡ mail.life old (map Says said)
+  pub told : filter_map told_of said ≡ []
+  pub pages : filter_map page_of said ≡ posted_of part unposted
+
+spoken : (run : Run Leased) (old new : PlainIntake) (taken : Taken) (page : Option PlainReported) (unposted : Option Unposted) → first_page run ≡ page → PostsPage page (word_of old) unposted (word_of new)
+    → Spoken old.mail (part_of run taken) unposted new.mail
+spoken run old new taken None None is (none, same) =
+    record { said = []; mail = ap (λ w. w.mail) same; told = refl; pages = ap (λ (o : Option PlainReported). option_to_list o) (sym is) }
+spoken run old new taken None (Some fault) is (none, same) = let never : Some fault ≡ None = none in absurd cc
+spoken run old new taken (Some page) None is (number, posts, noted) =
+    record { said = SaysReported page ∷ []; mail = posts.done; told = refl; pages = ap (λ (o : Option PlainReported). option_to_list o) (sym is) }
+spoken run old new taken (Some page) (Some fault) is (never, posts, noted) = record { said = []; mail = posts.same; told = refl; pages = refl }
+
+-- the first of the hand leaves at its first offer, and never later
+fresh_part : (run : Run Leased) (taken : Taken) (offered : Bool) (first : Option Taken) → offered ≡ false → first ≡ Some taken → option_to_list (if offered then None else option_map (part_of run) first) ≡ part_of run taken ∷ []
+fresh_part run taken true first not_yet is = let never : true ≡ false = not_yet in absurd cc
+fresh_part run taken false first not_yet is = ap (λ (o : Option Taken). option_to_list (option_map (part_of run) o)) is
+
+no_part : (run : Run Leased) (offered : Bool) (first : Option Taken) → offered ≡ true → option_to_list (if offered then None else option_map (part_of run) first) ≡ []
+no_part run true first was = refl
+no_part run false first was = let never : false ≡ true = was in absurd cc
+
+pub offered_on : (run : Run Leased) (old : PlainNode) (parted : Option Parted) (was_given : Bool) (intake : PlainIntake) (notes : PlainNotes) → HandsOut run old.intake (handed.Offered parted was_given) intake
+    → notes ≡ fold after old.notes (map deed_for (option_to_list parted)) → GoesOn run old (record old { intake = intake; notes = notes })
+offered_on run old None was_given intake notes (only, ((again, same), offers)) heard =
+    record {
+      acts = LetsGo offers.answer offers.back ∷ [];
+      stands = offers.stands;
+      said = [];
+      mail = ap (λ w. w.mail) same;
+      told = append-nil (option_to_list old.intake.unsaid) ∙ ap (λ (d : PlainIntake). option_to_list d.unsaid) (sym only);
+      parted = [];
+      parts = subst (λ (l : List Part). AreParted (l ++ []) [] []) (sym (no_part run (was_offered run) (first_taken run) again)) refl;
+      came = [];
+      ends = refl;
+      heard = [];
+      notes = heard;
+      noted = tt;
+      gone = refl;
+    }
+offered_on run old (Some parted) was_given intake notes (only, ((fresh, (is_parted, posts)), offers)) heard =
+    let taken = is_parted.taken in
+    let word = spoken run old.intake intake taken (first_page run) parted.unposted refl posts in
+    let deeds = no_note parted.trace parted.left parted.unposted in
+    record {
+      acts = LetsGo offers.answer offers.back ∷ [];
+      stands = offers.stands;
+      said = word.said;
+      mail = word.mail;
+      told =
+          append-nil (option_to_list old.intake.unsaid) ∙ ap (λ (d : PlainIntake). option_to_list d.unsaid) (sym only)
+          ∙ ap (λ (l : List Told). l ++ option_to_list intake.unsaid) (sym word.told);
+      parted = parted ∷ [];
+      parts =
+          subst (λ (l : List Part). AreParted (l ++ []) (parted ∷ []) (filter_map page_of word.said)) (sym (fresh_part run taken (was_offered run) (first_taken run) fresh is_parted.first))
+          (is_parted.trace, (is_parted.left, ([], word.pages ∙ sym (append-nil (posted_of (part_of run taken) parted.unposted)), refl)));
+      came = [];
+      ends = refl;
+      heard = deed_for parted ∷ [];
+      notes = heard;
+      noted = subst (λ (l : List Deed). AreNotes [] l) (sym deeds.0) tt;
+      gone = deeds.1;
+    }
+
+pub stopped_on : (run : Run Leased) (old : PlainNode) (intake : PlainIntake) → Stands run old.intake → intake ≡ old.intake → GoesOn run old (record old { intake = intake })
+stopped_on run old intake stands same = subst (λ (d : PlainIntake). GoesOn run old (record old { intake = d })) (sym same) (on_nothing run old stands)
+
+-- ---- notes of segments
+
+note_alone : (client : ℕ) (segment : Segment) (state : SegmentState) → (filter is_note (note_if client segment state ∷ []) ≡ note_if client segment state ∷ []) × (filter is_part (note_if client segment state ∷ []) ≡ [])
+note_alone client segment Opened = (refl, refl)
+note_alone client segment (Closed counts) = (refl, refl)
+
+one_note : (client : ℕ) (segment : Segment) (deed : Deed) → IsNoteOf (client, segment) deed → (filter is_note (deed ∷ []) ≡ deed ∷ []) × (filter is_part (deed ∷ []) ≡ [])
+one_note client segment deed (inl is) =
+    subst (λ (d : Deed). (filter is_note (d ∷ []) ≡ d ∷ []) × (filter is_part (d ∷ []) ≡ [])) (sym is) (note_alone client segment segment.state)
+one_note client segment deed (inr is) = subst (λ (d : Deed). (filter is_note (d ∷ []) ≡ d ∷ []) × (filter is_part (d ∷ []) ≡ [])) (sym is) (refl, refl)
+
+pub came_one : (client : ℕ) (segment : Segment) (old new : List (Incoming Segment SegmentKey)) → ReceivesAt client old (Some segment) new → Receives client segment old new
+came_one client segment old new (r, s, at, is, same, received, begins) = record { before = r; later = s; at = at; new_is = is; same = same; received = received }
+
+pub hear_on : (run : Run Leased) (old : PlainNode) (client : ℕ) (segment : Segment) (ends : List (Incoming Segment SegmentKey)) (notes : PlainNotes) → Stands run old.intake
+    → ReceivesAt client old.segments (Some segment) ends → NotesIt old.notes client segment notes → GoesOn run old (record old { segments = ends; notes = notes })
+hear_on run old client segment ends notes stands receives (deed, is, heard) =
+    let alone = one_note client segment deed is in
+    record {
+      acts = [];
+      stands = stands;
+      said = [];
+      mail = refl;
+      told = append-nil (option_to_list old.intake.unsaid);
+      parted = [];
+      parts = refl;
+      came = (client, segment) ∷ [];
+      ends = (ends, came_one client segment old.segments ends receives, refl);
+      heard = deed ∷ [];
+      notes = heard;
+      noted = subst (λ (l : List Deed). AreNotes ((client, segment) ∷ []) l) (sym alone.0) (is, tt);
+      gone = alone.1;
+    }
+
+pub no_note_on : (run : Run Leased) (old : PlainNode) (client : ℕ) (ends : List (Incoming Segment SegmentKey)) → Stands run old.intake → ReceivesAt client old.segments None ends
+    → GoesOn run old (record old { segments = ends })
+no_note_on run old client ends stands (r, at, same, all) =
+    subst (λ (es : List (Incoming Segment SegmentKey)). GoesOn run old (record old { segments = es })) (sym same) (on_nothing run old stands)
+
+opened_if : (old new : PlainNotes) (client : ℕ) (segment : Segment) (gone : Bool) → segment.state ≡ Opened → new ≡ (if gone then missed old else opened old client segment.number segment.trace) → NotesIt old client segment new
+opened_if old new client segment true is heard = (Misses, inr refl, heard)
+opened_if old new client segment false is heard = (Opens client segment.number segment.trace, inl (ap (λ (s : SegmentState). note_if client segment s) (sym is)), heard)
+
+pub opened_so : {A E : Type 0} (old new : PlainNotes) (client : ℕ) (segment : Segment) (result : Result A E) → segment.state ≡ Opened → OnOk result (new ≡ after_opened old client segment.number segment.trace)
+    → OnErr result (new ≡ missed old) → NotesIt old client segment new
+opened_so old new client segment (Ok x) is done failed = opened_if old new client segment (nat_le old.limits.clients client) is done
+opened_so old new client segment (Err x) is done failed = (Misses, inr refl, failed)
+
+closed_if : (old new : PlainNotes) (client : ℕ) (segment : Segment) (counts : SegmentCounts) (gone : Bool) → segment.state ≡ Closed counts
+    → new ≡ (if gone then missed old else closed old client segment.number segment.trace (report_of counts)) → NotesIt old client segment new
+closed_if old new client segment counts true is heard = (Misses, inr refl, heard)
+closed_if old new client segment counts false is heard =
+    (Closes client segment.number segment.trace (report_of counts), inl (ap (λ (s : SegmentState). note_if client segment s) (sym is)), heard)
+
+pub closed_so : {A E : Type 0} (old new : PlainNotes) (client : ℕ) (segment : Segment) (counts : SegmentCounts) (result : Result A E) → segment.state ≡ Closed counts
+    → OnOk result (new ≡ after_closed old client segment.number segment.trace (report_of counts)) → OnErr result (new ≡ missed old) → NotesIt old client segment new
+closed_so old new client segment counts (Ok x) is done failed = closed_if old new client segment counts (nat_le old.limits.clients client) is done
+closed_so old new client segment counts (Err x) is done failed = (Misses, inr refl, failed)

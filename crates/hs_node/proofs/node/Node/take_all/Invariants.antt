@@ -1,0 +1,8 @@
+use Rattle.hs_ring.specs.Parts.{Leased}
+use Rattle.hs_agent.specs.Runs.{Run}
+use Rattle.hs_intake.specs.Intakes.{Stands}
+use Rattle.hs_node.specs.Nodes.{GoesOn}
+use Rattle.hs_node.proofs.node.Node.take_all.Given as goal
+
+abbrev pub invariant-loop-client : goal.invariant-loop-client
+invariant-loop-client l = (run : Run Leased) → Stands run l.initial.self.intake → GoesOn run l.initial.self l.self

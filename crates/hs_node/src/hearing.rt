@@ -1,0 +1,55 @@
+//! What a node hears of its segments, and of what became of their pages.
+
+ghost use Rattle.std.specs.Prelude.{◌≡◌, map, fold};
+ghost use Rattle.std.specs.Option.{option_to_list};
+ghost use Rattle.hs_whole.specs.History.{after};
+ghost use Rattle.hs_node.specs.Nodes.{NotesIt, report_of, deed_for};
+
+use hs_agent::Left;
+use hs_intake::Parted;
+use hs_node_client::{Segment, SegmentCounts, SegmentState};
+use hs_whole::{Loss, SegmentNotes, SegmentReport};
+
+/// What a client says of a segment at its end. No point is refused for want of a buffer.
+fn report_of(counts: &SegmentCounts) -> SegmentReport
+    ensures { result ≡ report_of counts.now }
+{
+    SegmentReport {
+        pages: counts.pages,
+        null_pages: counts.null_pages,
+        full_points: counts.full_points,
+        dry_points: 0,
+        long_points: counts.long_points,
+        spent_points: counts.spent_points,
+        refused_crumbs: counts.refused_crumbs,
+    }
+}
+
+/// Hears a note of a client, or that it was missed, where there was no memory for it.
+pub(crate) fn note(notes: &mut SegmentNotes, client: u16, segment: &Segment)
+    ensures { NotesIt notes.old client segment.now notes.new }
+{
+    match segment.state {
+        SegmentState::Opened => {
+            let _ = notes.opened(client, segment.number, segment.trace);
+        }
+        SegmentState::Closed(counts) => {
+            let report = report_of(&counts);
+            let _ = notes.closed(client, segment.number, segment.trace, &report);
+        }
+    }
+}
+
+/// Hears what became of a chunk that left, if this is its first offer.
+pub(crate) fn part(notes: &mut SegmentNotes, parted: &Option<Parted>)
+    ensures { notes.new ≡ fold after notes.old (map deed_for (option_to_list parted.now)) }
+{
+    let Some(parted) = parted else {
+        return;
+    };
+    match (parted.left, parted.unposted) {
+        (Left::Reported(_), None) => notes.handed_out(parted.trace),
+        (Left::Evicted { .. }, _) => notes.lost(parted.trace, Loss::EvictedPages, 1),
+        _ => notes.lost(parted.trace, Loss::AbandonedPages, 1),
+    }
+}

@@ -1,0 +1,266 @@
+//! The pass of a node.
+
+ghost use Rattle.std.specs.Prelude.{◌≡◌, true, false};
+ghost use Rattle.hs_ring.specs.Parts.{Leased};
+ghost use Rattle.hs_agent.specs.Runs.{Run, IsSpent};
+ghost use Rattle.hs_intake.specs.Intakes.{Stands};
+ghost use Rattle.hs_node.specs.Nodes.{GoesOn, GoesOnIf, OffersAs, PassesAs, is_unspent};
+
+use crate::hearing::{note, part};
+use crate::node::Node;
+use hs_base::limits::MAX_TAKEN;
+use hs_intake::{Handed, Stated, Turned, receive_at};
+
+/// How far a pass came.
+#[derive(Clone, Copy, Debug, PartialEq, Eq)]
+pub enum Passed {
+    /// It was made.
+    Done,
+    /// Memory was wanting, and the agent is spent.
+    Spent,
+}
+
+/// What became of the first of the hand.
+#[derive(Clone, Copy)]
+enum Offer {
+    Offered,
+    None,
+    Spent,
+}
+
+/// Whether a standing was said, or is no news.
+fn is_stated(stated: Stated) -> bool {
+    match stated {
+        Stated::Said | Stated::Known => true,
+        Stated::Waits(_) => false,
+    }
+}
+
+/// Whether the agent is not spent by a turn.
+fn is_unspent(turned: Turned) -> bool
+    ensures { result ≡ is_unspent turned }
+{
+    match turned {
+        Turned::Done | Turned::Full => true,
+        Turned::Spent => false,
+    }
+}
+
+impl Node {
+    /// Hears the next note of a client, if one has come.
+    fn hear(&mut self, client: u16) -> bool
+        ensures { (run : Run Leased) → Stands run self.old.intake → GoesOn run self.old self.new }
+    {
+        if client >= self.clients {
+            return false;
+        }
+        let Some(segment) = receive_at(&mut self.segments, client) else {
+            return false;
+        };
+        note(&mut self.notes, client, &segment);
+        true
+    }
+
+    /// Hears the notes of a client that have come, at most 64.
+    fn hear_all(&mut self, client: u16)
+        ensures { (run : Run Leased) → Stands run self.old.intake → GoesOn run self.old self.new }
+    {
+        for _ in 0..MAX_TAKEN {
+            if !self.hear(client) {
+                return;
+            }
+        }
+    }
+
+    /// The agent takes chunks of a client.
+    fn take_chunks(&mut self, client: u16)
+        ensures { (run : Run Leased) → Stands run self.old.intake → GoesOn run self.old self.new }
+    {
+        self.intake.chunks_of(client);
+    }
+
+    /// The agent takes crumbs of a client.
+    fn take_crumbs(&mut self, client: u16)
+        ensures { (run : Run Leased) → Stands run self.old.intake → GoesOn run self.old self.new }
+    {
+        self.intake.crumbs_of(client);
+    }
+
+    /// The agent takes crumbs of a client that are of traces that need not be open.
+    fn take_lates(&mut self, client: u16)
+        ensures { (run : Run Leased) → Stands run self.old.intake → GoesOn run self.old self.new }
+    {
+        self.intake.late_crumbs_of(client);
+    }
+
+    /// The agent takes triggers of a client.
+    fn take_triggers(&mut self, client: u16)
+        ensures { (run : Run Leased) → Stands run self.old.intake → GoesOn run self.old self.new }
+    {
+        self.intake.triggers_of(client);
+    }
+
+    /// The agent takes asks.
+    fn take_asks(&mut self)
+        ensures { (run : Run Leased) → Stands run self.old.intake → GoesOn run self.old self.new }
+    {
+        self.intake.take_asks();
+    }
+
+    /// Says what waits to be said.
+    fn say(&mut self)
+        ensures { (run : Run Leased) → Stands run self.old.intake → GoesOn run self.old self.new }
+    {
+        self.intake.say();
+    }
+
+    /// The agent takes what waits at the front.
+    fn take_back(&mut self)
+        ensures { (run : Run Leased) → Stands run self.old.intake → GoesOn run self.old self.new }
+    {
+        self.intake.take_back();
+    }
+
+    /// Takes what a client sent, its notes first.
+    fn take_from(&mut self, client: u16)
+        ensures { (run : Run Leased) → Stands run self.old.intake → GoesOn run self.old self.new }
+    {
+        self.hear_all(client);
+        self.take_chunks(client);
+        self.take_crumbs(client);
+        self.take_lates(client);
+        self.take_triggers(client);
+    }
+
+    /// Takes what the clients sent, one after another.
+    fn take_all(&mut self)
+        ensures { (run : Run Leased) → Stands run self.old.intake → GoesOn run self.old self.new }
+    {
+        for client in 0..self.clients {
+            self.take_from(client);
+        }
+    }
+
+    /// Makes a fair turn, if the mail has a place for each chunk that is pinned. Answers whether the agent is not spent.
+    fn turn(&mut self) -> bool
+        ensures { (run : Run Leased) → Stands run self.old.intake → GoesOnIf run result self.old self.new }
+    {
+        let turned = self.intake.turn();
+        is_unspent(turned)
+    }
+
+    /// Offers the first of the hand to the pool.
+    fn offer(&mut self) -> Offer
+        ensures { (run : Run Leased) → Stands run self.old.intake → OffersAs run result self.old self.new }
+    {
+        match self.intake.hand_out() {
+            Handed::Empty => Offer::None,
+            Handed::Waits(_) => Offer::None,
+            Handed::Spent => Offer::Spent,
+            Handed::Offered { parted, .. } => {
+                part(&mut self.notes, &parted);
+                Offer::Offered
+            }
+        }
+    }
+
+    /// Offers the chunks of the hand, at most as many as there are at first.
+    fn offer_all(&mut self) -> bool
+        ensures { (run : Run Leased) → Stands run self.old.intake → GoesOnIf run result self.old self.new }
+    {
+        for _ in 0..self.intake.in_hand() {
+            match self.offer() {
+                Offer::Offered => {}
+                Offer::None => return true,
+                Offer::Spent => return false,
+            }
+        }
+        true
+    }
+
+    /// Says how the node stands to the claim that is looked at, if that is news. Answers whether the next one may be looked at.
+    fn state(&mut self) -> bool
+        ensures { (run : Run Leased) → Stands run self.old.intake → GoesOn run self.old self.new }
+    {
+        let Some(claim) = self.intake.claims().current().copied() else {
+            return false;
+        };
+        let standing = self.notes.standing(claim.trace, claim.group);
+        is_stated(self.intake.state(&standing))
+    }
+
+    /// Looks at the next claim.
+    fn look_on(&mut self)
+        ensures { (run : Run Leased) → Stands run self.old.intake → GoesOn run self.old self.new }
+    {
+        self.intake.look_on();
+    }
+
+    /// Says what is news of the next claims, at most 64, while no chunk is in the hand.
+    fn state_all(&mut self)
+        ensures { (run : Run Leased) → Stands run self.old.intake → GoesOn run self.old self.new }
+    {
+        if self.intake.in_hand() != 0 {
+            return;
+        }
+        for _ in 0..MAX_TAKEN {
+            if !self.state() {
+                return;
+            }
+            self.look_on();
+        }
+    }
+
+    /// Whether more claims are kept than the limit says.
+    fn is_above(&self) -> bool {
+        self.intake.claims().is_above(self.limit)
+    }
+
+    /// Forgets the group that claimed first, if it is settled.
+    fn forget(&mut self) -> bool
+        ensures { (run : Run Leased) → Stands run self.old.intake → GoesOn run self.old self.new }
+    {
+        self.intake.forget_oldest()
+    }
+
+    /// Forgets the groups that claimed first and are settled, at most 64, while more claims are kept than the limit says.
+    fn forget_all(&mut self)
+        ensures { (run : Run Leased) → Stands run self.old.intake → GoesOn run self.old self.new }
+    {
+        for _ in 0..MAX_TAKEN {
+            if !self.is_above() {
+                return;
+            }
+            if !self.forget() {
+                return;
+            }
+        }
+    }
+
+    /// Takes what waits at the front, then what the clients sent and what the hub asks.
+    fn take(&mut self)
+        ensures { (run : Run Leased) → Stands run self.old.intake → GoesOn run self.old self.new }
+    {
+        self.say();
+        self.take_back();
+        self.take_all();
+        self.take_asks();
+    }
+
+    /// Makes a pass: takes what waits at the front, of each client its notes, chunks, crumbs and triggers, and what the hub asks; makes a
+    /// turn; offers the hand to the pool; says what is news of claims; forgets settled groups.
+    pub fn pass(&mut self) -> Passed
+        ensures { (run : Run Leased) → Stands run self.old.intake → PassesAs run result self.old self.new }
+    {
+        self.take();
+        if !self.turn() {
+            return Passed::Spent;
+        }
+        if !self.offer_all() {
+            return Passed::Spent;
+        }
+        self.state_all();
+        self.forget_all();
+        Passed::Done
+    }
+}
