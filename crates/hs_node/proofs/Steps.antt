@@ -23,8 +23,8 @@ use Rattle.hs_agent.specs.declared.hand.Left.{Left}
 use Rattle.hs_agent.specs.declared.hand.Left.TheVariants.{Reported, Evicted, Abandoned}
 use Rattle.hs_base.specs.declared.ids.TraceId.{TraceId}
 use Rattle.hs_node_client.specs.declared.segment.SegmentCounts.{SegmentCounts}
-use Rattle.hs_whole.specs.Notes.{PlainNotes, missed, opened, closed, after_opened, after_closed}
-use Rattle.hs_whole.specs.History.{Deed, Opens, Closes, Misses, after}
+use Rattle.hs_whole.specs.Notes.{PlainNotes, missed, searched, finds_place, opened, closed, after_opened, after_closed}
+use Rattle.hs_whole.specs.History.{Deed, Opens, Closes, Misses, Drops, after}
 use Rattle.hs_intake.specs.declared.took.Took.{Took}
 use Rattle.hs_intake.specs.declared.took.TookTriggers.{TookTriggers}
 use Rattle.hs_intake.specs.declared.took.Turned.{Turned}
@@ -254,7 +254,8 @@ note_alone client segment (Closed counts) = (refl, refl)
 one_note : (client : ℕ) (segment : Segment) (deed : Deed) → IsNoteOf (client, segment) deed → (filter is_note (deed ∷ []) ≡ deed ∷ []) × (filter is_part (deed ∷ []) ≡ [])
 one_note client segment deed (inl is) =
     subst (λ (d : Deed). (filter is_note (d ∷ []) ≡ d ∷ []) × (filter is_part (d ∷ []) ≡ [])) (sym is) (note_alone client segment segment.state)
-one_note client segment deed (inr is) = subst (λ (d : Deed). (filter is_note (d ∷ []) ≡ d ∷ []) × (filter is_part (d ∷ []) ≡ [])) (sym is) (refl, refl)
+one_note client segment deed (inr (inl is)) = subst (λ (d : Deed). (filter is_note (d ∷ []) ≡ d ∷ []) × (filter is_part (d ∷ []) ≡ [])) (sym is) (refl, refl)
+one_note client segment deed (inr (inr is)) = subst (λ (d : Deed). (filter is_note (d ∷ []) ≡ d ∷ []) × (filter is_part (d ∷ []) ≡ [])) (sym is) (refl, refl)
 
 pub came_one : (client : ℕ) (segment : Segment) (old new : List (Incoming Segment SegmentKey)) → ReceivesAt client old (Some segment) new → Receives client segment old new
 came_one client segment old new (r, s, at, is, same, received, begins) = record { before = r; later = s; at = at; new_is = is; same = same; received = received }
@@ -284,22 +285,25 @@ pub no_note_on : (run : Run Leased) (old : PlainNode) (client : ℕ) (ends : Lis
 no_note_on run old client ends stands (r, at, same, all) =
     subst (λ (es : List (Incoming Segment SegmentKey)). GoesOn run old (record old { segments = es })) (sym same) (on_nothing run old stands)
 
-opened_if : (old new : PlainNotes) (client : ℕ) (segment : Segment) (gone : Bool) → segment.state ≡ Opened → new ≡ (if gone then missed old else opened old client segment.number segment.trace) → NotesIt old client segment new
-opened_if old new client segment true is heard = (Misses, inr refl, heard)
-opened_if old new client segment false is heard = (Opens client segment.number segment.trace, inl (ap (λ (s : SegmentState). note_if client segment s) (sym is)), heard)
+opened_if : (old new : PlainNotes) (client : ℕ) (segment : Segment) (gone found : Bool) → segment.state ≡ Opened
+    → new ≡ (if gone then missed old else if found then opened (searched old segment.trace) client segment.number segment.trace else missed (searched old segment.trace)) → NotesIt old client segment new
+opened_if old new client segment true found is heard = (Misses, inr (inl refl), heard)
+opened_if old new client segment false true is heard = (Opens client segment.number segment.trace, inl (ap (λ (s : SegmentState). note_if client segment s) (sym is)), heard)
+opened_if old new client segment false false is heard = (Drops segment.trace, inr (inr refl), heard)
 
 pub opened_so : {A E : Type 0} (old new : PlainNotes) (client : ℕ) (segment : Segment) (result : Result A E) → segment.state ≡ Opened → OnOk result (new ≡ after_opened old client segment.number segment.trace)
-    → OnErr result (new ≡ missed old) → NotesIt old client segment new
-opened_so old new client segment (Ok x) is done failed = opened_if old new client segment (nat_le old.limits.clients client) is done
-opened_so old new client segment (Err x) is done failed = (Misses, inr refl, failed)
+    → OnErr result (new ≡ missed (searched old segment.trace)) → NotesIt old client segment new
+opened_so old new client segment (Ok x) is done failed = opened_if old new client segment (nat_le old.limits.clients client) (finds_place old segment.trace) is done
+opened_so old new client segment (Err x) is done failed = (Drops segment.trace, inr (inr refl), failed)
 
-closed_if : (old new : PlainNotes) (client : ℕ) (segment : Segment) (counts : SegmentCounts) (gone : Bool) → segment.state ≡ Closed counts
-    → new ≡ (if gone then missed old else closed old client segment.number segment.trace (report_of counts)) → NotesIt old client segment new
-closed_if old new client segment counts true is heard = (Misses, inr refl, heard)
-closed_if old new client segment counts false is heard =
+closed_if : (old new : PlainNotes) (client : ℕ) (segment : Segment) (counts : SegmentCounts) (gone found : Bool) → segment.state ≡ Closed counts
+    → new ≡ (if gone then missed old else if found then closed (searched old segment.trace) client segment.number segment.trace (report_of counts) else missed (searched old segment.trace)) → NotesIt old client segment new
+closed_if old new client segment counts true found is heard = (Misses, inr (inl refl), heard)
+closed_if old new client segment counts false true is heard =
     (Closes client segment.number segment.trace (report_of counts), inl (ap (λ (s : SegmentState). note_if client segment s) (sym is)), heard)
+closed_if old new client segment counts false false is heard = (Drops segment.trace, inr (inr refl), heard)
 
 pub closed_so : {A E : Type 0} (old new : PlainNotes) (client : ℕ) (segment : Segment) (counts : SegmentCounts) (result : Result A E) → segment.state ≡ Closed counts
-    → OnOk result (new ≡ after_closed old client segment.number segment.trace (report_of counts)) → OnErr result (new ≡ missed old) → NotesIt old client segment new
-closed_so old new client segment counts (Ok x) is done failed = closed_if old new client segment counts (nat_le old.limits.clients client) is done
-closed_so old new client segment counts (Err x) is done failed = (Misses, inr refl, failed)
+    → OnOk result (new ≡ after_closed old client segment.number segment.trace (report_of counts)) → OnErr result (new ≡ missed (searched old segment.trace)) → NotesIt old client segment new
+closed_so old new client segment counts (Ok x) is done failed = closed_if old new client segment counts (nat_le old.limits.clients client) (finds_place old segment.trace) is done
+closed_so old new client segment counts (Err x) is done failed = (Drops segment.trace, inr (inr refl), failed)

@@ -23,7 +23,7 @@ use Rattle.hs_node_client.specs.declared.segment.SegmentState.TheVariants.{Opene
 use Rattle.hs_whole.specs.declared.answers.SegmentReport.{SegmentReport}
 use Rattle.hs_whole.specs.declared.answers.Loss.TheVariants.{EvictedPages, AbandonedPages}
 use Rattle.hs_whole.specs.Notes.{PlainNotes}
-use Rattle.hs_whole.specs.History.{Deed, Opens, Closes, Loses, HandsOut, Misses, after}
+use Rattle.hs_whole.specs.History.{Deed, Opens, Closes, Loses, HandsOut, Misses, Drops, after}
 use Rattle.hs_mail.specs.declared.mail.Unposted.{Unposted}
 use Rattle.hs_intake.specs.declared.took.Parted.{Parted}
 use Rattle.hs_intake.specs.Intakes.{PlainIntake, Act, TakesChunk, TakesCrumb, TakesTrigger, TakesAsk, Turns, LetsGo, Forgets, after_act, life, told_in, Stands}
@@ -127,14 +127,14 @@ note_if client segment (Closed counts) = Closes client segment.number segment.tr
 abbrev pub note_of : ℕ → Segment → Deed
 note_of client segment = note_if client segment segment.state
 
--- It is heard, or missed.
+-- It is heard, or missed, or dropped.
 abbrev pub IsNoteOf : ℕ × Segment → Deed → Type 0
-IsNoteOf came deed = (deed ≡ note_of came.0 came.1) ⊎ (deed ≡ Misses)
+IsNoteOf came deed = (deed ≡ note_of came.0 came.1) ⊎ ((deed ≡ Misses) ⊎ (deed ≡ Drops came.1.trace))
 
 abbrev pub NotesIt : PlainNotes → ℕ → Segment → PlainNotes → Type 0
 NotesIt old client segment new = (deed : Deed) × IsNoteOf (client, segment) deed × (new ≡ after old deed)
 
--- Each of these notes of clients is heard, or missed.
+-- Each of these notes of clients is heard, or missed, or dropped.
 abbrev pub AreNotes : List (ℕ × Segment) → List Deed → Type 0
 AreNotes [] [] = Unit {0}
 AreNotes [] (deed ∷ deeds) = ⊥
@@ -158,6 +158,7 @@ is_note (Closes client number trace report) = true
 is_note (Loses trace loss count) = false
 is_note (HandsOut trace) = false
 is_note Misses = true
+is_note (Drops trace) = true
 
 abbrev pub is_part : Deed → Bool
 is_part (Opens client number trace) = false
@@ -165,6 +166,7 @@ is_part (Closes client number trace report) = false
 is_part (Loses trace loss count) = true
 is_part (HandsOut trace) = true
 is_part Misses = false
+is_part (Drops trace) = false
 
 -- The end of the client with this number received this note, and all other ends are as they were.
 pub record Receives (client : ℕ) (segment : Segment) (old new : List (Incoming Segment SegmentKey)) : Type 0 where
@@ -197,7 +199,7 @@ pub record GoesOn (run : Run Leased) (old new : PlainNode) : Type 0 where
   -- these notes of clients came
   pub came : List (ℕ × Segment)
   pub ends : Came came old.segments new.segments
-  -- what is heard: each note, or that it was missed, and what became of each chunk that left
+  -- what is heard: each note, or that it was missed or dropped, and what became of each chunk that left
   pub heard : List Deed
   pub notes : new.notes ≡ fold after old.notes heard
   pub noted : AreNotes came (filter is_note heard)

@@ -9,7 +9,7 @@ use Rattle.hs_whole.specs.declared.kept.Kept.{Kept}
 use Rattle.hs_whole.specs.Tracks.{no_notes, is_open}
 use Rattle.hs_whole.specs.Kept.{wholeness}
 use Rattle.hs_whole.specs.Notes.{AreOut, no_notes_in, kept_of, open_segments, wholeness_of}
-use Rattle.hs_whole.specs.History.{Deed, Opens, Closes, Loses, HandsOut, Misses, Waits, IsOfClient, AreOfClients, HavePlaces, notes_after, opens, segments, hands_out, handed_out_of, IsWholeSince}
+use Rattle.hs_whole.specs.History.{Deed, Opens, Closes, Loses, HandsOut, Misses, Drops, IsOfClient, AreOfClients, HavePlaces, notes_after, opens, segments, hands_out, handed_out_of, IsWholeSince}
 use Rattle.hs_whole.proofs.Standings.{most, IsKept, Stands, all_announced}
 use Rattle.hs_whole.proofs.Steps.{IsLike, none_open_at, any_deed, like_after}
 
@@ -21,7 +21,7 @@ opens_one (Closes client number trace report) = omega arith
 opens_one (Loses trace loss count) = omega arith
 opens_one (HandsOut trace) = omega arith
 opens_one Misses = omega arith
-opens_one (Waits trace) = omega arith
+opens_one (Drops trace) = omega arith
 
 segments_few : (deeds : List Deed) → segments deeds ≤ length deeds
 segments_few [] = omega arith
@@ -37,7 +37,7 @@ hands_one trace (Closes client number other report) = omega arith
 hands_one trace (Loses other loss count) = omega arith
 hands_one trace (HandsOut other) = if_one _
 hands_one trace Misses = omega arith
-hands_one trace (Waits other) = omega arith
+hands_one trace (Drops other) = omega arith
 
 handed_few : (trace : TraceId) (deeds : List Deed) → handed_out_of trace deeds ≤ length deeds
 handed_few trace [] = omega arith

@@ -6,7 +6,7 @@ use Rattle.hs_lists.proofs.Bools.{first_true, second_true}
 use Rattle.hs_base.specs.declared.ids.TraceId.{TraceId}
 use Rattle.hs_whole.specs.declared.kept.Kept.{Kept}
 use Rattle.hs_whole.specs.Kept.{fresh, misses, is_settled}
-use Rattle.hs_whole.specs.History.{Deed, Opens, Closes, Loses, HandsOut, Misses, Waits, opens, opens_of, segments, latest_of, has_segment, sends, sent_of, announces, announced_of, hands_out, handed_out_of, lets_go, let_go_of, track_after, loses_some, is_lost_in, IsInOrder, AreInOrder, IsOver}
+use Rattle.hs_whole.specs.History.{Deed, Opens, Closes, Loses, HandsOut, Misses, Drops, opens, opens_of, segments, latest_of, has_segment, sends, sent_of, announces, announced_of, hands_out, handed_out_of, lets_go, let_go_of, track_after, loses_some, is_lost_in, IsInOrder, AreInOrder, IsOver}
 use Rattle.hs_whole.specs.Tracks.{is_open, ends_next}
 use Rattle.hs_base.specs.Ids.{same_trace}
 use Rattle.hs_whole.specs.declared.answers.SegmentReport.{SegmentReport}
@@ -286,4 +286,4 @@ all_announced trace (deed ∷ later) earlier order =
     by_deed (Loses other loss count) order = refl
     by_deed (HandsOut other) order = refl
     by_deed Misses order = refl
-    by_deed (Waits other) order = refl
+    by_deed (Drops other) order = refl

@@ -16,7 +16,7 @@ use Rattle.hs_whole.specs.declared.kept.Kept.{Kept}
 use Rattle.hs_whole.specs.Tracks.{no_notes, is_open, begins_next, ends_next, begun, ended}
 use Rattle.hs_whole.specs.Kept.{more, counted, is_settled, fresh, misses, begins, ends, loses, goes_out, reports_loss}
 use Rattle.hs_whole.specs.Notes.{PlainNotes, track_of, kept_of, missed_open, checked, moved_horizon, is_over, has_place, looked, searched, finds_place, remembered, remembered_as, with_kept, opened, closed, after_lost, after_handed_out}
-use Rattle.hs_whole.specs.History.{Deed, Opens, Closes, Loses, HandsOut, Misses, Waits, after, IsOfClient, segments, latest_of, hands_out, announces, lets_go, pages_in, track_after, HasPlace, IsOver}
+use Rattle.hs_whole.specs.History.{Deed, Opens, Closes, Loses, HandsOut, Misses, Drops, after, IsOfClient, segments, latest_of, hands_out, announces, lets_go, pages_in, track_after, HasPlace, IsOver}
 use Rattle.hs_whole.proofs.Looking.{found, same-true, same-refl, found-with_same, found-with_other, length-with, found-promoted, length-promoted, IsLast, dropped, length-take_few, there_below}
 use Rattle.hs_whole.proofs.Standings.{most, IsKept, Stands, raised, presented, doubts, freshly, kept_pending, with_deed, aside, over_now}
 use Rattle.hs_whole.proofs.Searching.{reordered_searched}
@@ -519,10 +519,13 @@ any_deed limits deeds s like (HandsOut other) trace low place bound stands =
 any_deed limits deeds s like Misses trace low place bound stands =
     aside trace Misses deeds s.heard (kept_of s trace) (record { opens = refl; sends = λ ds. refl; hands_out = refl; goes = refl; loses = refl; closed = λ client ds none. none }) (λ k is off. tt)
     (subst (λ n. Stands false false trace deeds n (kept_of s trace)) (sym like.heard) (presented false false trace deeds s.horizon (kept_of s trace) stands))
-any_deed limits deeds s like (Waits other) trace low place bound stands =
-    aside trace (Waits other) deeds (searched s other).horizon (kept_of (searched s other) trace)
+any_deed limits deeds s like (Drops other) trace low place bound stands =
+    let there = searched s other in
+    let found = like_searched limits deeds s other like in
+    aside trace (Drops other) deeds there.heard (kept_of there trace)
     (record { opens = refl; sends = λ ds. refl; hands_out = refl; goes = refl; loses = refl; closed = λ client ds none. none }) (λ k is off. tt)
-    (stands_searched trace other deeds s stands)
+    (subst (λ n. Stands false false trace deeds n (kept_of there trace)) (sym found.heard)
+    (presented false false trace deeds there.horizon (kept_of there trace) (stands_searched trace other deeds s stands)))
 
 -- ---- and the node after it
 
@@ -586,7 +589,7 @@ like_after limits deeds s like (Opens client number trace) low bound =
 like_after limits deeds s like (Closes client number trace report) low bound =
     like_closed limits deeds (searched s trace) (like_searched limits deeds s trace like) client number trace report
     (subst (λ (l : NoteLimits). client < l.clients) (sym (reordered_searched s trace).limits) low)
-like_after limits deeds s like (Waits trace) low bound =
+like_after limits deeds s like (Drops trace) low bound =
     let found = like_searched limits deeds s trace like in
     record { limits = found.limits; some = found.some; few = found.few; clients = found.clients; heard = (let same = found.heard in omega (arith, same)); tracks = found.tracks }
 like_after limits deeds s like (Loses trace loss count) low bound = record {

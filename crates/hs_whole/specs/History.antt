@@ -1,5 +1,5 @@
--- What a node heard, as a list of deeds, the latest one first, and what may be said of a trace then. A deed of a client that is not
--- there, and one for which there was no memory, is a missed one. A note that found no place may come again.
+-- What a node heard, as a list of deeds, the latest one first, and what may be said of a trace then. A note of a client that is not
+-- there is a missed one. One for which there was no memory, or no place, is dropped: it is missed, after a place was sought for its trace.
 use Rattle.std.specs.Prelude.{◌≡◌, ℕ, ◌+◌, ◌<◌, ◌≤◌, Bool, true, false, not, ◌&&◌, ◌||◌, ◌==◌, List, [], ◌∷◌, ◌++◌, if◌then◌else◌, refl}
 use Rattle.hs_base.specs.declared.ids.TraceId.{TraceId}
 use Rattle.hs_base.specs.Ids.{same_trace}
@@ -19,7 +19,7 @@ pub data Deed : Type 0 where
   Loses : (trace : TraceId) → (loss : Loss) → (count : ℕ) → Deed
   HandsOut : (trace : TraceId) → Deed
   Misses : Deed
-  Waits : (trace : TraceId) → Deed
+  Drops : (trace : TraceId) → Deed
 
 abbrev pub after : PlainNotes → Deed → PlainNotes
 after s (Opens client number trace) = opened (searched s trace) client number trace
@@ -27,7 +27,7 @@ after s (Closes client number trace report) = closed (searched s trace) client n
 after s (Loses trace loss count) = after_lost s trace loss count
 after s (HandsOut trace) = after_handed_out s trace
 after s Misses = missed s
-after s (Waits trace) = searched s trace
+after s (Drops trace) = missed (searched s trace)
 
 -- the notes after these deeds
 abbrev pub notes_after : NoteLimits → List Deed → PlainNotes
@@ -43,7 +43,7 @@ IsOfClient clients (Closes client number trace report) = client < clients
 IsOfClient clients (Loses trace loss count) = Unit {0}
 IsOfClient clients (HandsOut trace) = Unit {0}
 IsOfClient clients Misses = Unit {0}
-IsOfClient clients (Waits trace) = Unit {0}
+IsOfClient clients (Drops trace) = Unit {0}
 
 abbrev pub AreOfClients : ℕ → List Deed → Type 0
 AreOfClients clients [] = Unit {0}
@@ -56,7 +56,7 @@ HasPlace s (Closes client number trace report) = finds_place s trace ≡ true
 HasPlace s (Loses trace loss count) = Unit {0}
 HasPlace s (HandsOut trace) = Unit {0}
 HasPlace s Misses = Unit {0}
-HasPlace s (Waits trace) = Unit {0}
+HasPlace s (Drops trace) = Unit {0}
 
 abbrev pub HavePlaces : NoteLimits → List Deed → Type 0
 HavePlaces limits [] = Unit {0}
@@ -69,7 +69,7 @@ opens (Closes client number trace report) = 0
 opens (Loses trace loss count) = 0
 opens (HandsOut trace) = 0
 opens Misses = 0
-opens (Waits trace) = 0
+opens (Drops trace) = 0
 
 abbrev pub opens_of : TraceId → Deed → Bool
 opens_of trace (Opens client number other) = same_trace trace other
@@ -77,7 +77,7 @@ opens_of trace (Closes client number other report) = false
 opens_of trace (Loses other loss count) = false
 opens_of trace (HandsOut other) = false
 opens_of trace Misses = false
-opens_of trace (Waits other) = false
+opens_of trace (Drops other) = false
 
 -- how many segments began
 abbrev pub segments : List Deed → ℕ
@@ -101,7 +101,7 @@ sends trace (Closes client number other report) = if same_trace trace other then
 sends trace (Loses other loss count) = 0
 sends trace (HandsOut other) = 0
 sends trace Misses = 0
-sends trace (Waits other) = 0
+sends trace (Drops other) = 0
 
 abbrev pub sent_of : TraceId → List Deed → ℕ
 sent_of trace [] = 0
@@ -114,7 +114,7 @@ hands_out trace (Closes client number other report) = 0
 hands_out trace (Loses other loss count) = 0
 hands_out trace (HandsOut other) = if same_trace trace other then 1 else 0
 hands_out trace Misses = 0
-hands_out trace (Waits other) = 0
+hands_out trace (Drops other) = 0
 
 abbrev pub handed_out_of : TraceId → List Deed → ℕ
 handed_out_of trace [] = 0
@@ -127,7 +127,7 @@ loses_some trace (Closes client number other report) = same_trace trace other &&
 loses_some trace (Loses other loss count) = same_trace trace other && not (count == 0)
 loses_some trace (HandsOut other) = false
 loses_some trace Misses = false
-loses_some trace (Waits other) = false
+loses_some trace (Drops other) = false
 
 abbrev pub is_lost_in : TraceId → List Deed → Bool
 is_lost_in trace [] = false
@@ -141,7 +141,7 @@ track_after client (Closes other number trace report ∷ deeds) = if other == cl
 track_after client (Loses trace loss count ∷ deeds) = track_after client deeds
 track_after client (HandsOut trace ∷ deeds) = track_after client deeds
 track_after client (Misses ∷ deeds) = track_after client deeds
-track_after client (Waits trace ∷ deeds) = track_after client deeds
+track_after client (Drops trace ∷ deeds) = track_after client deeds
 
 -- the pages that a segment's end says were sent of the trace, where it is its client's next note
 abbrev pub announces : TraceId → Deed → List Deed → ℕ
@@ -150,7 +150,7 @@ announces trace (Closes client number other report) deeds = if same_trace trace 
 announces trace (Loses other loss count) deeds = 0
 announces trace (HandsOut other) deeds = 0
 announces trace Misses deeds = 0
-announces trace (Waits other) deeds = 0
+announces trace (Drops other) deeds = 0
 
 abbrev pub announced_of : TraceId → List Deed → ℕ
 announced_of trace [] = 0
@@ -169,7 +169,7 @@ lets_go trace (Closes client number other report) = 0
 lets_go trace (Loses other loss count) = if same_trace trace other then pages_in loss count else 0
 lets_go trace (HandsOut other) = 0
 lets_go trace Misses = 0
-lets_go trace (Waits other) = 0
+lets_go trace (Drops other) = 0
 
 abbrev pub let_go_of : TraceId → List Deed → ℕ
 let_go_of trace [] = 0
@@ -183,7 +183,7 @@ IsInOrder trace (Closes client number other report) deeds = (is_open trace (trac
 IsInOrder trace (Loses other loss count) deeds = Unit {0}
 IsInOrder trace (HandsOut other) deeds = Unit {0}
 IsInOrder trace Misses deeds = Unit {0}
-IsInOrder trace (Waits other) deeds = Unit {0}
+IsInOrder trace (Drops other) deeds = Unit {0}
 
 -- each of the later deeds is so, behind those before it
 abbrev pub AreInOrder : TraceId → List Deed → List Deed → Type 0

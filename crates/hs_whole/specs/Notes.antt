@@ -139,10 +139,10 @@ closed s client number trace report = ended_in (checked (remembered s trace true
 
 -- a note of a client that is not there is a missed one, and one that finds no place may come again
 abbrev pub after_opened : PlainNotes → ℕ → ℕ → TraceId → PlainNotes
-after_opened s client number trace = if nat_le s.limits.clients client then missed s else if finds_place s trace then opened (searched s trace) client number trace else searched s trace
+after_opened s client number trace = if nat_le s.limits.clients client then missed s else if finds_place s trace then opened (searched s trace) client number trace else missed (searched s trace)
 
 abbrev pub after_closed : PlainNotes → ℕ → ℕ → TraceId → SegmentReport → PlainNotes
-after_closed s client number trace report = if nat_le s.limits.clients client then missed s else if finds_place s trace then closed (searched s trace) client number trace report else searched s trace
+after_closed s client number trace report = if nat_le s.limits.clients client then missed s else if finds_place s trace then closed (searched s trace) client number trace report else missed (searched s trace)
 
 -- ---- what becomes of pages and crumbs
 
@@ -225,9 +225,9 @@ waits : (answer_of full 0 (t 7) ≡ noting.Full) × (answer_of (after_handed_out
 unfolding looked
 waits = (refl, refl, refl, refl)
 
-nothing_changes : ((after_opened full 0 2 (t 7)).heard ≡ 2) × ((after_opened full 0 2 (t 7)).horizon ≡ 0) × (wholeness_of (after_opened full 0 2 (t 7)) (t 9) ≡ Unknown) × (wholeness_of (after_opened full 0 2 (t 7)) (t 7) ≡ UnheardSince)
+is_missed : ((after_opened full 0 2 (t 7)).heard ≡ 2) × ((after_opened full 0 2 (t 7)).horizon ≡ 2) × (wholeness_of (after_opened full 0 2 (t 7)) (t 9) ≡ Unknown) × (wholeness_of (after_opened full 0 2 (t 7)) (t 7) ≡ UnheardSince)
 unfolding looked
-nothing_changes = (refl, refl, refl, refl)
+is_missed = (refl, refl, refl, refl)
 
 -- there is no client 2
 no_such_client : (answer_of none 2 (t 9) ≡ noting.Refused) × ((after_opened whole_9 2 0 (t 9)).horizon ≡ 1)

@@ -35,8 +35,8 @@ pub enum Noted {
     Kept,
     /// It is of a client that is not there.
     Refused,
-    /// As many traces are kept as may be, and of each that was looked at a segment is open or pages are to come. The note may come
-    /// again.
+    /// As many traces are kept as may be, and of each that was looked at a segment is open or pages are to come. The note counts as
+    /// missed.
     Full,
 }
 

@@ -263,9 +263,9 @@ impl SegmentNotes {
         Ok(())
     }
 
-    /// Hears that a client begins a segment of a trace, by a note of this number. After `Refused`, and after `Memory`, the
-    /// horizon has moved to the count of all segments that were heard. After `Full`, and after `Memory`, traces may stand in
-    /// another order. Nothing else changed.
+    /// Hears that a client begins a segment of a trace, by a note of this number. After `Refused`, after
+    /// `Full`, and after `Memory`, the horizon has moved to the count of all segments that were heard; after the last two traces may
+    /// stand in another order. Nothing else changed.
     pub fn opened(&mut self, client: u16, number: u64, trace: TraceId) -> Result<Noted, Memory>
         ensures answer { IfOk result (λ noted. noted ≡ answer_of self.old client trace) }
         ensures after { OnOk result (self.new ≡ after_opened self.old client number trace) }
@@ -276,6 +276,7 @@ impl SegmentNotes {
             return Ok(Noted::Refused);
         }
         if !self.search(trace) {
+            self.miss();
             return Ok(Noted::Full);
         }
         match self.open_segment(client, number, trace) {
@@ -287,9 +288,9 @@ impl SegmentNotes {
         }
     }
 
-    /// Hears that a client ends a segment of a trace, by a note of this number, and what it says of it. After `Refused`, and
-    /// after `Memory`, the horizon has moved to the count of all segments that were heard. After `Full`, and after `Memory`,
-    /// traces may stand in another order. Nothing else changed.
+    /// Hears that a client ends a segment of a trace, by a note of this number, and what it says of it. After `Refused`,
+    /// after `Full`, and after `Memory`, the horizon has moved to the count of all segments that were heard; after the last two traces
+    /// may stand in another order. Nothing else changed.
     pub fn closed(
         &mut self,
         client: u16,
@@ -306,6 +307,7 @@ impl SegmentNotes {
             return Ok(Noted::Refused);
         }
         if !self.search(trace) {
+            self.miss();
             return Ok(Noted::Full);
         }
         match self.close_segment(client, number, trace, report) {

@@ -1,7 +1,7 @@
 //! The claims of a node with four places: groups that claim all their traces or none, what is said of each, and which group is forgotten.
 
 use crate::rows::row;
-use hs_base::{GroupId, Laterals, Memory, TraceId};
+use hs_base::{Group, GroupId, Laterals, Memory, TraceId, TriggerId};
 use hs_claimed::{Claimant, ClaimedTraces, Claiming};
 use hs_wire::{Losses, Standing, Wholeness};
 use std::alloc::Global;
@@ -48,10 +48,19 @@ fn standing(group: GroupId, trace: TraceId, horizon: u64, pages: u64) -> Standin
     }
 }
 
+/// The group of this id, of trigger id 1, with this lead.
+fn led(id: GroupId, lead: TraceId) -> Group {
+    Group {
+        id,
+        trigger: TriggerId(1),
+        lead,
+    }
+}
+
 /// Group 1 claims trace 7 and its laterals 8 and 9, of four that may be claimed.
 fn three(alloc: Global) -> Result<ClaimedTraces, Memory> {
     let mut claims = ClaimedTraces::make(alloc, 4)?;
-    claims.claim(ONE, SEVEN, &laterals(EIGHT, NINE));
+    claims.claim(led(ONE, SEVEN), &laterals(EIGHT, NINE));
     Ok(claims)
 }
 
@@ -67,10 +76,10 @@ fn is_at(claims: &ClaimedTraces, group: GroupId, trace: TraceId) -> bool {
 fn all_or_none(alloc: Global) -> Result<bool, Memory> {
     let mut claims = three(alloc)?;
     let once = claims.len() == 3 && claims.free() == 1;
-    let known = claims.claim(ONE, EIGHT, &Laterals::none());
-    let full = claims.claim(TWO, SEVEN, &laterals(SEVEN, EIGHT));
+    let known = claims.claim(led(ONE, EIGHT), &Laterals::none());
+    let full = claims.claim(led(TWO, SEVEN), &laterals(SEVEN, EIGHT));
     let same = claims.len() == 3 && !claims.is_known(TWO);
-    let claimed = claims.claim(TWO, SEVEN, &laterals(SEVEN, SEVEN));
+    let claimed = claims.claim(led(TWO, SEVEN), &laterals(SEVEN, SEVEN));
     Ok(
         once && known == Claiming::Known
             && full == Claiming::Full
@@ -109,7 +118,7 @@ fn said_once(alloc: Global) -> Result<bool, Memory> {
 fn is_oldest(claims: &ClaimedTraces, group: GroupId, traces: u32, last: Option<u64>) -> bool {
     claims.oldest()
         == Some(Claimant {
-            group,
+            group: led(group, SEVEN),
             traces,
             last,
         })
@@ -128,7 +137,7 @@ fn last_message(alloc: Global) -> Result<bool, Memory> {
 /// The group that claimed first goes with its three traces. The claim that is looked at stays, and then the first one is looked at.
 fn forgotten(alloc: Global) -> Result<bool, Memory> {
     let mut claims = three(alloc)?;
-    claims.claim(TWO, SEVEN, &Laterals::none());
+    claims.claim(led(TWO, SEVEN), &Laterals::none());
     let above = claims.is_above(3) && !claims.is_above(4);
     claims.advance();
     claims.advance();
@@ -145,9 +154,9 @@ fn forgotten(alloc: Global) -> Result<bool, Memory> {
 /// As many traces as a group may name, and no place at all.
 fn at_limits(alloc: Global) -> Result<bool, Memory> {
     let mut none = ClaimedTraces::make(alloc, 0)?;
-    let refused = none.claim(ONE, SEVEN, &Laterals::none());
+    let refused = none.claim(led(ONE, SEVEN), &Laterals::none());
     let mut most = ClaimedTraces::make(alloc, 33)?;
-    let claimed = most.claim(ONE, TraceId(u128::MAX), &thirty_two());
+    let claimed = most.claim(led(ONE, TraceId(u128::MAX)), &thirty_two());
     most.advance();
     Ok(
         refused == Claiming::Full

@@ -156,20 +156,20 @@ fn full(alloc: Global) -> Result<SegmentNotes, Memory> {
     Ok(notes)
 }
 
-/// A page of trace 9 is to come and a segment of trace 8 is open, so that a third trace finds no place.
+/// A page of trace 9 is to come and a segment of trace 8 is open, so that a third trace finds no place: its note is missed.
 fn no_place(alloc: Global) -> Result<bool, Memory> {
     let mut notes = full(alloc)?;
     let answer = notes.opened(0, 2, SEVEN)?;
     Ok(
         answer == Noted::Full
-            && says(&notes, NINE, Wholeness::Unknown, 0, 0)
-            && says(&notes, EIGHT, Wholeness::Open, 1, 0)
-            && says(&notes, SEVEN, Wholeness::UnheardSince, 0, 0)
+            && says(&notes, NINE, Wholeness::Unknown, 0, 2)
+            && says(&notes, EIGHT, Wholeness::Open, 1, 2)
+            && says(&notes, SEVEN, Wholeness::UnheardSince, 0, 2)
             && notes.heard() == 2,
     )
 }
 
-/// Once the page has left, the note that comes again finds a place.
+/// Once the page has left, the trace finds a place.
 fn place_again(alloc: Global) -> Result<bool, Memory> {
     let mut notes = full(alloc)?;
     notes.opened(0, 2, SEVEN)?;
@@ -177,9 +177,9 @@ fn place_again(alloc: Global) -> Result<bool, Memory> {
     let answer = notes.opened(0, 2, SEVEN)?;
     Ok(
         answer == Noted::Kept
-            && says(&notes, NINE, Wholeness::UnheardSince, 0, 1)
-            && says(&notes, EIGHT, Wholeness::Open, 1, 1)
-            && says(&notes, SEVEN, Wholeness::Open, 1, 1),
+            && says(&notes, NINE, Wholeness::UnheardSince, 0, 2)
+            && says(&notes, EIGHT, Wholeness::Open, 1, 2)
+            && says(&notes, SEVEN, Wholeness::Open, 1, 2),
     )
 }
 
