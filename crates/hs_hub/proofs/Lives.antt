@@ -1,5 +1,6 @@
 -- A hub's pages over any calls are the held pages over what these calls mean for them.
-use Rattle.std.proofs.Common.{◌≡◌, ℕ, Bool, true, false, not, cond, ◌||◌, List, [], ◌∷◌, ◌++◌, length, Option, Some, None, nat_le, eqb, refl, sym, ap, ◌∙◌}
+use Rattle.hs_hub.specs.declared.answers.Given.{Given}
+use Rattle.std.proofs.Common.{◌≡◌, ℕ, option_map, Bool, true, false, not, cond, ◌||◌, List, [], ◌∷◌, ◌++◌, length, Option, Some, None, nat_le, eqb, refl, sym, ap, ◌∙◌}
 use Rattle.hs_base.specs.declared.ids.TraceId.{TraceId}
 use Rattle.hs_base.specs.declared.told.Told.{Told}
 use Rattle.hs_wire.specs.declared.message.Standing.{Standing}
@@ -19,7 +20,7 @@ use Rattle.hs_traces.specs.History as history
 use Rattle.hs_traces.specs.History.{Deed, Coming, Comes, HoldsNothing, HearsAll, AreSamePages, after_all, after_answer, after_offer, pages_of}
 use Rattle.hs_traces.proofs.Deeds.{pages_decide}
 use Rattle.hs_receipts.specs.declared.answers.MessageId.{MessageId}
-use Rattle.hs_hub.specs.Hub.{PlainHub, room, life_of, node_of, after_answer_to_told, after_added, after_noted, after_ask, after_given, answer_to_take, after_saved_of}
+use Rattle.hs_hub.specs.Hub.{PlainHub, room, life_of, node_of, after_answer_to_told, after_added, after_noted, after_ask, after_given, goes, after_saved_of}
 use Rattle.hs_hub.specs.Life.{Act, Hears, Tells, Reports, Says, Asks, Passes, Gives, LetsGo, Names, after, life, deeds_of, offers, saves, all_deeds}
 
 after_both : (s : PlainTraces) (xs ys : List Deed) → after_all s (xs ++ ys) ≡ after_all (after_all s xs) ys
@@ -67,9 +68,9 @@ given_is false true waits s trace = refl
 given_is false false true s trace = refl
 given_is false false false s trace = refl
 
-gives : (h : PlainHub) (trace : Option TraceId) → (after_given h trace).traces ≡ after_all h.traces (offers trace)
+gives : (h : PlainHub) (goes : Option (TraceId × Given)) → (after_given h goes).traces ≡ after_all h.traces (offers (option_map (λ (given : TraceId × Given). given.0) goes))
 gives h None = refl
-gives h (Some trace) = given_is (traces.is_out h.traces trace) (nat_le h.traces.limits.outs (length h.traces.out)) (traces.is_waiting h.traces trace) h.traces trace
+gives h (Some (trace, why)) = given_is (traces.is_out h.traces trace) (nat_le h.traces.limits.outs (length h.traces.out)) (traces.is_waiting h.traces trace) h.traces trace
 
 lets_go : (h : PlainHub) (trace : Option TraceId) → (after_saved_of h trace).traces ≡ after_all h.traces (saves trace)
 lets_go h None = refl
@@ -88,7 +89,7 @@ one_call h (Says message standing) =
     keeps (nat_le h.limits.nodes message.node) h (cond (eqb (room h) 0) h (after_noted h message standing answer)) (keeps (eqb (room h) 0) h (after_noted h message standing answer) (noted_keeps h message standing answer))
 one_call h Asks = asks_keep h (groups.next_ask h.groups)
 one_call h Passes = refl
-one_call h Gives = gives h (answer_to_take h)
+one_call h Gives = gives h (goes h)
 one_call h LetsGo = lets_go h h.receipts.out
 one_call h Names = refl
 

@@ -12,8 +12,9 @@ use Rattle.hs_traces.specs.Keys.{key_at}
 use Rattle.hs_traces.specs.Traces.{held_bytes}
 use Rattle.hs_receipts.specs.declared.answers.MessageId.{MessageId}
 use Rattle.hs_hub.specs.declared.answers.HubLimits.{HubLimits}
+use Rattle.hs_hub.specs.declared.answers.Given.TheVariants.{Complete, Aged, CutShort}
 use Rattle.hs_hub.specs.declared.answers.Delivered.TheVariants.{Held, Refused, Full}
-use Rattle.hs_hub.specs.Hub.{PlainHub, no_hub, answer_to_told, after_told, answer_to_page, after_page, after_standing, answer_to_take, after_take, after_saved, after_pass, part_out, is_whole_out}
+use Rattle.hs_hub.specs.Hub.{PlainHub, no_hub, answer_to_told, after_told, answer_to_page, after_page, after_standing, answer_to_take, after_take, after_saved, after_pass, why_out, part_out, is_whole_out}
 
 abbrev few : HubLimits
 few = record { nodes = 4; groups = 4; hold = 4; bytes = 100000; standings = 16; messages = 64; wait = 5; tries = 1; age = 1 }
@@ -43,9 +44,9 @@ abbrev closed : PlainHub
 closed = after_standing answered (m 0 3) whole
 
 -- now it may go, and is whole; nothing may be acknowledged before it is saved, and then all five messages
-given_out : (answer_to_take closed ≡ Some (t 107)) × (is_whole_out (after_take closed) ≡ true) × ((after_take closed).receipts.done ≡ [])
+given_out : (answer_to_take closed ≡ Some (t 107)) × (is_whole_out (after_take closed) ≡ true) × (why_out (after_take closed) ≡ Some Complete) × ((after_take closed).receipts.done ≡ [])
 unfolding nodes_of
-given_out = (refl, refl, refl)
+given_out = (refl, refl, refl, refl)
 
 saved : (length (after_saved (after_take closed)).receipts.done ≡ 5) × (held_bytes (after_saved (after_take closed)).traces ≡ 0)
 unfolding nodes_of
@@ -61,16 +62,16 @@ again : (answer_to_page closed (m 0 9) (t 107) (key_at 0 5 0 0 0) page ≡ Held)
 again = (refl, refl)
 
 -- after a pass it is old enough to be given out as it is, and is not whole
-by_age : (answer_to_take (after_pass answered) ≡ Some (t 107)) × (is_whole_out (after_take (after_pass answered)) ≡ false)
+by_age : (answer_to_take (after_pass answered) ≡ Some (t 107)) × (is_whole_out (after_take (after_pass answered)) ≡ false) × (why_out (after_take (after_pass answered)) ≡ Some Aged)
 unfolding nodes_of
-by_age = (refl, refl)
+by_age = (refl, refl, refl)
 
 -- one message may be kept: a second is too much, and the trace may be given out at once
 abbrev one : PlainHub
 one = after_page (no_hub 3 (record few { messages = 1; age = 99 })) (m 0 2) (t 107) (key_at 0 5 0 0 0) page
 
-at_a_limit : (answer_to_page one (m 0 3) (t 107) (key_at 0 5 0 0 1) page ≡ Full) × (after_page one (m 0 3) (t 107) (key_at 0 5 0 0 1) page ≡ one) × (answer_to_take one ≡ Some (t 107))
-at_a_limit = (refl, refl, refl)
+at_a_limit : (answer_to_page one (m 0 3) (t 107) (key_at 0 5 0 0 1) page ≡ Full) × (after_page one (m 0 3) (t 107) (key_at 0 5 0 0 1) page ≡ one) × (answer_to_take one ≡ Some (t 107)) × (why_out (after_take one) ≡ Some CutShort)
+at_a_limit = (refl, refl, refl, refl)
 
 -- there is no node 4
 no_such_node : (answer_to_told one (m 4 1) (told_of 7 0 Fired) ≡ Full) × (answer_to_page (no_hub 3 few) (m 4 1) (t 107) (key_at 4 5 0 0 0) page ≡ Refused)

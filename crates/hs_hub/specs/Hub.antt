@@ -44,6 +44,8 @@ use Rattle.hs_saved.specs.Saved.{PlainSaved, no_saved, parts_of}
 use Rattle.hs_verdict.specs.Verdict.{is_whole, claim_at, life_at}
 use Rattle.hs_hub.specs.declared.answers.HubLimits.{HubLimits}
 use Rattle.hs_hub.specs.declared.answers.HubCounts.{HubCounts}
+use Rattle.hs_hub.specs.declared.answers.Given.{Given}
+use Rattle.hs_hub.specs.declared.answers.Given.TheVariants.{Complete, Aged, CutShort}
 use Rattle.hs_hub.specs.declared.answers.Delivered.{Delivered}
 use Rattle.hs_hub.specs.declared.answers.Delivered.TheVariants.{Held, Done, Refused, Full}
 use Rattle.hs_hub.specs.Ready.{first_ready}
@@ -61,6 +63,8 @@ pub record PlainHub : Type 0 where
   pub receipts : PlainReceipts
   -- of the traces that were saved last, how many parts of each
   pub saved : PlainSaved
+  -- why the last trace was given out
+  pub why : Given
 
 -- whether a limit is out of its range
 abbrev pub are_out : HubLimits → Bool
@@ -77,6 +81,7 @@ no_hub epoch limits = record {
   traces = traces.no_traces (record { hold = limits.hold; outs = 1; bytes = limits.bytes });
   receipts = receipts.no_receipts limits.messages;
   saved = no_saved limits.groups;
+  why = Complete;
 }
 
 -- ---- a message waits for a trace
@@ -276,33 +281,40 @@ is_pressed h =
     || (nat_lt (h.limits.bytes - held_bytes h.traces) LEAST_BYTES || (nat_le h.limits.standings (standings.count_of h.standings) || nat_le (room h) 32))
 
 -- the trace of the message that waits longest, by age or at a limit
-abbrev pub aged_of : PlainHub → Waiting → Option TraceId
-aged_of h waits = if nat_le h.limits.age (h.passes - waits.since) || is_pressed h then Some waits.trace else None
+abbrev pub aged_of : PlainHub → Waiting → Option (TraceId × Given)
+aged_of h waits =
+    if nat_le h.limits.age (h.passes - waits.since) then Some (waits.trace, Aged)
+    else if is_pressed h then Some (waits.trace, CutShort)
+    else None
 
-abbrev pub aged : PlainHub → Option TraceId
+abbrev pub aged : PlainHub → Option (TraceId × Given)
 aged h = option_and_then (aged_of h) (slice_get h.receipts.waiting 0)
 
--- the trace that may be given out
-abbrev pub or_aged : PlainHub → Option TraceId → Option TraceId
-or_aged h (Some trace) = Some trace
+-- the trace that may be given out, and why
+abbrev pub or_aged : PlainHub → Option TraceId → Option (TraceId × Given)
+or_aged h (Some trace) = Some (trace, Complete)
 or_aged h None = aged h
 
-abbrev pub may_go : PlainHub → Option TraceId
+abbrev pub may_go : PlainHub → Option (TraceId × Given)
 may_go h = or_aged h (first_ready h.groups h.standings h.traces h.groups.groups)
 
+-- none while one is out
+abbrev pub goes : PlainHub → Option (TraceId × Given)
+goes h = if is_some h.receipts.out then None else may_go h
+
 abbrev pub answer_to_take : PlainHub → Option TraceId
-answer_to_take h = if is_some h.receipts.out then None else may_go h
+answer_to_take h = option_map (λ (given : TraceId × Given). given.0) (goes h)
 
 -- what waits of a trace is out, if something does
 abbrev pub given : PlainTraces → TraceId → PlainTraces
 given s trace = if traces.is_out s trace || (nat_le s.limits.outs (length s.out) || not (traces.is_waiting s trace)) then s else traces.offered s trace
 
-abbrev pub after_given : PlainHub → Option TraceId → PlainHub
-after_given h (Some trace) = record h { traces = given h.traces trace; receipts = receipts.after_offer h.receipts trace }
+abbrev pub after_given : PlainHub → Option (TraceId × Given) → PlainHub
+after_given h (Some trace) = record h { traces = given h.traces trace.0; receipts = receipts.after_offer h.receipts trace.0; why = trace.1 }
 after_given h None = h
 
 abbrev pub after_take : PlainHub → PlainHub
-after_take h = after_given h (answer_to_take h)
+after_take h = after_given h (goes h)
 
 -- the pages of the trace that is out
 abbrev pub page_of_out : PlainHub → Option PageKey → Option (PageKey × List ℕ)
@@ -314,6 +326,10 @@ pages_out h = unwrap_or (option_and_then (traces.part_of h.traces.out) h.receipt
 -- their next row behind a cursor
 abbrev pub next_row : PlainHub → Place → Found
 next_row h place = step (pages_out h) place
+
+-- why it was given out
+abbrev pub why_out : PlainHub → Option Given
+why_out h = option_map (λ _. h.why) h.receipts.out
 
 -- which part of it is out: how many were saved before
 abbrev pub part_out : PlainHub → Option ℕ

@@ -49,6 +49,17 @@ pub enum Delivered {
     Full,
 }
 
+/// Why a trace is given out.
+#[derive(Clone, Copy, Debug, PartialEq, Eq)]
+pub enum Given {
+    /// All pages came that lives say they handed out, and nothing more is to come of it.
+    Complete,
+    /// Its first message that waits came as many passes ago as the age says. More may come of it.
+    Aged,
+    /// A limit is reached, and its first message waits longest. More may come of it.
+    CutShort,
+}
+
 /// How much is held.
 #[derive(Clone, Copy, Debug, PartialEq, Eq)]
 pub struct HubCounts {

@@ -13,9 +13,9 @@ ghost use Rattle.hs_cursor.specs.Walking.{row_of, place_of, step_inside, step_on
 ghost use Rattle.hs_wire.specs.Messages.{PlainMessage, IsMessage, message_bytes, plain};
 ghost use Rattle.hs_settings.specs.Settings.{service_of, IsServiceSettings};
 ghost use Rattle.hs_hub.specs.ByService.{limits_by};
-ghost use Rattle.hs_hub.specs.Hub.{PlainHub, IsDelivered, are_out, no_hub, noted, answer_to_hear, after_hear, answer_to_told, after_told, answer_to_page, after_page, answer_to_standing, after_standing, IsReported, ask_of, IsWritten, IsShort, after_next, after_pass, is_pressed, aged, may_go, answer_to_take, after_take, after_saved, pages_out, next_row, is_whole_out, page_of_out, part_out, claim_out, life_out, repeated, after_named, counts_of};
+ghost use Rattle.hs_hub.specs.Hub.{PlainHub, IsDelivered, are_out, no_hub, noted, answer_to_hear, after_hear, answer_to_told, after_told, answer_to_page, after_page, answer_to_standing, after_standing, IsReported, ask_of, IsWritten, IsShort, after_next, after_pass, is_pressed, aged, may_go, answer_to_take, after_take, after_saved, pages_out, next_row, is_whole_out, page_of_out, why_out, part_out, claim_out, life_out, repeated, after_named, counts_of};
 
-use crate::answers::{Delivered, HubCounts, HubLimits, MakeFault};
+use crate::answers::{Delivered, Given, HubCounts, HubLimits, MakeFault};
 use crate::limits::hub_limits;
 use crate::ready::first_ready;
 use hs_base::limits::MOST_NODES;
@@ -47,6 +47,7 @@ pub struct Hub {
     traces: Traces,
     receipts: Receipts,
     saved: Saved,
+    why: Given,
 }
 
 impl Model for Hub {
@@ -174,6 +175,7 @@ impl Hub {
             traces,
             receipts: Receipts::make(alloc, limits.messages)?,
             saved: Saved::make(alloc, limits.groups)?,
+            why: Given::Complete,
         })
     }
 
@@ -397,27 +399,26 @@ impl Hub {
     }
 
     /// The trace of the message that waits longest, if that came so many passes ago as the age says, or a limit is reached.
-    fn aged(&self) -> Option<TraceId>
+    fn aged(&self) -> Option<(TraceId, Given)>
         ensures { result ≡ aged self.now }
     {
-        match self.receipts.longest() {
-            Some(waits) => {
-                if self.passes.saturating_sub(waits.since) >= self.limits.age || self.is_pressed() {
-                    Some(waits.trace)
-                } else {
-                    None
-                }
-            }
-            None => None,
+        let waits = self.receipts.longest()?;
+        if self.passes.saturating_sub(waits.since) >= self.limits.age {
+            Some((waits.trace, Given::Aged))
+        } else if self.is_pressed() {
+            Some((waits.trace, Given::CutShort))
+        } else {
+            None
         }
     }
 
-    /// The trace that may be given out: one of which nothing more is to come, else the one that waits longest, by age or at a limit.
-    fn may_go(&self) -> Option<TraceId>
+    /// The trace that may be given out, and why: one of which nothing more is to come, else the one that waits longest, by age or at a
+    /// limit.
+    fn may_go(&self) -> Option<(TraceId, Given)>
         ensures { result ≡ may_go self.now }
     {
         match first_ready(&self.groups, &self.standings, &self.traces) {
-            Some(trace) => Some(trace),
+            Some(trace) => Some((trace, Given::Complete)),
             None => self.aged(),
         }
     }
@@ -430,9 +431,10 @@ impl Hub {
         if self.receipts.out().is_some() {
             return None;
         }
-        let trace = self.may_go()?;
+        let (trace, why) = self.may_go()?;
         self.traces.offer(trace);
         self.receipts.offer(trace);
+        self.why = why;
         Some(trace)
     }
 
@@ -441,6 +443,16 @@ impl Hub {
         ensures { result ≡ self.now.receipts.out }
     {
         self.receipts.out()
+    }
+
+    /// Why the trace that is out was given out.
+    pub fn why(&self) -> Option<Given>
+        ensures { result ≡ why_out self.now }
+    {
+        match self.receipts.out() {
+            Some(_) => Some(self.why),
+            None => None,
+        }
     }
 
     /// Which part of the trace is out: 0 where none was saved before, as far as that is known of the traces that were saved last.

@@ -8,7 +8,7 @@ mod laws;
 mod limits;
 mod ready;
 
-pub use answers::{Delivered, HubCounts, HubLimits, MakeFault};
+pub use answers::{Delivered, Given, HubCounts, HubLimits, MakeFault};
 pub use hub::Hub;
 pub use laws::{messages_decide_the_part, pages_come_and_go, rows_are_of_what_came};
 pub use limits::{
