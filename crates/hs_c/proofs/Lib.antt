@@ -1,3 +1,4 @@
 pub mod ClientSlotSteps
+pub mod HubSlotSteps
 pub mod PortSlotSteps
 pub mod Values

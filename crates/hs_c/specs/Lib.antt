@@ -1,6 +1,7 @@
 pub mod Calls
 pub mod Codes
 pub mod Holds
+pub mod Hubs
 pub mod Messages
 pub mod Opening
 pub mod Ports

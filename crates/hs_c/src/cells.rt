@@ -4,6 +4,8 @@ ghost use Rattle.std.specs.Prelude.{◌≡◌, length};
 ghost use Rattle.hs_c.specs.Ports.{IsOfPool, KeepsPort};
 
 use hs_base::{Crumb, List};
+use hs_cursor::Cursor;
+use hs_hub::Hub;
 use hs_link::Receiver;
 use hs_live::{AgentPort, ClientKey};
 use hs_node_client::{NodeClient, Segment, SegmentKey};
@@ -26,6 +28,13 @@ pub struct PortCell {
     pub notes: List<Receiver<Segment, SegmentKey>>,
     pub clients: u16,
     pub ghost few: { clients ≡ length port.chunks },
+}
+
+/// A hub, with the cursor that goes over the rows of the trace that is out.
+#[derive(Drop)]
+pub struct HubCell {
+    pub hub: Hub,
+    pub cursor: Cursor,
 }
 
 /// What came of a client.

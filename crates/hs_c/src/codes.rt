@@ -50,6 +50,9 @@ pub const NO_MESSAGE: u32 = 13;
 /// The slice is too short for what it is to take.
 pub const SHORT: u32 = 14;
 
+/// A message was taken, and waits until what it serves is saved.
+pub const HELD: u32 = 15;
+
 /// The code of a client's answer.
 pub(crate) fn code_of(called: Called) -> u32
     ensures { result ≡ code_of called }

@@ -2,7 +2,7 @@
 
 ghost use Rattle.std.specs.Prelude.{◌≡◌, IsSome};
 
-use crate::slots::{ClientSlot, PortSlot};
+use crate::slots::{ClientSlot, HubSlot, PortSlot};
 
 /// A client's handle. All zero is vacant. It takes 128 bytes, so that two that are aligned share no cache line.
 #[repr(C)]
@@ -24,9 +24,21 @@ pub struct HindPort {
     pub(crate) ghost agrees: { live ≡ 1 → IsSome slot.held },
 }
 
+/// The handle of a hub. All zero is vacant.
+#[repr(C)]
+#[derive(Drop)]
+pub struct HindHub {
+    pub(crate) slot: HubSlot,
+    pub(crate) live: u32,
+    pub(crate) pad: [u32; 29],
+    pub(crate) ghost agrees: { live ≡ 1 → IsSome slot.held },
+}
+
 const _: () = prove!(std::mem::size_of::<HindClient>() == 128);
 
 const _: () = prove!(std::mem::size_of::<HindPort>() == 128);
+
+const _: () = prove!(std::mem::size_of::<HindHub>() == 128);
 
 /// A trace id, its highest byte first.
 #[repr(C)]

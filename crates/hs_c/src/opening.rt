@@ -14,7 +14,7 @@ use crate::loose::Loose;
 use crate::slots::{ClientSlot, PortSlot};
 use hs_base::{List, Memory};
 use hs_node_client::{ClientLimits, Made, MakeFault, NodeClient, make_clients};
-use hs_settings::{ServiceSettings, SettingsFault, SettingsReason, read_settings};
+use hs_settings::{ServiceSettings, SettingsFault, SettingsReason, SettingsRefusal, read_settings};
 use std::alloc::Global;
 use std::mem::replace;
 
@@ -39,6 +39,26 @@ fn reason_number(reason: SettingsReason) -> u32
         SettingsReason::Range => 8,
         SettingsReason::Order => 9,
         SettingsReason::Unknown => 10,
+    }
+}
+
+/// Why settings are refused that leave no buffer.
+pub(crate) fn no_room() -> HindFault
+    ensures { (result.line ≡ 0) × (result.reason ≡ 11) }
+{
+    HindFault {
+        line: 0,
+        reason: NO_ROOM,
+    }
+}
+
+/// Why settings are refused, as C sees it.
+pub(crate) fn refusal_out(refusal: &SettingsRefusal) -> HindFault
+    ensures { (result.line ≡ refusal.now.line) × (result.reason ≡ reason_number refusal.now.reason) }
+{
+    HindFault {
+        line: refusal.line,
+        reason: reason_number(refusal.reason),
     }
 }
 
@@ -67,17 +87,11 @@ pub extern "C" fn hindcore_open(
         Ok(settings) => open(alloc, &settings, node, port),
         Err(SettingsFault::Memory) => MEMORY,
         Err(SettingsFault::NoRoom) => {
-            *fault = HindFault {
-                line: 0,
-                reason: NO_ROOM,
-            };
+            *fault = no_room();
             SETTINGS
         }
         Err(SettingsFault::Refused(refusal)) => {
-            *fault = HindFault {
-                line: refusal.line,
-                reason: reason_number(refusal.reason),
-            };
+            *fault = refusal_out(&refusal);
             SETTINGS
         }
     }

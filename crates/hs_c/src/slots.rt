@@ -1,11 +1,12 @@
 //! A boxed cell behind a pointer that C keeps.
 
 ghost use Rattle.std.specs.Prelude.{◌≡◌, Option, None, Some, IsSome};
-ghost use Rattle.hs_c.specs.Holds.{client_owns, port_owns};
+ghost use Rattle.hs_c.specs.Holds.{client_owns, hub_owns, port_owns};
 ghost use Rattle.hs_c.specs.declared.cells.ClientCell.{ClientCell};
+ghost use Rattle.hs_c.specs.declared.cells.HubCell.{HubCell};
 ghost use Rattle.hs_c.specs.declared.cells.PortCell.{PortCell};
 
-use crate::cells::{ClientCell, PortCell};
+use crate::cells::{ClientCell, HubCell, PortCell};
 use crate::loose::Loose;
 use std::alloc::Global;
 use std::marker::Model;
@@ -86,6 +87,46 @@ impl PortSlot {
         let PortSlot { at } = self;
         Loose {
             at: at as *mut PortCell,
+            alloc,
+        }
+    }
+}
+
+/// Owns the hub at the pointer, or nothing.
+#[repr(C)]
+#[derive(Drop)]
+pub struct HubSlot {
+    at: *mut (),
+    pub ghost held: { Option HubCell },
+}
+
+impl Model for HubSlot {
+    ghost also_owns = { λ s. hub_owns s.at s.held };
+}
+
+unsafe impl Send for HubSlot {}
+
+impl HubSlot {
+    pub(crate) fn full(loose: Loose<HubCell, Global>) -> HubSlot
+        ensures { result.held ≡ Some loose.value }
+    {
+        let Loose { at, alloc: _ } = loose;
+        HubSlot { at: at as *mut () }
+    }
+
+    pub(crate) fn vacant() -> HubSlot
+        ensures { result.held ≡ None }
+    {
+        HubSlot { at: null_mut() }
+    }
+
+    pub(crate) fn open(self, alloc: Global) -> Loose<HubCell, Global>
+        requires { IsSome self.held }
+        ensures { self.held ≡ Some result.value }
+    {
+        let HubSlot { at } = self;
+        Loose {
+            at: at as *mut HubCell,
             alloc,
         }
     }
