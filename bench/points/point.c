@@ -4,8 +4,9 @@
  *
  * KIND is `ours` (hindcore_point, with a thread that takes each full page and gives its buffer back), `ours:N` (the same, with a segment
  * begun and ended for each N points) or `copy` (memcpy of the payload, ten bytes apart, into as much memory). Each thread writes into
- * BUFFERS buffers of SIZE bytes of its own. A line for each payload and repetition: kind, threads, payload, MiB for each thread,
- * nanoseconds a point (mean of the threads), points, null pages, pages taken. */
+ * BUFFERS buffers of SIZE bytes of its own, twice over before its time is taken, so that no page of memory is new to the process then. A line
+ * for each payload and repetition: kind, threads, payload, MiB for each thread, nanoseconds a point (mean of the threads), and of all that
+ * was written points, null pages, pages taken. */
 #define _GNU_SOURCE
 #include "hindcore.h"
 #include <pthread.h>
@@ -33,7 +34,7 @@ static hindcore_port port;
 static uint8_t payload[MOST_BYTES];
 static int ours, threads;
 static size_t buffers, size, bytes;
-static long points, segment;
+static long points, warms, segment;
 static unsigned long pages;
 static pthread_barrier_t begins;
 static atomic_int over;
@@ -51,10 +52,10 @@ static void must(int holds, const char *what) {
     }
 }
 
-static void write_points(struct writer *w) {
+static void write_points(struct writer *w, long count) {
     hindcore_trace trace = {{0}};
-    for (long done = 0; done < points;) {
-        long end = done + segment < points ? done + segment : points;
+    for (long done = 0; done < count;) {
+        long end = done + segment < count ? done + segment : count;
         memcpy(trace.bytes, &done, sizeof done);
         trace.bytes[15] = 1;
         must(hindcore_begin(&w->client, &trace) == HINDCORE_DONE, "begin");
@@ -64,9 +65,9 @@ static void write_points(struct writer *w) {
     }
 }
 
-static void copy_points(struct writer *w) {
+static void copy_points(struct writer *w, long count) {
     size_t at = 0, room = buffers * size;
-    for (long i = 0; i < points; i++) {
+    for (long i = 0; i < count; i++) {
         if (at + bytes + 10 > room) at = 0;
         memcpy(w->area + at + 10, payload, bytes);
         at += bytes + 10;
@@ -76,12 +77,23 @@ static void copy_points(struct writer *w) {
 
 static void *writes(void *arg) {
     struct writer *w = arg;
+    void (*const writes_points)(struct writer *, long) = ours ? write_points : copy_points;
+    writes_points(w, warms);
     pthread_barrier_wait(&begins);
     double from = processor_time();
-    if (ours) write_points(w);
-    else copy_points(w);
+    writes_points(w, points);
     w->spent = processor_time() - from;
     return NULL;
+}
+
+/* Waits as long as an agent does that found nothing: ten microseconds. One that looked all the time would have its writers' cache lines. */
+static void wait_a_little(void) {
+    struct timespec from, now;
+    clock_gettime(CLOCK_MONOTONIC, &from);
+    do {
+        for (int i = 0; i < 20; i++) __builtin_ia32_pause();
+        clock_gettime(CLOCK_MONOTONIC, &now);
+    } while ((now.tv_sec - from.tv_sec) * 1000000000 + now.tv_nsec - from.tv_nsec < 10000);
 }
 
 /* Takes what comes of every client and gives it back, until the writers are done and nothing comes. */
@@ -96,7 +108,7 @@ static void *takes(void *arg) {
                 pages++;
             }
         for (uint16_t client = 0; client < threads; client++) hindcore_take_notes(&port, client);
-        if (!any) __builtin_ia32_pause();
+        if (!any) wait_a_little();
     }
     return NULL;
 }
@@ -152,8 +164,8 @@ static void run(const char *kind, int prints) {
         nulls = close_ours();
     }
     for (int i = 0; i < threads; i++) each += writers[i].spent / (double)points / threads;
-    if (prints) printf("%s %d %zu %.2f %.2f %ld %lu %lu\n", kind, threads, bytes, (double)(buffers * size) / 1048576, each, points * threads, nulls,
-                      pages);
+    if (prints) printf("%s %d %zu %.2f %.2f %ld %lu %lu\n", kind, threads, bytes, (double)(buffers * size) / 1048576, each, (warms + points) * threads,
+                      nulls, pages);
     fflush(stdout);
     pthread_barrier_destroy(&begins);
 }
@@ -176,7 +188,8 @@ int main(int argc, char **argv) {
         /* each thread fills its memory at least four times over */
         points = (long)(4 * buffers * size / (bytes + 10));
         if (points < 200000) points = 200000;
-        segment = ours && argv[1][4] == ':' ? atol(argv[1] + 5) : points;
+        warms = (long)(2 * buffers * size / (bytes + 10));
+        segment = ours && argv[1][4] == ':' ? atol(argv[1] + 5) : points + warms;
         must(segment > 0, "a segment has a point");
         for (int rep = -1; rep < atoi(argv[5]); rep++) run(argv[1], rep >= 0);
     }
