@@ -6,6 +6,7 @@
 static int failed;
 
 #define EXPECT(what, wanted) expect(__FILE__, __LINE__, #what, (unsigned long long)(what), (unsigned long long)(wanted))
+#define HOLDS(what) EXPECT(!!(what), 1)
 
 static void expect(const char *file, int line, const char *what, unsigned long long got, unsigned long long wanted) {
     if (got == wanted) return;
