@@ -1,3 +1,4 @@
+#define _GNU_SOURCE
 #include "carrier.h"
 #include "lease.h"
 #include <pthread.h>

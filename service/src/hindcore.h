@@ -26,7 +26,8 @@ enum {
     HINDCORE_SPENT = 11,      /* numbers end: the calls of this trace, or the draws of the client */
     HINDCORE_NOTHING = 12,    /* nothing came */
     HINDCORE_NO_MESSAGE = 13, /* the bytes spell no message */
-    HINDCORE_SHORT = 14       /* the slice is too short for what it is to take */
+    HINDCORE_SHORT = 14,      /* the slice is too short for what it is to take */
+    HINDCORE_HELD = 15        /* the message waits until what it serves is saved */
 };
 
 /* A trace id, its highest byte first. */
@@ -124,6 +125,127 @@ typedef struct {
 uint32_t hindcore_message_head(const uint8_t *bytes, size_t len, hindcore_head *head);
 /* Reads a message and writes it to the front of `out`: DONE, NO_MESSAGE, or SHORT. What is written is what was read, byte for byte. */
 uint32_t hindcore_message_copy(const uint8_t *bytes, size_t len, uint8_t *out, size_t room);
+
+/* ---- the hub: what hears nodes, and gives traces out ---- */
+
+typedef struct {
+    struct {
+        void *at;
+    } slot;
+    uint32_t live;
+    uint32_t pad[29];
+} hindcore_hub;
+
+/* A message of a node: the node, the epoch of the life that sent it, and its number there. */
+typedef struct {
+    uint16_t node;
+    uint64_t epoch;
+    uint64_t number;
+} hindcore_message_id;
+
+/* Makes a hub by the text of a service's settings, which speaks in the life of this epoch: DONE, BUSY, MEMORY, SETTINGS (`fault` says where). */
+uint32_t hindcore_hub_open(const uint8_t *text, size_t len, uint64_t epoch, hindcore_hub *hub, hindcore_fault *fault);
+/* Takes a message of a node. DONE and NO_MESSAGE (it is none that a hub takes): it may be acknowledged at once. HELD: it may be when
+ * hindcore_hub_acknowledge names it. FULL (too much for now) and MEMORY: nothing changed, and it is to be delivered again. */
+uint32_t hindcore_hub_deliver(hindcore_hub *hub, const uint8_t *bytes, size_t len);
+/* Writes the next ask as a message, which counts as sent then, and how many bytes it has: DONE, NOTHING, SHORT (`len` says how many it takes),
+ * UNFIT (it has no spelling). */
+uint32_t hindcore_hub_next(hindcore_hub *hub, uint8_t *out, size_t room, uint64_t *len);
+/* A pass goes by, which is what a hub counts time in: who does not answer is asked again where that is due, and traces grow old. */
+uint32_t hindcore_hub_pass(hindcore_hub *hub);
+/* Gives a trace out: DONE, or NOTHING (none may go, or one is out: then its rows are shown from the first on again). It is held until it is
+ * saved. */
+uint32_t hindcore_hub_take(hindcore_hub *hub, hindcore_trace *trace);
+/* The trace that is out was saved: DONE, and which it was; NOTHING (none was out). */
+uint32_t hindcore_hub_saved(hindcore_hub *hub, hindcore_trace *trace);
+/* Names a message that may be acknowledged, and was not named yet: DONE, NOTHING. */
+uint32_t hindcore_hub_acknowledge(hindcore_hub *hub, hindcore_message_id *message);
+
+/* How much a hub holds: passes so far, groups, traces of which pages wait, bytes of all pages, standings, and messages that wait, once for
+ * each trace that they serve. */
+typedef struct {
+    uint64_t passes;
+    uint64_t groups;
+    uint64_t traces;
+    uint64_t bytes;
+    uint64_t standings;
+    uint64_t messages;
+} hindcore_hub_count;
+
+uint32_t hindcore_hub_counts(hindcore_hub *hub, hindcore_hub_count *counts);
+uint32_t hindcore_hub_free(hindcore_hub *hub);
+
+/* ---- the trace that is out: each call answers NOTHING where none is ---- */
+
+/* A row is a piece of a record, which is the whole record or a part of one that takes several pages. Rows come in the order of node, epoch,
+ * client, core, page. `number` is the record's among those of the core; `continues` is 1 where the row goes on with the record of the row
+ * before. `missing_pages` of the core lie between it and the row before, or the core's beginning, and are not here, with `missing_records`
+ * numbers of records; they are of this trace or of others. */
+typedef struct {
+    uint16_t node;
+    uint16_t client;
+    uint32_t page;
+    uint64_t epoch;
+    uint64_t core;
+    uint64_t number;
+    uint64_t moment;
+    uint64_t missing_pages;
+    uint64_t missing_records;
+    uint64_t len; /* of its payload */
+    uint32_t continues;
+} hindcore_row;
+
+/* Shows the next row, its payload at the front of `out` as far as there is room: DONE, NOTHING (there is no more). No payload has more than
+ * 65,535 bytes. */
+uint32_t hindcore_hub_row(hindcore_hub *hub, hindcore_row *row, uint8_t *out, size_t room);
+/* Whether the trace is whole, 1 or 0: DONE, MEMORY. 0 where none is out. */
+uint32_t hindcore_hub_whole(hindcore_hub *hub, uint32_t *whole);
+/* Which part of the trace it is: 0 where none was saved before. */
+uint32_t hindcore_hub_part(hindcore_hub *hub, uint32_t *part);
+
+/* A group that claims the trace: its lead, the number that its trigger has at the node which admitted it, the trigger's id, that node, and
+ * how many laterals it claims beside the lead. */
+typedef struct {
+    hindcore_trace lead;
+    uint32_t number;
+    uint32_t trigger;
+    uint16_t node;
+    uint32_t laterals;
+} hindcore_claim;
+
+/* The group at a place from 0 on, the oldest first, and one of its laterals: DONE, NOTHING. */
+uint32_t hindcore_hub_claim(hindcore_hub *hub, uint32_t place, hindcore_claim *claim);
+uint32_t hindcore_hub_lateral(hindcore_hub *hub, uint32_t place, uint32_t at, hindcore_trace *trace);
+
+/* A node was not asked, or it was and has answered each ask, or it was and has not. */
+enum { HINDCORE_NOT_ASKED = 1, HINDCORE_ANSWERED = 2, HINDCORE_SILENT = 3 };
+uint32_t hindcore_hub_node(hindcore_hub *hub, uint16_t node, uint32_t *word);
+
+/* What a life said last: whole since a horizon; lost, with counts; unheard since a horizon; that it cannot say; that so many segments are
+ * open; or nothing. */
+enum { HINDCORE_WHOLE = 1, HINDCORE_LOST = 2, HINDCORE_UNHEARD = 3, HINDCORE_UNSAID = 4, HINDCORE_UNENDED = 5, HINDCORE_MUTE = 6 };
+typedef struct {
+    uint32_t word;
+    uint32_t open_segments;
+    uint64_t horizon;
+    uint64_t null_pages;
+    uint64_t full_points;
+    uint64_t dry_points;
+    uint64_t long_points;
+    uint64_t refused_crumbs;
+    uint64_t evicted_crumbs;
+    uint64_t forgotten_crumbs;
+    uint64_t evicted_pages;
+    uint64_t abandoned_pages;
+} hindcore_life;
+uint32_t hindcore_hub_life(hindcore_hub *hub, uint16_t node, uint64_t epoch, hindcore_life *life);
+
+typedef struct {
+    uint64_t epoch;
+    uint16_t node;
+} hindcore_life_id;
+/* The life at a place from 0 on, of those that spoke of the trace, in the order in which they spoke first: DONE, NOTHING. */
+uint32_t hindcore_hub_life_at(hindcore_hub *hub, uint32_t place, hindcore_life_id *life);
 
 #ifdef __cplusplus
 }

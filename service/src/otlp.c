@@ -271,6 +271,7 @@ static void put_part(otlp_text *t, const otlp_trace *trace, const otlp_part *par
     put_text_attribute(t, &count, "hindsight.wholeness", part->wholeness);
     put_count_attribute(t, &count, "hindsight.trigger", trace->trigger);
     put_count_attribute(t, &count, "hindsight.part", trace->part);
+    if (trace->is_whole) put_flag_attribute(t, &count, "hindsight.whole");
     put_text(t, "]},\"scopeSpans\":[{\"scope\":{\"name\":\"hindsight\"},\"spans\":[");
     for (long i = 0; !t->failed && i < s.count; i++) {
         if (i) put_text(t, ",");

@@ -28,6 +28,7 @@ typedef struct {
     hind_trace_id id;
     uint8_t trigger;
     unsigned part;     /* 0, or which later part of the trace this is */
+    int is_whole;      /* whether the hub says that all that any node wrote of it is here */
     const otlp_part *parts;
     size_t count;
 } otlp_trace;

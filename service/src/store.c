@@ -18,7 +18,7 @@ enum { PUT_TRACE, PUT_LIFE, PUT_RECORD, STATEMENTS };
 
 static const char schema[] =
     "PRAGMA journal_mode=WAL; PRAGMA synchronous=FULL;"
-    "CREATE TABLE IF NOT EXISTS traces (trace BLOB NOT NULL, part INTEGER NOT NULL, trigger INTEGER NOT NULL, saved INTEGER NOT NULL, PRIMARY KEY (trace, part)) WITHOUT ROWID;"
+    "CREATE TABLE IF NOT EXISTS traces (trace BLOB NOT NULL, part INTEGER NOT NULL, trigger INTEGER NOT NULL, whole INTEGER NOT NULL, saved INTEGER NOT NULL, PRIMARY KEY (trace, part)) WITHOUT ROWID;"
     "CREATE TABLE IF NOT EXISTS lives (trace BLOB NOT NULL, node INTEGER NOT NULL, epoch INTEGER NOT NULL, service TEXT NOT NULL, wholeness TEXT NOT NULL,"
     " PRIMARY KEY (trace, node, epoch)) WITHOUT ROWID;"
     "CREATE TABLE IF NOT EXISTS records (trace BLOB NOT NULL, node INTEGER NOT NULL, epoch INTEGER NOT NULL, client INTEGER NOT NULL, core INTEGER NOT NULL,"
@@ -26,8 +26,10 @@ static const char schema[] =
     "CREATE INDEX IF NOT EXISTS traces_by_time ON traces (saved);";
 
 static const char *const texts[STATEMENTS] = {
-    "INSERT OR IGNORE INTO traces VALUES (?, ?, ?, ?)",
-    "INSERT INTO lives VALUES (?, ?, ?, ?, ?) ON CONFLICT DO UPDATE SET service = excluded.service, wholeness = excluded.wholeness",
+    "INSERT OR IGNORE INTO traces VALUES (?, ?, ?, ?, ?)",
+    /* what is not known now does not hide what was known before */
+    "INSERT INTO lives VALUES (?, ?, ?, ?, ?) ON CONFLICT DO UPDATE SET service = iif(excluded.service = '', service, excluded.service),"
+    " wholeness = iif(excluded.wholeness IN ('silent', 'not answered'), wholeness, excluded.wholeness)",
     "INSERT OR IGNORE INTO records VALUES (?, ?, ?, ?, ?, ?, ?, ?, ?)",
 };
 
@@ -169,7 +171,8 @@ static int put_head(store *s, const otlp_trace *trace) {
     sqlite3_bind_blob(to, 1, trace->id.bytes, 16, SQLITE_STATIC);
     sqlite3_bind_int64(to, 2, trace->part);
     sqlite3_bind_int64(to, 3, trace->trigger);
-    sqlite3_bind_int64(to, 4, (sqlite3_int64)time(NULL));
+    sqlite3_bind_int64(to, 4, trace->is_whole != 0);
+    sqlite3_bind_int64(to, 5, (sqlite3_int64)time(NULL));
     return step(s, to);
 }
 

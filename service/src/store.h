@@ -15,7 +15,7 @@ typedef struct {
 store *store_open(const store_options *options, char *fault, size_t room);
 
 /* Puts a trace. A row that stands already stays as it is, and a line is written only where some row is new. How whole a life's part is, and its
- * service, are what was put last. 0, or -1 where nothing of it was put (store_fault says why). */
+ * service, are what was put last, but for a life that was silent then, or not named. 0, or -1 where nothing of it was put (store_fault says why). */
 int store_put(store *s, const otlp_trace *trace);
 
 /* Has all that was put on the disk: 0, or -1, and then nothing that was put since the last save stands. */

@@ -300,6 +300,16 @@ static int has_parent(const line *lines, size_t count, const line *l) {
     return 0;
 }
 
+/* Whether the hub said so of its only part. */
+static int is_whole(const uint8_t *trace) {
+    sqlite3_stmt *parts = prepared("SELECT count(*) = 1 AND min(whole) = 1 FROM traces WHERE trace = ?");
+    if (!parts) return 0;
+    sqlite3_bind_blob(parts, 1, trace, 16, SQLITE_STATIC);
+    int whole = sqlite3_step(parts) == SQLITE_ROW && sqlite3_column_int(parts, 0);
+    sqlite3_finalize(parts);
+    return whole;
+}
+
 static void print_picture(const uint8_t *trace, const picture *p) {
     line *lines = NULL;
     size_t count = 0, records = 0;
@@ -313,7 +323,7 @@ static void print_picture(const uint8_t *trace, const picture *p) {
     if (count) qsort(lines, count, sizeof *lines, by_start);
     fputs("trace ", stdout);
     print_hex(trace, 16);
-    printf(": %zu records, %zu spans\n", records, count);
+    printf(": %zu records, %zu spans%s\n", records, count, is_whole(trace) ? ", whole" : "");
     for (size_t i = 0; i < p->count; i++) {
         const otlp_part *part = &p->lives[i].part;
         fputs("  ", stdout);

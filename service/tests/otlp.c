@@ -77,7 +77,7 @@ static void by_hand(int is_refused) {
     web = count;
     add(3, 0, 2000, hind_put_span_start(next(), id(0xc8), id(0xc7), HIND_KIND_CLIENT, "\xc3\xa4"));
     otlp_part parts[] = {{3, 258, "web", "whole since 80", records, web}, {5, 1, "db", "silent", records + web, count - web}};
-    otlp_trace trace = {trace_id, 2, 0, parts, 2};
+    otlp_trace trace = {trace_id, 2, 0, 1, parts, 2};
     print(&trace, is_refused);
 }
 
@@ -92,7 +92,7 @@ static void rare(int is_refused) {
     add(0, 6, 4, hind_put_span_text(next(), id(1), "bad", "a\xc0\xaf\xed\xa0\x80\xf4\x90\x80\x80z"));
     add(0, 7, UINT64_MAX, hind_put_span_int(next(), id(1), "least", INT64_MIN));
     otlp_part part = {0, UINT64_MAX, "", "unknown", records, count};
-    otlp_trace trace = {trace_id, 255, 3, &part, 1};
+    otlp_trace trace = {trace_id, 255, 3, 0, &part, 1};
     print(&trace, is_refused);
     trace.count = 0;
     print(&trace, 0);
@@ -146,7 +146,7 @@ static void random_trace(void) {
         otlp_part part = {(hind_node_id)p, p + 1, "any", "open", records + begin, count - begin};
         parts[p] = part;
     }
-    otlp_trace trace = {trace_id, 1, 1, parts, n};
+    otlp_trace trace = {trace_id, 1, 1, 0, parts, n};
     print(&trace, 0);
 }
 

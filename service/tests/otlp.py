@@ -100,9 +100,11 @@ def attribute(key, kind, v):
     return {"key": key, "value": {kind: v}}
 
 
-def resource(service, node, epoch, wholeness, trigger, part, spans):
+def resource(service, node, epoch, wholeness, trigger, part, spans, whole=False):
     of_node = [attribute("service.name", "stringValue", service), attribute("hindsight.node", "intValue", node), attribute("hindsight.epoch", "stringValue", epoch),
                attribute("hindsight.wholeness", "stringValue", wholeness), attribute("hindsight.trigger", "intValue", trigger), attribute("hindsight.part", "intValue", part)]
+    if whole:
+        of_node.append(attribute("hindsight.whole", "boolValue", True))
     return {"resource": {"attributes": of_node}, "scopeSpans": [{"scope": {"name": "hindsight"}, "spans": spans}]}
 
 
@@ -125,7 +127,7 @@ def by_hand(line):
     called = {"traceId": TRACE, "spanId": "00000000000000c8", "parentSpanId": "00000000000000c7", "name": "ä", "kind": 3,
               "startTimeUnixNano": "2000", "endTimeUnixNano": "2000", "status": {"code": 0},
               "attributes": [attribute("hindsight.client", "intValue", "3"), attribute("hindsight.no_end", "boolValue", True)], "events": []}
-    return {"resourceSpans": [resource("web", "3", "258", "whole since 80", "2", "0", [get, records]), resource("db", "5", "1", "silent", "2", "0", [called])]}
+    return {"resourceSpans": [resource("web", "3", "258", "whole since 80", "2", "0", [get, records], True), resource("db", "5", "1", "silent", "2", "0", [called], True)]}
 
 
 def rare():

@@ -52,7 +52,7 @@ static otlp_record two[2] = {{0, 0, 0, 0, 1000, (const uint8_t *)"a", 1}, {0, 0,
 /* A trace of this number, with so many of the two records, of this life of node 3. */
 static int put(store *s, unsigned number, uint64_t epoch, size_t records, const char *wholeness) {
     otlp_part part = {3, epoch, "web", wholeness, two, records};
-    otlp_trace trace = {{{0}}, 1, 0, &part, 1};
+    otlp_trace trace = {{{0}}, 1, 0, 0, &part, 1};
     memcpy(trace.id.bytes, &number, sizeof number);
     return store_put(s, &trace);
 }

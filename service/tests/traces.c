@@ -45,7 +45,7 @@ int main(int argc, char **argv) {
     add(3, 9, 0, 1000300000, hind_put_span_event(NOW, id(2), "lock"));
     add(3, 10, 0, 1000700000, hind_put_span_end(NOW, id(2), HIND_STATUS_OK, NULL));
     otlp_part failed[] = {{1, 5, "web", "whole since 12", records, web}, {2, 9, "stock", "whole since 3", records + web, count - web}};
-    otlp_trace trace = {{{0, 0, 0, 0, 0, 0, 0, 0, 0, 0, 0, 0, 0, 0, 0xa1, 0xb0}}, 2, 0, failed, 2};
+    otlp_trace trace = {{{0, 0, 0, 0, 0, 0, 0, 0, 0, 0, 0, 0, 0, 0, 0xa1, 0xb0}}, 2, 0, 1, failed, 2};
     if (store_put(s, &trace)) return 1;
 
     count = 0;
@@ -54,7 +54,7 @@ int main(int argc, char **argv) {
     add(1, 0, 0, 60, hind_put_span_start(NOW, id(8), id(9), HIND_KIND_INTERNAL, "egg"));
     add(1, 1, 0, 70, hind_put_span_start(NOW, id(9), id(8), HIND_KIND_INTERNAL, "hen"));
     otlp_part odd = {4, 1, "odd", "lost: 1 null page", records, count};
-    otlp_trace other = {{{0xff}}, 3, 0, &odd, 1};
+    otlp_trace other = {{{0xff}}, 3, 0, 0, &odd, 1};
     if (store_put(s, &other) || store_save(s)) return 1;
     store_close(s);
     return 0;
