@@ -185,6 +185,8 @@ static int subscribe(hub *h, char *fault, size_t room) {
     config.AckWait = (int64_t)ACK_WAIT * 1000000000;
     config.MaxAckPending = MOST_UNACKNOWLEDGED;
     config.FilterSubject = subject;
+    /* a consumer of an earlier life would keep back for a while what that life took and did not acknowledge */
+    js_DeleteConsumer(h->broker.stream, name, "hub", NULL, &code);
     natsStatus s = js_AddConsumer(&info, h->broker.stream, name, &config, NULL, &code);
     jsConsumerInfo_Destroy(info);
     jsSubOptions_Init(&options);

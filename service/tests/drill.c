@@ -1,0 +1,318 @@
+/* Drills: a NATS server, the program hindsight-hub and three nodes, each a list of messages that its carrier publishes. While traces are claimed
+ * something fails. Whatever it was, each record has to be saved at the end, once, and each trace called whole.
+ *
+ *     drill FOLDER PORT HUB      FOLDER is empty; HUB is the program */
+#include "carrier.h"
+#include "expect.h"
+#include "messages.h"
+#include <nats/nats.h>
+#include <pthread.h>
+#include <signal.h>
+#include <sqlite3.h>
+#include <stdlib.h>
+#include <sys/stat.h>
+#include <sys/wait.h>
+#include <time.h>
+#include <unistd.h>
+
+enum { NODES = 3, TRACES = 600, MOST = 16384 };
+
+static const char *folder, *port, *hub_program;
+static char url[64];
+static pid_t server, hub;
+
+static void sleep_ms(long ms) {
+    struct timespec t = {ms / 1000, ms % 1000 * 1000000};
+    nanosleep(&t, NULL);
+}
+
+/* ---- processes */
+
+static pid_t start(char *const words[]) {
+    pid_t child = fork();
+    if (!child) {
+        if (!freopen("/dev/null", "w", stdout)) _exit(126);
+        if (!strcmp(words[0], "nats-server") && !freopen("/dev/null", "w", stderr)) _exit(126);
+        execvp(words[0], words);
+        _exit(127);
+    }
+    return child;
+}
+
+static void end(pid_t child, int with) {
+    kill(child, with);
+    waitpid(child, NULL, 0);
+}
+
+static void start_server(void) {
+    char store[300];
+    snprintf(store, sizeof store, "%s/js", folder);
+    char *words[] = {"nats-server", "-a", "127.0.0.1", "-p", (char *)(size_t)port, "-js", "-sd", store, NULL};
+    server = start(words);
+}
+
+static void start_hub(const char *prefix) {
+    char settings[300], store[300];
+    snprintf(settings, sizeof settings, "%s/settings", folder);
+    snprintf(store, sizeof store, "%s/%s", folder, prefix);
+    char *words[] = {(char *)(size_t)hub_program, settings, store, "--url", url, "--prefix", (char *)(size_t)prefix, NULL};
+    hub = start(words);
+}
+
+/* ---- a node */
+
+typedef struct {
+    uint8_t *bytes;
+    size_t len;
+    int done;
+} message;
+
+typedef struct {
+    pthread_mutex_t lock;
+    message messages[MOST];
+    uint64_t count, offered;
+    uint16_t node;
+    uint64_t epoch;
+    uint32_t pages, records;
+    char asked[TRACES];
+} node;
+
+static void put(node *n, const writing *w) {
+    message *m = &n->messages[n->count++];
+    HOLDS(n->count <= MOST);
+    m->bytes = malloc(w->len);
+    HOLDS(m->bytes != NULL);
+    memcpy(m->bytes, w->bytes, w->len);
+    m->len = w->len;
+}
+
+static void trace_of(int t, uint8_t trace[16]) {
+    memset(trace, 0, 16);
+    trace[0] = 0x77;
+    trace[14] = (uint8_t)(t >> 8);
+    trace[15] = (uint8_t)t;
+}
+
+/* The node tells of a trace, reports a page of two records, and says that this is whole. */
+static void tell(node *n, int t, uint16_t first, uint8_t why, uint16_t crumb) {
+    static uint8_t bytes[4096], page[1024];
+    static pthread_mutex_t buffers = PTHREAD_MUTEX_INITIALIZER;
+    uint8_t trace[16];
+    trace_of(t, trace);
+    group_id group = {first, (uint32_t)t, 1, trace};
+    pthread_mutex_lock(&buffers);
+    writing w = {bytes, 0}, p = {page, 0};
+    put_told(&w, n->epoch, n->count, n->node, &group, why, 1u << crumb, NULL, 0);
+    put(n, &w);
+    begin_page(&p, trace, n->node, 0, n->pages++, n->records);
+    for (int r = 0; r < 2; r++) put_piece(&p, (uint64_t)t * 1000 + (uint64_t)r, "a record", 8);
+    end_page(&p, 2);
+    n->records += 2;
+    w.len = 0;
+    put_reported(&w, n->epoch, n->count, n->node, &group, 0, 0, p.bytes, p.len);
+    put(n, &w);
+    w.len = 0;
+    put_standing(&w, n->epoch, n->count, n->node, trace, &group, SAYS_WHOLE, 0, 0, 1, 0);
+    put(n, &w);
+    pthread_mutex_unlock(&buffers);
+}
+
+static int node_pass(void *of) {
+    (void)of;
+    return 0;
+}
+
+static int node_next(void *of, uint64_t *number, const uint8_t **bytes, size_t *len) {
+    node *n = of;
+    pthread_mutex_lock(&n->lock);
+    while (n->offered < n->count && n->messages[n->offered].done) n->offered++;
+    int there = n->offered < n->count;
+    if (there) {
+        *number = n->offered;
+        *bytes = n->messages[n->offered].bytes;
+        *len = n->messages[n->offered].len;
+    }
+    pthread_mutex_unlock(&n->lock);
+    return there;
+}
+
+static void node_sent(void *of, uint64_t number) {
+    node *n = of;
+    pthread_mutex_lock(&n->lock);
+    n->offered = number + 1;
+    pthread_mutex_unlock(&n->lock);
+}
+
+static int node_acknowledged(void *of, uint64_t number) {
+    node *n = of;
+    pthread_mutex_lock(&n->lock);
+    int waited = number < n->count && !n->messages[number].done;
+    if (waited) n->messages[number].done = 1;
+    pthread_mutex_unlock(&n->lock);
+    return waited;
+}
+
+static void node_again(void *of) {
+    node *n = of;
+    pthread_mutex_lock(&n->lock);
+    n->offered = 0;
+    pthread_mutex_unlock(&n->lock);
+}
+
+/* An ask of a trace is answered; one that was answered is told of again without its page. */
+static void node_deliver(void *of, const uint8_t *bytes, size_t len) {
+    node *n = of;
+    HOLDS(len == 44 && bytes[1] == 3);
+    uint16_t first = (uint16_t)(bytes[20] << 8 | bytes[21]);
+    int t = bytes[41] << 8 | bytes[42];
+    HOLDS(t < TRACES && first < NODES);
+    pthread_mutex_lock(&n->lock);
+    if (!n->asked[t]) {
+        n->asked[t] = 1;
+        tell(n, t, first, 1, first);
+    } else {
+        uint8_t again[256];
+        uint8_t trace[16];
+        trace_of(t, trace);
+        group_id group = {first, (uint32_t)t, 1, trace};
+        writing w = {again, 0};
+        put_told(&w, n->epoch, n->count, n->node, &group, 1, 1u << first, NULL, 0);
+        put(n, &w);
+    }
+    pthread_mutex_unlock(&n->lock);
+}
+
+static carrier *open_node(node *n, const char *prefix, int number) {
+    char name[16], fault[200] = "";
+    uint8_t hello[256];
+    carrier *c = NULL;
+    snprintf(name, sizeof name, "node-%d", number);
+    carrier_options options = {.url = url, .prefix = prefix, .name = name, .nodes = NODES, .wait = 10000};
+    carrier_answer answer = carrier_open(&options, &c, fault, sizeof fault);
+    EXPECT(answer, CARRIER_DONE);
+    if (!c) exit(1);
+    pthread_mutex_init(&n->lock, NULL);
+    n->node = carrier_node(c);
+    n->epoch = carrier_epoch(c);
+    writing w = {hello, 0};
+    put_hello(&w, n->epoch, 0, n->node, name);
+    put(n, &w);
+    carried of = {n, node_pass, node_next, node_sent, node_acknowledged, node_again, node_deliver};
+    EXPECT(carrier_start(c, &of), CARRIER_DONE);
+    return c;
+}
+
+/* ---- what was saved */
+
+static long one_number(const char *prefix, const char *query) {
+    char path[300];
+    sqlite3 *db = NULL;
+    sqlite3_stmt *statement = NULL;
+    long n = -1;
+    snprintf(path, sizeof path, "%s/%s/traces.db", folder, prefix);
+    if (sqlite3_open_v2(path, &db, SQLITE_OPEN_READWRITE, NULL) == SQLITE_OK) {
+        sqlite3_busy_timeout(db, 2000);
+        if (sqlite3_prepare_v2(db, query, -1, &statement, NULL) == SQLITE_OK && sqlite3_step(statement) == SQLITE_ROW)
+            n = (long)sqlite3_column_int64(statement, 0);
+    }
+    sqlite3_finalize(statement);
+    sqlite3_close(db);
+    return n;
+}
+
+/* One drill: traces are claimed, `trouble` happens after a third of them, and all has to be saved within `patience` seconds. */
+static void drill(const char *prefix, void (*trouble)(const char *prefix), int patience) {
+    static node nodes[NODES];
+    carrier *carriers[NODES];
+    char store[300];
+    snprintf(store, sizeof store, "%s/%s", folder, prefix);
+    EXPECT(mkdir(store, 0700), 0);
+    start_server();
+    start_hub(prefix);
+    memset(nodes, 0, sizeof nodes);
+    for (int i = 0; i < NODES; i++) carriers[i] = open_node(&nodes[i], prefix, i);
+    for (int t = 0; t < TRACES; t++) {
+        node *n = &nodes[t % NODES];
+        pthread_mutex_lock(&n->lock);
+        tell(n, t, n->node, 0, (uint16_t)((n->node + 1) % NODES));
+        pthread_mutex_unlock(&n->lock);
+        if (t == TRACES / 3 && trouble) trouble(prefix);
+        if (t % 10 == 0) sleep_ms(5);
+    }
+    long saved = 0;
+    int waited = 0;
+    for (; waited < patience * 10 && saved < 4 * TRACES; waited++) {
+        sleep_ms(100);
+        saved = one_number(prefix, "SELECT count(*) FROM records");
+    }
+    uint64_t repeats = 0;
+    for (int i = 0; i < NODES; i++) {
+        carrier_counts counts;
+        EXPECT(carrier_stop(carriers[i], 20000), 1);
+        carrier_count(carriers[i], &counts);
+        repeats += counts.repeats;
+        carrier_close(carriers[i]);
+    }
+    end(hub, SIGTERM);
+    end(server, SIGTERM);
+    /* records are told apart by their keys, so a count of them is a count of each once */
+    EXPECT(one_number(prefix, "SELECT count(*) FROM records"), 4 * TRACES);
+    EXPECT(one_number(prefix, "SELECT count(DISTINCT trace) FROM traces"), TRACES);
+    long whole = one_number(prefix, "SELECT count(*) FROM traces WHERE part = 0 AND whole = 1");
+    /* whole is said of no trace of which a record is missing in what was saved by then */
+    EXPECT(one_number(prefix, "SELECT count(*) FROM traces t WHERE whole = 1 AND (SELECT count(*) FROM records r WHERE r.trace = t.trace) <> 4"), 0);
+    printf("%s: %ld records of %d traces saved, %ld called whole, within %d ms after the last claim, %lu repeats\n", prefix, saved, TRACES, whole, waited * 100,
+           (unsigned long)repeats);
+    if (!trouble) EXPECT(whole, TRACES);
+    for (int i = 0; i < NODES; i++)
+        for (uint64_t m = 0; m < nodes[i].count; m++) free(nodes[i].messages[m].bytes);
+}
+
+static void hub_killed(const char *prefix) {
+    end(hub, SIGKILL);
+    sleep_ms(1000);
+    start_hub(prefix);
+}
+
+static void broker_paused(const char *prefix) {
+    (void)prefix;
+    kill(server, SIGSTOP);
+    sleep_ms(3000);
+    kill(server, SIGCONT);
+}
+
+static void broker_killed(const char *prefix) {
+    (void)prefix;
+    end(server, SIGKILL);
+    sleep_ms(1000);
+    start_server();
+}
+
+static void both_killed(const char *prefix) {
+    end(hub, SIGKILL);
+    end(server, SIGKILL);
+    start_server();
+    start_hub(prefix);
+}
+
+int main(int argc, char **argv) {
+    char path[300];
+    if (argc != 4) return 2;
+    setvbuf(stdout, NULL, _IOLBF, 0); /* what forks has nothing left to print */
+    folder = argv[1];
+    port = argv[2];
+    hub_program = argv[3];
+    snprintf(url, sizeof url, "nats://127.0.0.1:%s", port);
+    snprintf(path, sizeof path, "%s/settings", folder);
+    FILE *settings = fopen(path, "w");
+    if (!settings) return 2;
+    fprintf(settings, "nodes %d\ntriggerid 1\n", NODES);
+    fclose(settings);
+    drill("calm", NULL, 60);
+    drill("hub-killed", hub_killed, 90);
+    drill("broker-paused", broker_paused, 90);
+    drill("broker-killed", broker_killed, 90);
+    drill("both-killed", both_killed, 90);
+    nats_Close();
+    return failed != 0;
+}
