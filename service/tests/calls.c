@@ -1,49 +1,11 @@
 /* Each call of the core, as C makes it: what it answers where all is well, what it answers to each misuse that it tests for, and what is left
  * where memory is refused. Expected values are from docs/RULES.md and the header. */
+#include "expect.h"
 #include "hindcore.h"
+#include "refusing.h"
 #include <stdio.h>
 #include <stdlib.h>
 #include <string.h>
-
-static int failed;
-
-#define EXPECT(what, wanted) expect(__LINE__, #what, (unsigned long long)(what), (unsigned long long)(wanted))
-
-static void expect(int line, const char *what, unsigned long long got, unsigned long long wanted) {
-    if (got == wanted) return;
-    fprintf(stderr, "calls.c:%d: %s: wanted %llu, got %llu\n", line, what, wanted, got);
-    failed++;
-}
-
-/* ---- memory: the linker has malloc and realloc go through here (--wrap) */
-
-void *__real_malloc(size_t size);
-void *__real_realloc(void *old, size_t size);
-void __real_free(void *old);
-void *__wrap_malloc(size_t size);
-void *__wrap_realloc(void *old, size_t size);
-void __wrap_free(void *old);
-
-static long allocations, refused_at = -1, live;
-
-static int is_refused(void) { return allocations++ == refused_at; }
-
-void *__wrap_malloc(size_t size) {
-    if (is_refused()) return NULL;
-    live++;
-    return __real_malloc(size);
-}
-
-void *__wrap_realloc(void *old, size_t size) {
-    if (is_refused()) return NULL;
-    live += !old;
-    return __real_realloc(old, size);
-}
-
-void __wrap_free(void *old) {
-    live -= old != NULL;
-    __real_free(old);
-}
 
 /* ---- a node with two clients */
 
