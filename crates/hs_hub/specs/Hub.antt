@@ -37,7 +37,7 @@ use Rattle.hs_traces.specs.Traces.{PlainTraces, held_bytes, keys_in}
 use Rattle.hs_receipts.specs.declared.answers.MessageId.{MessageId}
 use Rattle.hs_receipts.specs.declared.answers.Waiting.{Waiting}
 use Rattle.hs_receipts.specs.Receipts as receipts
-use Rattle.hs_receipts.specs.Receipts.{PlainReceipts, kept, is_noted, is_for}
+use Rattle.hs_receipts.specs.Receipts.{PlainReceipts, kept, is_noted, is_known, is_for}
 use Rattle.hs_cursor.specs.Walking.{Place, Found, step}
 use Rattle.hs_saved.specs.Saved as saved
 use Rattle.hs_saved.specs.Saved.{PlainSaved, no_saved, parts_of}
@@ -93,6 +93,10 @@ waits_at now message trace = record { trace = trace; message = message; since = 
 abbrev pub noted : ℕ → MessageId → PlainReceipts → TraceId → PlainReceipts
 noted now message book trace = if is_noted book trace message then book else receipts.after_wait book (waits_at now message trace)
 
+-- for the lead and each lateral of what it tells; one that waits already is a repeat, and waits for what is left of these
+abbrev pub all_noted : ℕ → MessageId → PlainReceipts → Told → PlainReceipts
+all_noted now message book told = if is_known book message then book else fold (noted now message) (noted now message book told.group.lead) told.laterals
+
 -- for how many more messages there is room
 abbrev pub room : PlainHub → ℕ
 room h = h.receipts.most - kept h.receipts
@@ -126,7 +130,7 @@ answer_to_told h message told =
 abbrev pub after_answer_to_told : PlainHub → MessageId → Told → group_answers.Taken → PlainHub
 after_answer_to_told h message told (of_group.Taken heard) = record h {
   groups = groups.after_told h.groups (node_of message) message.epoch told;
-  receipts = fold (noted h.passes message) (noted h.passes message h.receipts told.group.lead) told.laterals;
+  receipts = all_noted h.passes message h.receipts told;
 }
 after_answer_to_told h message told of_group.Refused = h
 after_answer_to_told h message told of_group.Full = h

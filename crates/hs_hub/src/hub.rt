@@ -13,7 +13,7 @@ ghost use Rattle.hs_cursor.specs.Walking.{row_of, place_of, step_inside, step_on
 ghost use Rattle.hs_wire.specs.Messages.{PlainMessage, IsMessage, message_bytes, plain};
 ghost use Rattle.hs_settings.specs.Settings.{service_of, IsServiceSettings};
 ghost use Rattle.hs_hub.specs.ByService.{limits_by};
-ghost use Rattle.hs_hub.specs.Hub.{PlainHub, IsDelivered, are_out, no_hub, noted, answer_to_hear, after_hear, answer_to_told, after_told, answer_to_page, after_page, answer_to_standing, after_standing, IsReported, ask_of, IsWritten, IsShort, after_next, after_pass, is_pressed, aged, may_go, answer_to_take, after_take, after_saved, pages_out, next_row, is_whole_out, page_of_out, why_out, part_out, claim_out, life_out, repeated, after_named, counts_of};
+ghost use Rattle.hs_hub.specs.Hub.{PlainHub, IsDelivered, are_out, no_hub, noted, all_noted, answer_to_hear, after_hear, answer_to_told, after_told, answer_to_page, after_page, answer_to_standing, after_standing, IsReported, ask_of, IsWritten, IsShort, after_next, after_pass, is_pressed, aged, may_go, answer_to_take, after_take, after_saved, pages_out, next_row, is_whole_out, page_of_out, why_out, part_out, claim_out, life_out, repeated, after_named, counts_of};
 
 use crate::answers::{Delivered, Given, HubCounts, HubLimits, MakeFault};
 use crate::limits::hub_limits;
@@ -113,6 +113,18 @@ fn note_each(receipts: &mut Receipts, traces: &Laterals, message: MessageId, now
         };
         note(receipts, trace, message, now);
     }
+}
+
+/// Has a message wait for the lead and each lateral of what it tells. One that waits already is a repeat: it waits for what is left of
+/// these, since the others were saved.
+fn note_all(receipts: &mut Receipts, told: &Told, message: MessageId, now: u64)
+    ensures { receipts.new ≡ all_noted now message receipts.old told.now }
+{
+    if receipts.is_known(message) {
+        return;
+    }
+    note(receipts, told.group.lead, message, now);
+    note_each(receipts, &told.laterals, message, now);
 }
 
 impl Hub {
@@ -237,8 +249,7 @@ impl Hub {
             Taken::Refused => Delivered::Refused,
             Taken::Full => Delivered::Full,
             Taken::Taken(_) => {
-                note(&mut self.receipts, told.group.lead, message, self.passes);
-                note_each(&mut self.receipts, &told.laterals, message, self.passes);
+                note_all(&mut self.receipts, told, message, self.passes);
                 Delivered::Held
             }
         }

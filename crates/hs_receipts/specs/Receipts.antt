@@ -50,6 +50,14 @@ is_out s trace = option_map_or (same_trace trace) s.out false
 abbrev pub is_noted : PlainReceipts → TraceId → MessageId → Bool
 is_noted s trace message = list_any (waits_for trace message) s.waiting || (is_out s trace && list_any (is_message message) s.served)
 
+-- whether a message waits for a trace that is not out
+abbrev pub waits_elsewhere : List Waiting → MessageId → Bool
+waits_elsewhere waiting message = list_any (λ waits. is_message message waits.message) waiting
+
+-- whether a message waits for any trace
+abbrev pub is_known : PlainReceipts → MessageId → Bool
+is_known s message = waits_elsewhere s.waiting message || list_any (is_message message) s.served
+
 -- ---- a message comes
 
 abbrev pub answer_to_wait : PlainReceipts → Answer
@@ -80,10 +88,6 @@ after_offer s trace =
       served = s.served ++ messages_for trace s.waiting;
     }
     else s
-
--- whether a message waits for a trace that is not out
-abbrev pub waits_elsewhere : List Waiting → MessageId → Bool
-waits_elsewhere waiting message = list_any (λ waits. is_message message waits.message) waiting
 
 -- the trace that is out is saved: what it was served by may be acknowledged, if it waits for nothing else
 abbrev pub after_saved : PlainReceipts → PlainReceipts

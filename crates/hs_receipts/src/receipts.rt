@@ -3,7 +3,7 @@
 ghost use Rattle.std.specs.Prelude.{◌≡◌, ◌+◌, ◌-◌, ◌≤◌, ◌++◌, ◌||◌, not, nat_le, is_none, length, filter, drop, slice_get, vec_len, vec_capacity, IfOk, option_copied};
 ghost use Rattle.std.specs.VecDeque.{deque_len, deque_capacity};
 ghost use Rattle.std.specs.List.{list_any};
-ghost use Rattle.hs_receipts.specs.Receipts.{PlainReceipts, no_receipts, is_message, is_for, is_out, waits_for, is_noted, messages_for, answer_to_wait, after_wait, answer_to_join, after_join, after_offer, waits_elsewhere, after_saved, counts_of, kept};
+ghost use Rattle.hs_receipts.specs.Receipts.{PlainReceipts, no_receipts, is_message, is_for, is_out, waits_for, is_noted, is_known, messages_for, answer_to_wait, after_wait, answer_to_join, after_join, after_offer, waits_elsewhere, after_saved, counts_of, kept};
 
 use crate::answers::{MessageId, Noted, ReceiptCounts, Waiting};
 use hs_base::{Memory, TraceId};
@@ -105,6 +105,13 @@ impl Receipts {
     {
         waits_for(&self.waiting, trace, message)
             || self.is_out(trace) && has_message(&self.served, message)
+    }
+
+    /// Whether a message waits for any trace, be it out or not.
+    pub fn is_known(&self, message: MessageId) -> bool
+        ensures { result ≡ is_known self.now message }
+    {
+        waits_elsewhere(&self.waiting, message) || has_message(&self.served, message)
     }
 
     /// Whether a trace is the one that is out.

@@ -1,6 +1,6 @@
 -- What holds where a trace is said to be whole.
-use Rattle.std.proofs.Common.{◌≡◌, ℕ, Bool, true, false, not, ◌&&◌, ◌||◌, eqb, List, Option, Some, None, refl, sym, ap, ◌∙◌}
-use Rattle.std.specs.Prelude.{count_by, slice_get}
+use Rattle.std.proofs.Common.{◌≡◌, ℕ, ◌<◌, Bool, true, false, not, ◌&&◌, ◌||◌, eqb, List, Option, Some, None, refl, sym, ap, ◌∙◌}
+use Rattle.std.specs.Prelude.{count_by, length, nat_lt, slice_get}
 use Rattle.std.specs.List.{list_all, list_any}
 use Rattle.std.specs.Option.{option_map_or}
 use Rattle.hs_lists.proofs.Tests.{list_all_at}
@@ -17,6 +17,7 @@ use Rattle.hs_verdict.specs.Verdict.{claims, latest_life, life_of, is_node_close
 use Rattle.hs_traces.specs.Keys.{is_from}
 use Rattle.hs_verdict.specs.Pages.{is_full, are_full}
 use Rattle.hs_verdict.specs.Whole.{IsWhole}
+use Rattle.std.proofs.lemmas.Bool.{ltb-true}
 use borrow.Author.Tests.{eqb-true}
 
 left : (a b : Bool) → (a && b) ≡ true → a ≡ true
@@ -55,10 +56,12 @@ pub whole_said : (g : PlainGroups) (s : PlainStandings) (trace : TraceId) (pages
 whole_said g s trace pages e =
     let whole_pages = list_all (is_page_whole s trace) pages in
     let held = are_full s trace pages && whole_pages in
-    let all : has_all g s trace ≡ true = left (has_all g s trace) (are_closed s trace && held) e in
-    let rest : (are_closed s trace && held) ≡ true = right (has_all g s trace) (are_closed s trace && held) e in
+    let behind : (has_all g s trace && (are_closed s trace && held)) ≡ true = right (nat_lt 0 (length pages)) (has_all g s trace && (are_closed s trace && held)) e in
+    let all : has_all g s trace ≡ true = left (has_all g s trace) (are_closed s trace && held) behind in
+    let rest : (are_closed s trace && held) ≡ true = right (has_all g s trace) (are_closed s trace && held) behind in
     let full : held ≡ true = right (are_closed s trace) held rest in
     record {
+      some = ltb-true 0 (length pages) (left (nat_lt 0 (length pages)) (has_all g s trace && (are_closed s trace && held)) e);
       claimed = left (list_any (claims trace) g.groups) (list_all (is_answered g s trace) g.groups) all;
       answered = λ place followed there claimed.
           eqb-true followed.waiting.0 0 (left (eqb followed.waiting.0 0) (are_nodes_closed g s trace followed.asked) (group_answered g s trace all place followed there claimed));

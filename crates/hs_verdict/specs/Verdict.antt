@@ -2,7 +2,7 @@
 -- whole. Nothing more is to come of a trace where each node that was asked for it answered and the latest life of each is closed to it.
 -- It is whole where, besides, no earlier life is open, all pages came that lives say they handed out, and each life that wrote a page of it
 -- says that its part is whole.
-use Rattle.std.specs.Prelude.{◌≡◌, ℕ, Bool, true, false, not, ◌&&◌, ◌||◌, ◌==◌, List, [], ◌∷◌, nat_lt, filter, slice_get, Option, Some, None, option_map, if◌then◌else◌, refl}
+use Rattle.std.specs.Prelude.{◌≡◌, ℕ, Bool, true, false, not, ◌&&◌, ◌||◌, ◌==◌, List, [], ◌∷◌, length, nat_lt, filter, slice_get, Option, Some, None, option_map, if◌then◌else◌, refl}
 use Rattle.std.specs.List.{list_all, list_any}
 use Rattle.std.specs.Option.{option_map_or, option_and_then}
 use Rattle.hs_base.specs.declared.ids.NodeId.{NodeId}
@@ -98,7 +98,7 @@ claimed_among g s trace some = if list_all (is_answered g s trace) some then Som
 abbrev pub has_all : PlainGroups → PlainStandings → TraceId → Bool
 has_all g s trace = list_any (claims trace) g.groups && list_all (is_answered g s trace) g.groups
 
--- ---- whether it is whole
+-- ---- whether it is whole: of nothing that is not said
 
 abbrev pub life_of : PageKey → Life
 life_of page = record { node = page.node; epoch = page.epoch }
@@ -108,7 +108,7 @@ abbrev pub is_page_whole : PlainStandings → TraceId → PageKey → Bool
 is_page_whole s trace page = option_map_or says_whole (latest_of s trace (life_of page)) false
 
 abbrev pub is_whole : PlainGroups → PlainStandings → TraceId → List PageKey → Bool
-is_whole g s trace pages = has_all g s trace && (are_closed s trace && (are_full s trace pages && list_all (is_page_whole s trace) pages))
+is_whole g s trace pages = nat_lt 0 (length pages) && (has_all g s trace && (are_closed s trace && (are_full s trace pages && list_all (is_page_whole s trace) pages)))
 
 -- ---- worked examples: node 0, in life 5, tells of its group 7, whose lead is trace 107, with a crumb to node 1, whose life is 3
 

@@ -1,5 +1,5 @@
 -- What it means that a trace is whole, in words of its nodes and lives.
-use Rattle.std.specs.Prelude.{◌≡◌, ℕ, true, List, count_by, slice_get, Some}
+use Rattle.std.specs.Prelude.{◌≡◌, ℕ, ◌<◌, true, List, length, count_by, slice_get, Some}
 use Rattle.std.specs.List.{list_any}
 use Rattle.hs_base.specs.declared.ids.TraceId.{TraceId}
 use Rattle.hs_base.specs.NodeSets.{nodes_of}
@@ -18,6 +18,8 @@ abbrev pub HasSaid : PlainStandings → TraceId → Life → (Latest → Type 0)
 HasSaid s trace life P = (latest : Latest) × (latest_of s trace life ≡ Some latest) × P latest
 
 pub record IsWhole (g : PlainGroups) (s : PlainStandings) (trace : TraceId) (pages : List PageKey) : Type 0 where
+  -- a page of it is here
+  pub some : 0 < length pages
   -- a group that is followed claims the trace
   pub claimed : list_any (claims trace) g.groups ≡ true
   -- each group that claims it waits for no answer

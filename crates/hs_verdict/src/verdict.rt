@@ -106,12 +106,13 @@ fn are_pages_whole(standings: &Standings, trace: TraceId, pages: &[PageKey]) -> 
         .all(|page| is_page_whole(standings, trace, *page))
 }
 
-/// Whether a trace with these pages is whole: nothing more is to come of it, each life that spoke of it is closed to it, these are all
-/// pages that lives say they handed out, and each life that wrote one says that its part is whole.
+/// Whether a trace with these pages is whole: there is one, nothing more is to come of it, each life that spoke of it is closed to it,
+/// these are all pages that lives say they handed out, and each life that wrote one says that its part is whole.
 pub fn is_whole(groups: &Groups, standings: &Standings, trace: TraceId, pages: &[PageKey]) -> bool
     ensures { result ≡ is_whole groups.now standings.now trace pages.now }
 {
-    has_all(groups, standings, trace)
+    !pages.is_empty()
+        && has_all(groups, standings, trace)
         && standings.are_closed(trace)
         && are_full(standings, trace, &Pages::Out(pages))
         && are_pages_whole(standings, trace, pages)
