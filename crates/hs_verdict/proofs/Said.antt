@@ -13,7 +13,7 @@ use Rattle.hs_standings.specs.declared.answers.Life.{Life}
 use Rattle.hs_standings.specs.Standing.{PlainStandings, Lives, latest_of, lives_of}
 use Rattle.hs_standings.specs.Closing.{is_closed, says_whole, all_closed, are_closed}
 use Rattle.hs_traces.specs.declared.key.PageKey.{PageKey}
-use Rattle.hs_verdict.specs.Verdict.{claims, latest_life, life_of, is_node_closed, are_nodes_closed, is_answered, has_all, is_page_whole, is_whole}
+use Rattle.hs_verdict.specs.Verdict.{claims, latest_life, life_of, is_node_closed, are_nodes_closed, is_answered, has_all, is_page_whole, is_life_asked, are_asked, is_whole}
 use Rattle.hs_traces.specs.Keys.{is_from}
 use Rattle.hs_verdict.specs.Pages.{is_full, are_full}
 use Rattle.hs_verdict.specs.Whole.{IsWhole}
@@ -46,6 +46,11 @@ lives_closed : (o : Option Lives) → option_map_or all_closed o true ≡ true �
 lives_closed o e lives is at entry there =
     list_all_at (λ (x : Life × Latest). is_closed x.1) lives at entry (sym (ap (λ (p : Option Lives). option_map_or all_closed p true) is) ∙ e) there
 
+lives_asked : (g : PlainGroups) (trace : TraceId) (o : Option Lives) → option_map_or (list_all (is_life_asked g trace)) o true ≡ true → (lives : Lives) → o ≡ Some lives → (at : ℕ) (entry : Life × Latest) → slice_get lives at ≡ Some entry
+    → is_life_asked g trace entry ≡ true
+lives_asked g trace o e lives is at entry there =
+    list_all_at (is_life_asked g trace) lives at entry (sym (ap (λ (p : Option Lives). option_map_or (list_all (is_life_asked g trace)) p true) is) ∙ e) there
+
 lives_full : (keys : List PageKey) (o : Option Lives) → option_map_or (list_all (is_full keys)) o true ≡ true → (lives : Lives) → o ≡ Some lives → (at : ℕ) (entry : Life × Latest) → slice_get lives at ≡ Some entry
     → entry.1.standing.pages ≡ count_by (is_from entry.0.node entry.0.epoch) keys
 lives_full keys o e lives is at entry there =
@@ -55,11 +60,13 @@ lives_full keys o e lives is at entry there =
 pub whole_said : (g : PlainGroups) (s : PlainStandings) (trace : TraceId) (pages : List PageKey) → is_whole g s trace pages ≡ true → IsWhole g s trace pages
 whole_said g s trace pages e =
     let whole_pages = list_all (is_page_whole s trace) pages in
-    let held = are_full s trace pages && whole_pages in
+    let kept = are_full s trace pages && whole_pages in
+    let held = are_asked g s trace && kept in
     let behind : (has_all g s trace && (are_closed s trace && held)) ≡ true = right (nat_lt 0 (length pages)) (has_all g s trace && (are_closed s trace && held)) e in
     let all : has_all g s trace ≡ true = left (has_all g s trace) (are_closed s trace && held) behind in
     let rest : (are_closed s trace && held) ≡ true = right (has_all g s trace) (are_closed s trace && held) behind in
-    let full : held ≡ true = right (are_closed s trace) held rest in
+    let known : held ≡ true = right (are_closed s trace) held rest in
+    let full : kept ≡ true = right (are_asked g s trace) kept known in
     record {
       some = ltb-true 0 (length pages) (left (nat_lt 0 (length pages)) (has_all g s trace && (are_closed s trace && held)) e);
       claimed = left (list_any (claims trace) g.groups) (list_all (is_answered g s trace) g.groups) all;
@@ -70,6 +77,7 @@ whole_said g s trace pages e =
           (list_all_at (λ (n : ℕ). is_node_closed g s trace (record { 0 = n })) (nodes_of followed.asked) at node
           (right (eqb followed.waiting.0 0) (are_nodes_closed g s trace followed.asked) (group_answered g s trace all place followed there claimed)) here);
       lives = lives_closed (lives_of s.books trace) (left (are_closed s trace) held rest);
+      asked = lives_asked g trace (lives_of s.books trace) (left (are_asked g s trace) kept known);
       full = lives_full pages (lives_of s.books trace) (left (are_full s trace pages) whole_pages full);
       written = λ at page here. said says_whole (latest_of s trace (life_of page)) (list_all_at (is_page_whole s trace) pages at page (right (are_full s trace pages) whole_pages full) here);
     }

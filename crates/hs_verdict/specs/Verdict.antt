@@ -100,6 +100,14 @@ has_all g s trace = list_any (claims trace) g.groups && list_all (is_answered g 
 
 -- ---- whether it is whole: of nothing that is not said
 
+-- whether a group that claims the trace has reached the node of a life, so that it is known where the trace went on from there
+abbrev pub is_life_asked : PlainGroups → TraceId → Life × Latest → Bool
+is_life_asked g trace entry = list_any (asks trace (record { 0 = entry.0.node })) g.groups
+
+-- whether that holds of each life that spoke of the trace
+abbrev pub are_asked : PlainGroups → PlainStandings → TraceId → Bool
+are_asked g s trace = option_map_or (list_all (is_life_asked g trace)) (lives_of s.books trace) true
+
 abbrev pub life_of : PageKey → Life
 life_of page = record { node = page.node; epoch = page.epoch }
 
@@ -108,7 +116,7 @@ abbrev pub is_page_whole : PlainStandings → TraceId → PageKey → Bool
 is_page_whole s trace page = option_map_or says_whole (latest_of s trace (life_of page)) false
 
 abbrev pub is_whole : PlainGroups → PlainStandings → TraceId → List PageKey → Bool
-is_whole g s trace pages = nat_lt 0 (length pages) && (has_all g s trace && (are_closed s trace && (are_full s trace pages && list_all (is_page_whole s trace) pages)))
+is_whole g s trace pages = nat_lt 0 (length pages) && (has_all g s trace && (are_closed s trace && (are_asked g s trace && (are_full s trace pages && list_all (is_page_whole s trace) pages))))
 
 -- ---- worked examples: node 0, in life 5, tells of its group 7, whose lead is trace 107, with a crumb to node 1, whose life is 3
 

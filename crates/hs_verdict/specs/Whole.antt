@@ -11,7 +11,7 @@ use Rattle.hs_standings.specs.Standing.{PlainStandings, Lives, latest_of, lives_
 use Rattle.hs_standings.specs.Closing.{is_closed, says_whole}
 use Rattle.hs_traces.specs.Keys.{is_from}
 use Rattle.hs_traces.specs.declared.key.PageKey.{PageKey}
-use Rattle.hs_verdict.specs.Verdict.{claims, latest_life, life_of}
+use Rattle.hs_verdict.specs.Verdict.{claims, asks, latest_life, life_of}
 
 -- a life has said so last
 abbrev pub HasSaid : PlainStandings → TraceId → Life → (Latest → Type 0) → Type 0
@@ -30,6 +30,9 @@ pub record IsWhole (g : PlainGroups) (s : PlainStandings) (trace : TraceId) (pag
       → HasSaid s trace (latest_life g (record { 0 = node })) (λ latest. is_closed latest ≡ true)
   -- so does each other life that spoke of the trace
   pub lives : (lives : Lives) → lives_of s.books trace ≡ Some lives → (at : ℕ) (entry : Life × Latest) → slice_get lives at ≡ Some entry → is_closed entry.1 ≡ true
+  -- and a group that claims the trace has reached its node, so that it is known where the trace went on from there
+  pub asked : (lives : Lives) → lives_of s.books trace ≡ Some lives → (at : ℕ) (entry : Life × Latest) → slice_get lives at ≡ Some entry
+      → list_any (asks trace (record { 0 = entry.0.node })) g.groups ≡ true
   -- of each as many pages are here as it says it handed out
   pub full : (lives : Lives) → lives_of s.books trace ≡ Some lives → (at : ℕ) (entry : Life × Latest) → slice_get lives at ≡ Some entry
       → entry.1.standing.pages ≡ count_by (is_from entry.0.node entry.0.epoch) pages

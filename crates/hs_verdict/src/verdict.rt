@@ -7,6 +7,7 @@ ghost use Rattle.hs_verdict.specs.Verdict.{claims, is_node_closed, are_nodes_clo
 
 use crate::asked::claims;
 use crate::pages::{Pages, are_full};
+use crate::words::are_asked;
 use hs_base::{NodeId, NodeSet, TraceId};
 use hs_groups::{Followed, Groups};
 use hs_standings::{Life, Standings};
@@ -106,14 +107,15 @@ fn are_pages_whole(standings: &Standings, trace: TraceId, pages: &[PageKey]) -> 
         .all(|page| is_page_whole(standings, trace, *page))
 }
 
-/// Whether a trace with these pages is whole: there is one, nothing more is to come of it, each life that spoke of it is closed to it,
-/// these are all pages that lives say they handed out, and each life that wrote one says that its part is whole.
+/// Whether a trace with these pages is whole: there is one, nothing more is to come of it, each life that spoke of it is closed to it and of
+/// a node that was asked, these are all pages that lives say they handed out, and each life that wrote one says that its part is whole.
 pub fn is_whole(groups: &Groups, standings: &Standings, trace: TraceId, pages: &[PageKey]) -> bool
     ensures { result ≡ is_whole groups.now standings.now trace pages.now }
 {
     !pages.is_empty()
         && has_all(groups, standings, trace)
         && standings.are_closed(trace)
+        && are_asked(groups, standings, trace)
         && are_full(standings, trace, &Pages::Out(pages))
         && are_pages_whole(standings, trace, pages)
 }

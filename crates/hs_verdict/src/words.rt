@@ -3,7 +3,7 @@
 ghost use Rattle.std.specs.Prelude.{◌≡◌, Some, option_copied};
 ghost use Rattle.std.specs.List.{list_any};
 ghost use Rattle.hs_standings.specs.Standing.{latest_of};
-ghost use Rattle.hs_verdict.specs.Verdict.{asks, still_asks, node_word, word_of, life_at};
+ghost use Rattle.hs_verdict.specs.Verdict.{asks, still_asks, are_asked, node_word, word_of, life_at};
 
 use crate::asked::claims;
 use hs_base::limits::MOST_NODES;
@@ -86,6 +86,21 @@ fn is_asked(groups: &Groups, trace: TraceId, node: NodeId) -> bool
 {
     let (older, newer) = groups.as_slices();
     any_asks(older, trace, node) || any_asks(newer, trace, node)
+}
+
+/// Whether one of the groups that claim a trace has reached the node of each life that spoke of it.
+pub(crate) fn are_asked(groups: &Groups, standings: &Standings, trace: TraceId) -> bool
+    ensures { result ≡ are_asked groups.now standings.now trace }
+{
+    let Some(lives) = standings.lives(trace) else {
+        return true;
+    };
+    for (life, _) in lives.iter() {
+        if !is_asked(groups, trace, NodeId(life.node)) {
+            return false;
+        }
+    }
+    true
 }
 
 /// Whether a node was asked for a trace, and answered.
