@@ -42,12 +42,17 @@ begun node told = record {
 abbrev pub fresh_nodes : Followed → Told → NodeSet
 fresh_nodes followed told = without told.crumbs followed.asked
 
+-- tries are counted anew where a node is reached that was not asked before
+abbrev pub tries_after : Followed → Told → ℕ
+tries_after followed told = if (fresh_nodes followed told).0 == 0 then followed.tries else 0
+
 -- a group after a message that answers the asks of these nodes
 abbrev pub taken : Followed → NodeSet → Told → Followed
 taken followed answered told = record followed {
   asked = either followed.asked told.crumbs;
   waiting = either (without followed.waiting answered) (fresh_nodes followed told);
   unsent = either (without followed.unsent answered) (fresh_nodes followed told);
+  tries = tries_after followed told;
 }
 
 -- whether the ask of a node has no answer
@@ -58,9 +63,9 @@ waits_for followed node = nat_lt node.0 MOST_NODES && has_node followed.waiting 
 abbrev pub is_settled : Followed → ℕ → Bool
 is_settled followed tries = followed.waiting.0 == 0 || nat_le tries followed.tries
 
--- a newer life of a node is heard
+-- a newer life of a node is heard, and tries are counted anew
 abbrev pub renewed : NodeId → Followed → Followed
-renewed node followed = if waits_for followed node then record followed { unsent = with_node followed.unsent node } else followed
+renewed node followed = if waits_for followed node then record followed { unsent = with_node followed.unsent node; tries = 0 } else followed
 
 -- ---- asks are sent
 

@@ -38,7 +38,7 @@ impl Followed {
         }
     }
 
-    /// Takes a message that answers the asks of these nodes.
+    /// Takes a message that answers the asks of these nodes. Where it reaches a node that was not asked before, tries are counted anew.
     pub(crate) fn take(&mut self, answered: NodeSet, told: &Told)
         ensures { self.new ≡ taken self.old answered told.now }
     {
@@ -46,6 +46,9 @@ impl Followed {
         self.asked = self.asked.union(told.crumbs);
         self.waiting = self.waiting.without(answered).union(fresh);
         self.unsent = self.unsent.without(answered).union(fresh);
+        if !fresh.is_empty() {
+            self.tries = 0;
+        }
     }
 
     /// Whether the ask of a node has no answer.
@@ -62,12 +65,13 @@ impl Followed {
         self.waiting.is_empty() || self.tries >= tries
     }
 
-    /// Has the ask of a node sent once more, where it has no answer.
+    /// Has the ask of a node sent once more, where it has no answer. Tries are counted anew.
     pub(crate) fn renew(&mut self, node: NodeId)
         ensures { self.new ≡ renewed node self.old }
     {
         if self.waits_for(node) {
             self.unsent = self.unsent.with(node);
+            self.tries = 0;
         }
     }
 
