@@ -110,6 +110,46 @@ uint32_t hindcore_take(hindcore_port *port, uint16_t client);
 uint32_t hindcore_take_notes(hindcore_port *port, uint16_t client);
 uint32_t hindcore_port_free(hindcore_port *port);
 
+/* ---- the node: the agent of a process, with its clients ---- */
+
+typedef struct {
+    struct {
+        void *at;
+    } slot;
+    uint32_t live;
+    uint32_t pad[29];
+} hindcore_node;
+
+/* The digest of the settings that all nodes share. */
+typedef struct {
+    uint8_t bytes[32];
+} hindcore_digest;
+
+/* Makes node `number` in the life of this epoch, with its clients, by the text of a service's settings: DONE, BUSY, MEMORY, SETTINGS (`fault`
+ * says where), UNFIT (the settings have no such node). All memory of its life that has a fixed size is taken here. A node takes one call at a
+ * time; its clients may be in use by other threads meanwhile. */
+uint32_t hindcore_node_open(const uint8_t *text, size_t len, uint16_t number, uint64_t epoch, hindcore_node *node, hindcore_fault *fault);
+/* Hands the next client out: DONE, VACANT (the node is), BUSY (the client's handle is in use), NOTHING (all were handed out). */
+uint32_t hindcore_node_client(hindcore_node *node, hindcore_client *client);
+/* Says who the node is: DONE, FULL (no place), UNFIT (the name has more than 64 bytes), SPENT (the numbers of its epoch have ended). */
+uint32_t hindcore_node_hello(hindcore_node *node, const hindcore_digest *digest, const uint8_t *name, size_t len);
+/* Makes a pass, and writes 1 where a message is to be handed out, else 0: DONE, or SPENT (the node takes nothing any more for want of memory). */
+uint32_t hindcore_node_pass(hindcore_node *node, uint32_t *says);
+/* Copies the next message that is to be handed out to the front of `out`, and writes its number and how many bytes it has: DONE, NOTHING, SHORT
+ * (`len` says how many it has). None has more than 32,831 bytes. */
+uint32_t hindcore_node_next(hindcore_node *node, uint64_t *number, uint8_t *out, size_t room, uint64_t *len);
+/* That message was handed out: DONE, NOTHING (it has another number). */
+uint32_t hindcore_node_sent(hindcore_node *node, uint64_t number);
+/* The message of this number need not be kept any more: DONE, NOTHING (none of this number waits). */
+uint32_t hindcore_node_acknowledged(hindcore_node *node, uint64_t number);
+/* All that was not acknowledged is to be handed out anew. */
+uint32_t hindcore_node_again(hindcore_node *node);
+/* Delivers an ask for this node: DONE, FULL (no place until the next pass), NO_MESSAGE (it is no ask for this node, or of an id that the settings do
+ * not declare). */
+uint32_t hindcore_node_deliver(hindcore_node *node, const uint8_t *bytes, size_t len);
+/* Frees what stands behind the handle, which is vacant from then on. Clients go on, and what they send comes nowhere. */
+uint32_t hindcore_node_free(hindcore_node *node);
+
 /* ---- messages ---- */
 
 /* How a message begins: its kind (1 Hello, 2 Told, 3 Ask, 4 Reported, 5 Standing), the node that speaks, of an ask the node that is

@@ -1,4 +1,5 @@
 pub mod ClientSlotSteps
 pub mod HubSlotSteps
+pub mod NodeSlotSteps
 pub mod PortSlotSteps
 pub mod Values

@@ -3,6 +3,7 @@ pub mod Codes
 pub mod Holds
 pub mod Hubs
 pub mod Messages
+pub mod Nodes
 pub mod Opening
 pub mod Ports
 pub mod Traces

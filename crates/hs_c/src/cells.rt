@@ -8,6 +8,7 @@ use hs_cursor::Cursor;
 use hs_hub::Hub;
 use hs_link::Receiver;
 use hs_live::{AgentPort, ClientKey};
+use hs_node::Node;
 use hs_node_client::{NodeClient, Segment, SegmentKey};
 use hs_ring::Lease;
 use hs_words::{Given, Held};
@@ -28,6 +29,13 @@ pub struct PortCell {
     pub notes: List<Receiver<Segment, SegmentKey>>,
     pub clients: u16,
     pub ghost few: { clients ≡ length port.chunks },
+}
+
+/// A node, with the clients that were not handed out.
+#[derive(Drop)]
+pub struct NodeCell {
+    pub node: Node,
+    pub left: List<Box<ClientCell, Global>>,
 }
 
 /// A hub, with the cursor that goes over the rows of the trace that is out.

@@ -2,7 +2,7 @@
 
 ghost use Rattle.std.specs.Prelude.{◌≡◌, IsSome};
 
-use crate::slots::{ClientSlot, HubSlot, PortSlot};
+use crate::slots::{ClientSlot, HubSlot, NodeSlot, PortSlot};
 
 /// A client's handle. All zero is vacant. It takes 128 bytes, so that two that are aligned share no cache line.
 #[repr(C)]
@@ -24,6 +24,16 @@ pub struct HindPort {
     pub(crate) ghost agrees: { live ≡ 1 → IsSome slot.held },
 }
 
+/// The handle of a node. All zero is vacant.
+#[repr(C)]
+#[derive(Drop)]
+pub struct HindNode {
+    pub(crate) slot: NodeSlot,
+    pub(crate) live: u32,
+    pub(crate) pad: [u32; 29],
+    pub(crate) ghost agrees: { live ≡ 1 → IsSome slot.held },
+}
+
 /// The handle of a hub. All zero is vacant.
 #[repr(C)]
 #[derive(Drop)]
@@ -39,6 +49,8 @@ const _: () = prove!(std::mem::size_of::<HindClient>() == 128);
 const _: () = prove!(std::mem::size_of::<HindPort>() == 128);
 
 const _: () = prove!(std::mem::size_of::<HindHub>() == 128);
+
+const _: () = prove!(std::mem::size_of::<HindNode>() == 128);
 
 /// A trace id, its highest byte first.
 #[repr(C)]

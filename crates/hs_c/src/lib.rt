@@ -9,6 +9,7 @@ mod handles;
 mod hubs;
 mod loose;
 mod messages;
+mod nodes;
 mod opening;
 mod ports;
 mod slots;
@@ -17,7 +18,7 @@ pub use clients::{
     hindcore_begin, hindcore_client_free, hindcore_counts, hindcore_crumb, hindcore_crumb_of,
     hindcore_end, hindcore_flush, hindcore_point, hindcore_sample, hindcore_trigger,
 };
-pub use handles::{HindClient, HindCounts, HindFault, HindHub, HindPort, HindTrace};
+pub use handles::{HindClient, HindCounts, HindFault, HindHub, HindNode, HindPort, HindTrace};
 pub use hubs::{
     HindClaim, HindHubCounts, HindLife, HindLifeId, HindMessageId, HindRow,
     hindcore_hub_acknowledge, hindcore_hub_claim, hindcore_hub_counts, hindcore_hub_deliver,
@@ -26,5 +27,10 @@ pub use hubs::{
     hindcore_hub_row, hindcore_hub_saved, hindcore_hub_take, hindcore_hub_whole,
 };
 pub use messages::{HindHead, hindcore_message_copy, hindcore_message_head};
+pub use nodes::{
+    HindDigest, hindcore_node_acknowledged, hindcore_node_again, hindcore_node_client,
+    hindcore_node_deliver, hindcore_node_free, hindcore_node_hello, hindcore_node_next,
+    hindcore_node_open, hindcore_node_pass, hindcore_node_sent,
+};
 pub use opening::{hindcore_client_open, hindcore_open};
 pub use ports::{hindcore_port_free, hindcore_take, hindcore_take_notes};

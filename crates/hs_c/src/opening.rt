@@ -161,7 +161,10 @@ fn fill(alloc: Global, made: Made, clients: u16, port: &mut HindPort) -> Result<
 }
 
 /// Boxes the clients.
-fn boxed(alloc: Global, clients: List<NodeClient>) -> Result<List<Box<ClientCell, Global>>, Memory>
+pub(crate) fn boxed(
+    alloc: Global,
+    clients: List<NodeClient>,
+) -> Result<List<Box<ClientCell, Global>>, Memory>
     ensures { IfOk result (λ cells. map (λ boxed. boxed.value.client) cells.items ≡ clients.items) }
 {
     let mut cells = List::new(alloc);

@@ -1,12 +1,13 @@
 //! A boxed cell behind a pointer that C keeps.
 
 ghost use Rattle.std.specs.Prelude.{◌≡◌, Option, None, Some, IsSome};
-ghost use Rattle.hs_c.specs.Holds.{client_owns, hub_owns, port_owns};
+ghost use Rattle.hs_c.specs.Holds.{client_owns, hub_owns, node_owns, port_owns};
 ghost use Rattle.hs_c.specs.declared.cells.ClientCell.{ClientCell};
 ghost use Rattle.hs_c.specs.declared.cells.HubCell.{HubCell};
+ghost use Rattle.hs_c.specs.declared.cells.NodeCell.{NodeCell};
 ghost use Rattle.hs_c.specs.declared.cells.PortCell.{PortCell};
 
-use crate::cells::{ClientCell, HubCell, PortCell};
+use crate::cells::{ClientCell, HubCell, NodeCell, PortCell};
 use crate::loose::Loose;
 use std::alloc::Global;
 use std::marker::Model;
@@ -127,6 +128,46 @@ impl HubSlot {
         let HubSlot { at } = self;
         Loose {
             at: at as *mut HubCell,
+            alloc,
+        }
+    }
+}
+
+/// Owns the node at the pointer, or nothing.
+#[repr(C)]
+#[derive(Drop)]
+pub struct NodeSlot {
+    at: *mut (),
+    pub ghost held: { Option NodeCell },
+}
+
+impl Model for NodeSlot {
+    ghost also_owns = { λ s. node_owns s.at s.held };
+}
+
+unsafe impl Send for NodeSlot {}
+
+impl NodeSlot {
+    pub(crate) fn full(loose: Loose<NodeCell, Global>) -> NodeSlot
+        ensures { result.held ≡ Some loose.value }
+    {
+        let Loose { at, alloc: _ } = loose;
+        NodeSlot { at: at as *mut () }
+    }
+
+    pub(crate) fn vacant() -> NodeSlot
+        ensures { result.held ≡ None }
+    {
+        NodeSlot { at: null_mut() }
+    }
+
+    pub(crate) fn open(self, alloc: Global) -> Loose<NodeCell, Global>
+        requires { IsSome self.held }
+        ensures { self.held ≡ Some result.value }
+    {
+        let NodeSlot { at } = self;
+        Loose {
+            at: at as *mut NodeCell,
             alloc,
         }
     }
