@@ -1,5 +1,5 @@
 -- What a call does to the node behind a handle of C.
-use Rattle.std.specs.Prelude.{◌≡◌, ◌++◌, ◌∷◌, [], ℕ, Bool, true, false, List, length, map, drop, nat_lt, Option, Some, None, Ok, Err, Result, if◌then◌else◌}
+use Rattle.std.specs.Prelude.{◌≡◌, ◌++◌, ◌∷◌, [], ℕ, Bool, true, false, List, length, map, drop, nat_lt, Option, Some, None, Ok, Err, Result}
 use Rattle.hs_settings.specs.Settings.{PlainService}
 use Rattle.hs_settings.specs.Faults.{reading_of}
 use Rattle.hs_outbox.specs.Queue.{Pending}
@@ -94,9 +94,13 @@ posted_code (Err unposted.Ended) = 11
 
 -- ---- messages
 
--- The next message is copied, with its number and length; or it is too long for this room, and its length is written; or there is none.
+-- A message is copied, with its number and length; or it is too long for this room, and its length is written.
+abbrev pub ShowsMessage : (is_long : Bool) → Pending → (number : ℕ) (out : List ℕ) (new_number : ℕ) (new_out : List ℕ) (new_len : ℕ) → ℕ → Type 0
+ShowsMessage true pending number out new_number new_out new_len code = (code ≡ SHORT) × ((new_number ≡ number) × ((new_out ≡ out) × (new_len ≡ length pending.bytes)))
+ShowsMessage false pending number out new_number new_out new_len code =
+    (code ≡ DONE) × ((new_number ≡ pending.number) × ((new_out ≡ pending.bytes ++ drop (length pending.bytes) out) × (new_len ≡ length pending.bytes)))
+
+-- That of the next message, or there is none.
 abbrev pub ShowsNext : Option Pending → (number : ℕ) (out : List ℕ) (len : ℕ) (new_number : ℕ) (new_out : List ℕ) (new_len : ℕ) → ℕ → Type 0
 ShowsNext None number out len new_number new_out new_len code = (code ≡ NOTHING) × ((new_number ≡ number) × ((new_out ≡ out) × (new_len ≡ len)))
-ShowsNext (Some pending) number out len new_number new_out new_len code =
-    if nat_lt (length out) (length pending.bytes) then (code ≡ SHORT) × ((new_number ≡ number) × ((new_out ≡ out) × (new_len ≡ length pending.bytes)))
-    else (code ≡ DONE) × ((new_number ≡ pending.number) × ((new_out ≡ pending.bytes ++ drop (length pending.bytes) out) × (new_len ≡ length pending.bytes)))
+ShowsNext (Some pending) number out len new_number new_out new_len code = ShowsMessage (nat_lt (length out) (length pending.bytes)) pending number out new_number new_out new_len code
