@@ -68,16 +68,35 @@ pub lates_on : (run : Run Leased) (client : ℕ) (old : PlainNode) (took : Took)
     → GoesOn run old (record old { intake = intake })
 lates_on run client old took intake stands takes = line_on run late_line client old took intake stands (λ later x. refl) takes
 
-pub triggers_on : (run : Run Leased) (client : ℕ) (old : PlainNode) (took : TookTriggers) (intake : PlainIntake) → Stands run old.intake → TakesTriggers run client old.intake took intake
-    → GoesOn run old (record old { intake = intake })
-triggers_on run client old took intake stands (inl (high, (is, same))) =
-    subst (λ (d : PlainIntake). GoesOn run old (record old { intake = d })) (sym same) (on_nothing run old stands)
-triggers_on run client old took intake stands (inr (inl (low, (front, (is, same))))) =
-    subst (λ (d : PlainIntake). GoesOn run old (record old { intake = d })) (sym same) (on_nothing run old stands)
-triggers_on run client old took intake stands (inr (inr (low, (front, inl (room, (many, limited)))))) =
-    on_tells run (map (TakesTrigger client) many.items) old intake many.goes.stands many.goes.tells (no_parts (TakesTrigger client) (λ later x. refl) many.items run)
-triggers_on run client old took intake stands (inr (inr (low, (front, inr (short, drops))))) =
-    on_same run old intake drops.stands (ap (λ (d : PlainIntake). d.mail) drops.only) (ap (λ (d : PlainIntake). d.unsaid) drops.only)
+-- the count of limited triggers is none of what a run knows
+counted : (run : Run Leased) (old : PlainNode) (intake : PlainIntake) (limited : ℕ) → GoesOn run old (record old { intake = intake }) → GoesOn run old (record old { intake = intake; limited = limited })
+counted run old intake limited on =
+    record {
+      acts = on.acts;
+      stands = on.stands;
+      said = on.said;
+      mail = on.mail;
+      told = on.told;
+      parted = on.parted;
+      parts = on.parts;
+      came = on.came;
+      ends = on.ends;
+      heard = on.heard;
+      notes = on.notes;
+      noted = on.noted;
+      gone = on.gone;
+    }
+
+pub triggers_on : (run : Run Leased) (client : ℕ) (old : PlainNode) (took : TookTriggers) (intake : PlainIntake) (limited : ℕ) → Stands run old.intake → TakesTriggers run client old.intake took intake
+    → GoesOn run old (record old { intake = intake; limited = limited })
+triggers_on run client old took intake limited stands (inl (high, (is, same))) =
+    subst (λ (d : PlainIntake). GoesOn run old (record old { intake = d; limited = limited })) (sym same) (counted run old old.intake limited (on_nothing run old stands))
+triggers_on run client old took intake limited stands (inr (inl (low, (front, (is, same))))) =
+    subst (λ (d : PlainIntake). GoesOn run old (record old { intake = d; limited = limited })) (sym same) (counted run old old.intake limited (on_nothing run old stands))
+triggers_on run client old took intake limited stands (inr (inr (low, (front, inl (room, (many, count)))))) =
+    counted run old intake limited (on_tells run (map (TakesTrigger client) many.items) old intake many.goes.stands many.goes.tells (no_parts (TakesTrigger client) (λ later x. refl) many.items run))
+triggers_on run client old took intake limited stands (inr (inr (low, (front, inr (short, drops))))) =
+    counted run old intake limited (on_same run old intake drops.stands (ap (λ (d : PlainIntake). d.mail) drops.only) (ap (λ (d : PlainIntake). d.unsaid) drops.only))
 
 pub asks_on : (run : Run Leased) (old : PlainNode) (took : Took) (intake : PlainIntake) → TakesAsks run old.intake took intake → GoesOn run old (record old { intake = intake })
 asks_on run old took intake takes =

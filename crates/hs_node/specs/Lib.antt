@@ -1,3 +1,4 @@
 pub mod Nodes
+pub mod Passing
 pub mod NodeLayout
 pub mod Made

@@ -44,6 +44,7 @@ pub record IsMadeBy (s : PlainService) (node epoch : ℕ) (made : MadeNode) : Ty
   pub notes : made.node.notes ≡ no_notes_in (record { clients = s.clients; traces = s.remember })
   pub clients : made.node.clients ≡ s.clients
   pub limit : made.node.limit ≡ s.claims
+  pub limited : made.node.limited ≡ 0
 
 -- The text says the settings by which the node was made.
 abbrev pub IsMade : List ℕ → ℕ → ℕ → MadeNode → Type 0

@@ -43,6 +43,8 @@ pub record PlainNode : Type 0 where
   pub clients : ℕ
   -- so many claims are kept before settled groups are forgotten
   pub limit : ℕ
+  -- how many triggers left unseen, since no number or no place was left for them
+  pub limited : ℕ
 
 -- the same with this mail
 abbrev pub with_mail : PlainNode → Letters → PlainNode

@@ -61,6 +61,14 @@ impl Node {
         self.intake.again();
     }
 
+    /// How many triggers left unseen, since no number or no place was left for them. The count stays at the greatest number of its type
+    /// once it is there.
+    pub fn limited(&self) -> u64
+        ensures { result ≡ self.now.limited }
+    {
+        self.limited
+    }
+
     /// The traces that groups claim at the node.
     pub fn claims(&self) -> &ClaimedTraces
         ensures { result.now ≡ self.now.intake.claims }

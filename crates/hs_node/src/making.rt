@@ -132,7 +132,7 @@ fn make_by(
 /// A node with an intake that was made.
 fn join(made: MadeIntake, notes: SegmentNotes, clients: u16, limit: u32) -> MadeNode
     requires { length made.segments.items ≡ clients }
-    ensures { result ≡ record { node = record { intake = made.intake; notes = notes; segments = made.segments.items; clients = clients; limit = limit }; clients = made.clients } }
+    ensures { result ≡ record { node = record { intake = made.intake; notes = notes; segments = made.segments.items; clients = clients; limit = limit; limited = 0 }; clients = made.clients } }
 {
     let MadeIntake {
         intake,

@@ -19,6 +19,8 @@ pub struct Node {
     pub(crate) clients: u16,
     /// So many claims are kept before settled groups are forgotten.
     pub(crate) limit: u32,
+    /// How many triggers left unseen, since no number or no place was left for them. It stays at the greatest number once it is there.
+    pub(crate) limited: u64,
 }
 
 impl Model for Node {
@@ -42,7 +44,7 @@ impl Node {
         limit: u32,
     ) -> Node
         requires { length segments.items ≡ clients }
-        ensures { result ≡ record { intake = intake; notes = notes; segments = segments.items; clients = clients; limit = limit } }
+        ensures { result ≡ record { intake = intake; notes = notes; segments = segments.items; clients = clients; limit = limit; limited = 0 } }
     {
         Node {
             intake,
@@ -50,6 +52,7 @@ impl Node {
             segments,
             clients,
             limit,
+            limited: 0,
         }
     }
 }

@@ -4,7 +4,9 @@ ghost use Rattle.std.specs.Prelude.{◌≡◌, true, false};
 ghost use Rattle.hs_ring.specs.Parts.{Leased};
 ghost use Rattle.hs_agent.specs.Runs.{Run, IsSpent};
 ghost use Rattle.hs_intake.specs.Intakes.{Stands};
+ghost use Rattle.hs_base.specs.declared.limits.TheConstants.{MAX_TAKEN};
 ghost use Rattle.hs_node.specs.Nodes.{GoesOn, GoesOnIf, OffersAs, PassesAs, is_unspent};
+ghost use Rattle.hs_node.specs.Passing.{Until, Hears, TakesChunks, TakesCrumbs, TakesLates, TakesTriggersOf, TakesFrom, TakesAll, TakesAsked, SaysFirst, TakesFront, Takes, Turns, OffersBy, OffersAll, StatesNext, LooksOn, StatesAll, ForgetsOne, ForgetsAll, Passes, is_stated};
 
 use crate::hearing::{note, part};
 use crate::node::Node;
@@ -29,7 +31,9 @@ enum Offer {
 }
 
 /// Whether a standing was said, or is no news.
-fn is_stated(stated: Stated) -> bool {
+fn is_stated(stated: Stated) -> bool
+    ensures { result ≡ is_stated stated }
+{
     match stated {
         Stated::Said | Stated::Known => true,
         Stated::Waits(_) => false,
@@ -49,7 +53,8 @@ fn is_unspent(turned: Turned) -> bool
 impl Node {
     /// Hears the next note of a client, if one has come.
     fn hear(&mut self, client: u16) -> bool
-        ensures { (run : Run Leased) → Stands run self.old.intake → GoesOn run self.old self.new }
+        ensures on { (run : Run Leased) → Stands run self.old.intake → GoesOn run self.old self.new }
+        ensures does { (run : Run Leased) → Stands run self.old.intake → Hears client result run self.old self.new }
     {
         if client >= self.clients {
             return false;
@@ -63,7 +68,8 @@ impl Node {
 
     /// Hears the notes of a client that have come, at most 64.
     fn hear_all(&mut self, client: u16)
-        ensures { (run : Run Leased) → Stands run self.old.intake → GoesOn run self.old self.new }
+        ensures on { (run : Run Leased) → Stands run self.old.intake → GoesOn run self.old self.new }
+        ensures does { (run : Run Leased) → Stands run self.old.intake → Until (Hears client) MAX_TAKEN run self.old self.new }
     {
         for _ in 0..MAX_TAKEN {
             if !self.hear(client) {
@@ -74,56 +80,65 @@ impl Node {
 
     /// The agent takes chunks of a client.
     fn take_chunks(&mut self, client: u16)
-        ensures { (run : Run Leased) → Stands run self.old.intake → GoesOn run self.old self.new }
+        ensures on { (run : Run Leased) → Stands run self.old.intake → GoesOn run self.old self.new }
+        ensures does { (run : Run Leased) → Stands run self.old.intake → TakesChunks client run self.old self.new }
     {
         self.intake.chunks_of(client);
     }
 
     /// The agent takes crumbs of a client.
     fn take_crumbs(&mut self, client: u16)
-        ensures { (run : Run Leased) → Stands run self.old.intake → GoesOn run self.old self.new }
+        ensures on { (run : Run Leased) → Stands run self.old.intake → GoesOn run self.old self.new }
+        ensures does { (run : Run Leased) → Stands run self.old.intake → TakesCrumbs client run self.old self.new }
     {
         self.intake.crumbs_of(client);
     }
 
     /// The agent takes crumbs of a client that are of traces that need not be open.
     fn take_lates(&mut self, client: u16)
-        ensures { (run : Run Leased) → Stands run self.old.intake → GoesOn run self.old self.new }
+        ensures on { (run : Run Leased) → Stands run self.old.intake → GoesOn run self.old self.new }
+        ensures does { (run : Run Leased) → Stands run self.old.intake → TakesLates client run self.old self.new }
     {
         self.intake.late_crumbs_of(client);
     }
 
     /// The agent takes triggers of a client.
     fn take_triggers(&mut self, client: u16)
-        ensures { (run : Run Leased) → Stands run self.old.intake → GoesOn run self.old self.new }
+        ensures on { (run : Run Leased) → Stands run self.old.intake → GoesOn run self.old self.new }
+        ensures does { (run : Run Leased) → Stands run self.old.intake → TakesTriggersOf client run self.old self.new }
     {
-        self.intake.triggers_of(client);
+        let took = self.intake.triggers_of(client);
+        self.limited = self.limited.saturating_add(u64::from(took.limited));
     }
 
     /// The agent takes asks.
     fn take_asks(&mut self)
-        ensures { (run : Run Leased) → Stands run self.old.intake → GoesOn run self.old self.new }
+        ensures on { (run : Run Leased) → Stands run self.old.intake → GoesOn run self.old self.new }
+        ensures does { (run : Run Leased) → Stands run self.old.intake → TakesAsked run self.old self.new }
     {
         self.intake.take_asks();
     }
 
     /// Says what waits to be said.
     fn say(&mut self)
-        ensures { (run : Run Leased) → Stands run self.old.intake → GoesOn run self.old self.new }
+        ensures on { (run : Run Leased) → Stands run self.old.intake → GoesOn run self.old self.new }
+        ensures does { (run : Run Leased) → Stands run self.old.intake → SaysFirst run self.old self.new }
     {
         self.intake.say();
     }
 
     /// The agent takes what waits at the front.
     fn take_back(&mut self)
-        ensures { (run : Run Leased) → Stands run self.old.intake → GoesOn run self.old self.new }
+        ensures on { (run : Run Leased) → Stands run self.old.intake → GoesOn run self.old self.new }
+        ensures does { (run : Run Leased) → Stands run self.old.intake → TakesFront run self.old self.new }
     {
         self.intake.take_back();
     }
 
     /// Takes what a client sent, its notes first.
     fn take_from(&mut self, client: u16)
-        ensures { (run : Run Leased) → Stands run self.old.intake → GoesOn run self.old self.new }
+        ensures on { (run : Run Leased) → Stands run self.old.intake → GoesOn run self.old self.new }
+        ensures does { (run : Run Leased) → Stands run self.old.intake → TakesFrom client run self.old self.new }
     {
         self.hear_all(client);
         self.take_chunks(client);
@@ -134,7 +149,8 @@ impl Node {
 
     /// Takes what the clients sent, one after another.
     fn take_all(&mut self)
-        ensures { (run : Run Leased) → Stands run self.old.intake → GoesOn run self.old self.new }
+        ensures on { (run : Run Leased) → Stands run self.old.intake → GoesOn run self.old self.new }
+        ensures does { (run : Run Leased) → Stands run self.old.intake → TakesAll run self.old self.new }
     {
         for client in 0..self.clients {
             self.take_from(client);
@@ -143,7 +159,8 @@ impl Node {
 
     /// Makes a fair turn, if the mail has a place for each chunk that is pinned. Answers whether the agent is not spent.
     fn turn(&mut self) -> bool
-        ensures { (run : Run Leased) → Stands run self.old.intake → GoesOnIf run result self.old self.new }
+        ensures on { (run : Run Leased) → Stands run self.old.intake → GoesOnIf run result self.old self.new }
+        ensures does { (run : Run Leased) → Stands run self.old.intake → Turns run self.old self.new }
     {
         let turned = self.intake.turn();
         is_unspent(turned)
@@ -151,7 +168,8 @@ impl Node {
 
     /// Offers the first of the hand to the pool.
     fn offer(&mut self) -> Offer
-        ensures { (run : Run Leased) → Stands run self.old.intake → OffersAs run result self.old self.new }
+        ensures on { (run : Run Leased) → Stands run self.old.intake → OffersAs run result self.old self.new }
+        ensures does { (run : Run Leased) → Stands run self.old.intake → OffersBy run result self.old self.new }
     {
         match self.intake.hand_out() {
             Handed::Empty => Offer::None,
@@ -166,7 +184,8 @@ impl Node {
 
     /// Offers the chunks of the hand, at most as many as there are at first.
     fn offer_all(&mut self) -> bool
-        ensures { (run : Run Leased) → Stands run self.old.intake → GoesOnIf run result self.old self.new }
+        ensures on { (run : Run Leased) → Stands run self.old.intake → GoesOnIf run result self.old self.new }
+        ensures does { (run : Run Leased) → Stands run self.old.intake → result ≡ true → OffersAll run self.old self.new }
     {
         for _ in 0..self.intake.in_hand() {
             match self.offer() {
@@ -180,25 +199,29 @@ impl Node {
 
     /// Says how the node stands to the claim that is looked at, if that is news. Answers whether the next one may be looked at.
     fn state(&mut self) -> bool
-        ensures { (run : Run Leased) → Stands run self.old.intake → GoesOn run self.old self.new }
+        ensures on { (run : Run Leased) → Stands run self.old.intake → GoesOn run self.old self.new }
+        ensures does { (run : Run Leased) → Stands run self.old.intake → StatesNext result run self.old self.new }
     {
         let Some(claim) = self.intake.claims().current().copied() else {
             return false;
         };
         let standing = self.notes.standing(claim.trace, claim.group);
-        is_stated(self.intake.state(&standing))
+        let stated = self.intake.state(&standing);
+        is_stated(stated)
     }
 
     /// Looks at the next claim.
     fn look_on(&mut self)
-        ensures { (run : Run Leased) → Stands run self.old.intake → GoesOn run self.old self.new }
+        ensures on { (run : Run Leased) → Stands run self.old.intake → GoesOn run self.old self.new }
+        ensures does { (run : Run Leased) → Stands run self.old.intake → LooksOn run self.old self.new }
     {
         self.intake.look_on();
     }
 
     /// Says what is news of the next claims, at most 64, while no chunk is in the hand.
     fn state_all(&mut self)
-        ensures { (run : Run Leased) → Stands run self.old.intake → GoesOn run self.old self.new }
+        ensures on { (run : Run Leased) → Stands run self.old.intake → GoesOn run self.old self.new }
+        ensures does { (run : Run Leased) → Stands run self.old.intake → StatesAll run self.old self.new }
     {
         if self.intake.in_hand() != 0 {
             return;
@@ -211,26 +234,23 @@ impl Node {
         }
     }
 
-    /// Whether more claims are kept than the limit says.
-    fn is_above(&self) -> bool {
-        self.intake.claims().is_above(self.limit)
-    }
-
-    /// Forgets the group that claimed first, if it is settled.
+    /// Forgets the group that claimed first, if more claims are kept than the limit says and it is settled.
     fn forget(&mut self) -> bool
-        ensures { (run : Run Leased) → Stands run self.old.intake → GoesOn run self.old self.new }
+        ensures on { (run : Run Leased) → Stands run self.old.intake → GoesOn run self.old self.new }
+        ensures does { (run : Run Leased) → Stands run self.old.intake → ForgetsOne result run self.old self.new }
     {
+        if !self.intake.claims().is_above(self.limit) {
+            return false;
+        }
         self.intake.forget_oldest()
     }
 
     /// Forgets the groups that claimed first and are settled, at most 64, while more claims are kept than the limit says.
     fn forget_all(&mut self)
-        ensures { (run : Run Leased) → Stands run self.old.intake → GoesOn run self.old self.new }
+        ensures on { (run : Run Leased) → Stands run self.old.intake → GoesOn run self.old self.new }
+        ensures does { (run : Run Leased) → Stands run self.old.intake → ForgetsAll run self.old self.new }
     {
         for _ in 0..MAX_TAKEN {
-            if !self.is_above() {
-                return;
-            }
             if !self.forget() {
                 return;
             }
@@ -239,7 +259,8 @@ impl Node {
 
     /// Takes what waits at the front, then what the clients sent and what the hub asks.
     fn take(&mut self)
-        ensures { (run : Run Leased) → Stands run self.old.intake → GoesOn run self.old self.new }
+        ensures on { (run : Run Leased) → Stands run self.old.intake → GoesOn run self.old self.new }
+        ensures does { (run : Run Leased) → Stands run self.old.intake → Takes run self.old self.new }
     {
         self.say();
         self.take_back();
@@ -250,7 +271,8 @@ impl Node {
     /// Makes a pass: takes what waits at the front, of each client its notes, chunks, crumbs and triggers, and what the hub asks; makes a
     /// turn; offers the hand to the pool; says what is news of claims; forgets settled groups.
     pub fn pass(&mut self) -> Passed
-        ensures { (run : Run Leased) → Stands run self.old.intake → PassesAs run result self.old self.new }
+        ensures on { (run : Run Leased) → Stands run self.old.intake → PassesAs run result self.old self.new }
+        ensures does { (run : Run Leased) → Stands run self.old.intake → result ≡ Passed.Done → Passes run self.old self.new }
     {
         self.take();
         if !self.turn() {

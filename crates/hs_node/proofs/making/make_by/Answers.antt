@@ -31,4 +31,5 @@ returns-in-Ok-make_intake-clause-made c =
       notes = c.in-Ok-make.ensures.made;
       clients = ap (λ (l : ClientLimits). l.clients) c.limits_of-limits.ensures;
       limit = refl;
+      limited = refl;
     })

@@ -5,22 +5,22 @@ use Rattle.hs_node.specs.NodeLayout.{node_in}
 use Rattle.hs_node.proofs.Steps.{stopped_on, offered_on}
 use Rattle.hs_node.proofs.node.Node.offer.Goals as goal
 
-pub returns-in-Empty : goal.returns-in-Empty
-returns-in-Empty c = λ run stands.
+pub returns-in-Empty-clause-on : goal.returns-in-Empty-clause-on
+returns-in-Empty-clause-on c = λ run stands.
     let d = node_in c.self.inside in
     let there : Stands run d.intake = subst (λ (x : PlainNode). Stands run x.intake) (sym c.self.view_is) stands in
     subst (λ (x : PlainNode). GoesOn run x (record d { intake = c.hand_out.new.self })) c.self.view_is
     (stopped_on run d c.hand_out.new.self there (c.in-Empty.ensures run there).0)
 
-pub returns-in-Waits : goal.returns-in-Waits
-returns-in-Waits c = λ run stands.
+pub returns-in-Waits-clause-on : goal.returns-in-Waits-clause-on
+returns-in-Waits-clause-on c = λ run stands.
     let d = node_in c.self.inside in
     let there : Stands run d.intake = subst (λ (x : PlainNode). Stands run x.intake) (sym c.self.view_is) stands in
     subst (λ (x : PlainNode). GoesOn run x (record d { intake = c.hand_out.new.self })) c.self.view_is
     (stopped_on run d c.hand_out.new.self there (c.in-Waits.ensures run there).0)
 
-pub returns-in-Offered : goal.returns-in-Offered
-returns-in-Offered c = λ run stands.
+pub returns-in-Offered-clause-on : goal.returns-in-Offered-clause-on
+returns-in-Offered-clause-on c = λ run stands.
     let d = node_in c.self.inside in
     let there : Stands run d.intake = subst (λ (x : PlainNode). Stands run x.intake) (sym c.self.view_is) stands in
     subst (λ (x : PlainNode). GoesOn run x (record d { intake = c.hand_out.new.self; notes = c.part.new.notes })) c.self.view_is

@@ -1,11 +1,27 @@
+use Rattle.std.proofs.Common.{true, refl, sym, subst, arith, length}
+use Rattle.hs_agent.specs.Runs.{state_of}
+use Rattle.hs_intake.specs.Intakes.{Stands}
+use Rattle.hs_node.specs.Nodes.{PlainNode}
+use Rattle.hs_node.specs.Passing.{OffersOne}
 use Rattle.hs_node.proofs.Joining.{on_more, on_nothing}
+use Rattle.hs_node.proofs.Repeating.{each_more, until_stop}
 use Rattle.hs_node.proofs.node.Node.offer_all.Goals as goal
 
 pub loop-init : goal.loop-init
-loop-init c = λ run stands. on_nothing run c.args.self.now stands
+loop-init c = record { on = (λ run stands. on_nothing run c.args.self.now stands); does = (λ run stands. refl) }
 
-pub returns-in-None : goal.returns-in-None
-returns-in-None c = λ run stands. on_more run c.args.self.now c.loop.self c.offer.new.self (c.loop.invariant run stands) c.in-None.ensures
+pub returns-in-None-clause-on : goal.returns-in-None-clause-on
+returns-in-None-clause-on c = λ run stands. on_more run c.args.self.now c.loop.self c.offer.new.self (c.loop.invariant.on run stands) c.in-None.ensures.on
 
 pub loop-preserved : goal.loop-preserved
-loop-preserved c = λ run stands. on_more run c.args.self.now c.loop.self c.offer.new.self (c.loop.invariant run stands) c.in-Offered.ensures
+loop-preserved c =
+    record {
+      on = (λ run stands. on_more run c.args.self.now c.loop.self c.offer.new.self (c.loop.invariant.on run stands) c.in-Offered.ensures.on);
+      does = (λ run stands. each_more (λ n. OffersOne true) run c.loop.counter c.args.self.now c.loop.self c.offer.new.self (c.loop.invariant.does run stands) c.in-Offered.ensures.does);
+    }
+
+pub returns-in-None-clause-does : goal.returns-in-None-clause-does
+returns-in-None-clause-does c = λ run stands done.
+    let there : Stands run c.self.inside.intake = subst (λ (x : PlainNode). Stands run x.intake) (sym c.self.view_is) stands in
+    until_stop OffersOne (length (state_of run).hand) run c.loop.counter c.args.self.now c.loop.self c.offer.new.self
+    (let low = c.loop-test.true in let is = c.in_hand-end.ensures run there in omega (arith, low, is)) (c.loop.invariant.does run stands) c.in-None.ensures.does

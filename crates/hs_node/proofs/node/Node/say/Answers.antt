@@ -5,8 +5,8 @@ use Rattle.hs_node.specs.NodeLayout.{node_in}
 use Rattle.hs_node.proofs.Steps.{say_on}
 use Rattle.hs_node.proofs.node.Node.say.Goals as goal
 
-pub returns : goal.returns
-returns c = λ run stands.
+pub returns-clause-on : goal.returns-clause-on
+returns-clause-on c = λ run stands.
     let d = node_in c.self.inside in
     let there : Stands run d.intake = subst (λ (x : PlainNode). Stands run x.intake) (sym c.self.view_is) stands in
     let i = c.say.new.self in

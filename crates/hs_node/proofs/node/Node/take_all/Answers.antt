@@ -1,8 +1,16 @@
+use Rattle.std.proofs.Common.{◌≡◌, true, false, inl, inr, refl, sym, ap, subst, ◌∙◌, arith}
+use Rattle.hs_node.specs.Nodes.{GoesOn}
+use Rattle.hs_node.specs.Passing.{TakesFrom}
 use Rattle.hs_node.proofs.Joining.{on_more, on_nothing}
+use Rattle.hs_node.proofs.Repeating.{each_more, until_stop, until_full}
 use Rattle.hs_node.proofs.node.Node.take_all.Goals as goal
 
 pub loop-client-init : goal.loop-client-init
-loop-client-init c = λ run stands. on_nothing run c.args.self.now stands
+loop-client-init c = record { on = (λ run stands. on_nothing run c.args.self.now stands); does = (λ run stands. refl) }
 
 pub loop-client-preserved : goal.loop-client-preserved
-loop-client-preserved c = λ run stands. on_more run c.args.self.now c.loop-client.self c.take_from.new.self (c.loop-client.invariant run stands) c.take_from.ensures
+loop-client-preserved c =
+    record {
+      on = (λ run stands. on_more run c.args.self.now c.loop-client.self c.take_from.new.self (c.loop-client.invariant.on run stands) c.take_from.ensures.on);
+      does = (λ run stands. each_more TakesFrom run c.loop-client.client c.args.self.now c.loop-client.self c.take_from.new.self (c.loop-client.invariant.does run stands) c.take_from.ensures.does);
+    }
