@@ -1,0 +1,199 @@
+//! Rows of the calls of a client.
+
+use crate::made::{Ends, ID, LEAST, make_ends};
+use crate::rows::row;
+use hs_base::{Crumb, Laterals, NodeId, TraceId, Trigger, TriggerId};
+use hs_node_client::{Called, ClientLimits, MakeFault, NodeClient, SegmentState};
+use std::alloc::Global;
+
+/// More than two pieces of pages of 64 bytes.
+const THREE_PIECES: [u8; 61] = [7; 61];
+
+/// A trigger of this id.
+fn trigger_of(id: TriggerId) -> Trigger {
+    Trigger {
+        moment: 9,
+        trigger: id,
+        lead: TraceId(1),
+        laterals: Laterals::none(),
+    }
+}
+
+/// Whether the answers of a trace with one of everything are all `Done`.
+fn does_all(client: &mut NodeClient) -> bool {
+    let begun = client.begin(TraceId(1));
+    let pointed = client.point(5, b"login");
+    let left = client.crumb(NodeId(1));
+    let late = client.crumb_of(TraceId(7), NodeId(0));
+    let fired = client.trigger(&trigger_of(ID));
+    let sampled = client.sample(6, 0, 1);
+    let ended = client.end();
+    is_done(begun)
+        && is_done(pointed)
+        && is_done(left)
+        && is_done(late)
+        && is_done(fired)
+        && is_done(sampled)
+        && is_done(ended)
+}
+
+fn is_done(called: Called) -> bool {
+    matches!(called, Called::Done)
+}
+
+/// Whether the late crumb came, and the notes 0 and 1 of a segment with one point.
+fn comes(ends: &mut Ends) -> bool {
+    let late = ends.late.receive();
+    let opened = next_note(ends);
+    let closed = next_note(ends);
+    late == Some(Crumb {
+        trace: TraceId(7),
+        node: NodeId(0),
+    }) && opened == Some((0, None))
+        && closed == Some((1, Some(1)))
+}
+
+/// The number of the next note, with its points if it is that of an end.
+fn next_note(ends: &mut Ends) -> Option<(u64, Option<u32>)> {
+    ends.client.flush();
+    let note = ends.segments.receive()?;
+    match note.state {
+        SegmentState::Opened => Some((note.number, None)),
+        SegmentState::Closed(counts) => Some((note.number, Some(counts.points))),
+    }
+}
+
+/// What is looked at.
+#[derive(Clone, Copy)]
+enum Row {
+    Everything,
+    NoTrace,
+    Unknown,
+    Open,
+    ThreePieces,
+    ThirdTrigger,
+    Renewals,
+    Gap,
+}
+
+/// Whether a row comes out as wanted with a client that did nothing.
+fn comes_out(ends: &mut Ends, row: Row) -> bool {
+    match row {
+        Row::Everything => does_all(&mut ends.client) && comes(ends),
+        Row::NoTrace => finds_no_trace(&mut ends.client),
+        Row::Unknown => finds_nothing(&mut ends.client),
+        Row::Open => finds_a_trace(&mut ends.client),
+        Row::ThreePieces => finds_no_place(&mut ends.client),
+        Row::ThirdTrigger => drops_a_trigger(&mut ends.client),
+        Row::Renewals => traces(&mut ends.client, 10_000) == 0,
+        Row::Gap => leaves_a_gap(ends),
+    }
+}
+
+/// Makes a client for a row. One function makes those of all rows, since its proof grows with what it lets go.
+fn with_client(alloc: Global, row: Row) -> Result<bool, MakeFault> {
+    let mut ends = make_ends(alloc, &LEAST)?;
+    Ok(comes_out(&mut ends, row))
+}
+
+fn finds_no_trace(client: &mut NodeClient) -> bool {
+    let pointed = client.point(5, b"login");
+    let left = client.crumb(NodeId(1));
+    let sampled = client.sample(6, 0, 1);
+    let ended = client.end();
+    pointed == Called::NoTrace
+        && left == Called::NoTrace
+        && sampled == Called::NoTrace
+        && ended == Called::NoTrace
+        && client.counts().stray_points == 1
+}
+
+fn finds_nothing(client: &mut NodeClient) -> bool {
+    let left = client.crumb(NodeId(2));
+    let late = client.crumb_of(TraceId(7), NodeId(2));
+    let fired = client.trigger(&trigger_of(TriggerId(4)));
+    let sampled = client.sample(6, 1, 1);
+    left == Called::Unknown
+        && late == Called::Unknown
+        && fired == Called::Unknown
+        && sampled == Called::Unknown
+}
+
+fn finds_a_trace(client: &mut NodeClient) -> bool {
+    let first = client.begin(TraceId(1));
+    let second = client.begin(TraceId(2));
+    is_done(first) && second == Called::AlreadyOpen && client.trace() == Some(TraceId(1))
+}
+
+/// The outbox has one place, and the point asks for three.
+fn finds_no_place(client: &mut NodeClient) -> bool {
+    let begun = client.begin(TraceId(1));
+    let full = client.point(1, &THREE_PIECES);
+    let counts = client.counts();
+    is_done(begun) && full == Called::Full && counts.full_points == 1 && counts.points == 0
+}
+
+/// One trigger lies in the ring and one waits.
+fn drops_a_trigger(client: &mut NodeClient) -> bool {
+    let first = client.trigger(&trigger_of(ID));
+    let second = client.trigger(&trigger_of(ID));
+    let third = client.trigger(&trigger_of(ID));
+    is_done(first)
+        && is_done(second)
+        && third == Called::Full
+        && client.counts().refused_triggers == 1
+}
+
+/// How many of so many traces without a point were not begun and ended. A core counts 8,192 calls, and 10,000 traces are 20,000.
+fn traces(client: &mut NodeClient, count: u32) -> u32 {
+    let mut others = 0u32;
+    for number in 0..count {
+        let begun = client.begin(TraceId(u128::from(number)));
+        let ended = client.end();
+        if !is_done(begun) || !is_done(ended) {
+            others = others.saturating_add(1);
+        }
+    }
+    others
+}
+
+/// The notes 0 and 1 find a place. Those of the second trace are dropped, and the third trace begins with the number 4.
+fn leaves_a_gap(ends: &mut Ends) -> bool {
+    let others = traces(&mut ends.client, 2);
+    let first = next_note(ends);
+    let second = next_note(ends);
+    let begun = ends.client.begin(TraceId(9));
+    let third = next_note(ends);
+    others == 0
+        && is_done(begun)
+        && first == Some((0, None))
+        && second == Some((1, Some(0)))
+        && third == Some((4, None))
+        && ends.client.counts().dropped_notes == 2
+}
+
+/// A pool without a buffer is a fault.
+fn no_buffer(alloc: Global) -> Result<bool, MakeFault> {
+    let limits = ClientLimits {
+        buffers: 0,
+        ..LEAST
+    };
+    match make_ends(alloc, &limits) {
+        Ok(_) => Ok(false),
+        Err(fault) => Ok(fault == MakeFault::Buffers),
+    }
+}
+
+#[test]
+fn calls(rt: HostRuntime) {
+    let alloc = rt.alloc();
+    row(&rt, "everything", with_client(alloc, Row::Everything));
+    row(&rt, "no trace", with_client(alloc, Row::NoTrace));
+    row(&rt, "unknown", with_client(alloc, Row::Unknown));
+    row(&rt, "open", with_client(alloc, Row::Open));
+    row(&rt, "three pieces", with_client(alloc, Row::ThreePieces));
+    row(&rt, "third trigger", with_client(alloc, Row::ThirdTrigger));
+    row(&rt, "renewals", with_client(alloc, Row::Renewals));
+    row(&rt, "gap", with_client(alloc, Row::Gap));
+    row(&rt, "no buffer", no_buffer(alloc));
+}
