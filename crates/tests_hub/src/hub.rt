@@ -2,7 +2,7 @@
 
 use crate::rows::row;
 use hs_base::{Group, GroupId, Laterals, Memory, NodeId, NodeSet, Told, TraceId, TriggerId, Why};
-use hs_hub::{Delivered, Hub, HubLimits, MakeFault};
+use hs_hub::{Delivered, Given, Hub, HubLimits, MakeFault};
 use hs_receipts::MessageId;
 use hs_wire::{Losses, Standing, Wholeness};
 use std::alloc::Global;
@@ -122,11 +122,13 @@ fn a_whole_trace(alloc: Global) -> Result<bool, Memory> {
     let before = hub.take();
     stand(&mut hub, 0, 3, Wholeness::WholeSince);
     let taken = (hub.take(), whole(&hub));
+    let why = hub.why();
     let early = named(&mut hub);
     let saved = hub.saved();
     Ok(
         (before, taken, early) == (None, (Some(TraceId(1)), Some(true)), 0)
-            && (saved, named(&mut hub)) == (Some(TraceId(1)), 5),
+            && (saved, named(&mut hub)) == (Some(TraceId(1)), 5)
+            && why == Some(Given::Complete),
     )
 }
 
@@ -139,7 +141,11 @@ fn an_open_life(alloc: Global) -> Result<bool, Memory> {
     }
     let early = hub.take();
     hub.pass();
-    Ok((early, hub.take(), whole(&hub)) == (None, Some(TraceId(1)), Some(false)))
+    let taken = hub.take();
+    Ok(
+        (early, taken, whole(&hub)) == (None, Some(TraceId(1)), Some(false))
+            && hub.why() == Some(Given::Aged),
+    )
 }
 
 /// A page comes twice: it is held once, and neither message is named before it is saved.
@@ -166,11 +172,12 @@ fn at_a_limit(alloc: Global) -> Result<bool, Memory> {
     let first = report(&mut hub, 1);
     let full = report(&mut hub, 2);
     let taken = hub.take();
+    let why = hub.why();
     hub.saved();
     let one = named(&mut hub);
     Ok(
         (first, full) == (Some(Delivered::Held), Some(Delivered::Full))
-            && (taken, one) == (Some(TraceId(1)), 1)
+            && (taken, why, one) == (Some(TraceId(1)), Some(Given::CutShort), 1)
             && report(&mut hub, 2) == Some(Delivered::Held),
     )
 }
