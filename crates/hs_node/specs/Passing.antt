@@ -2,6 +2,7 @@
 use Rattle.std.specs.Prelude.{◌≡◌, ◌⊎◌, ℕ, zero, suc, ◌<◌, ◌≤◌, Bool, true, false, List, [], map, fold, length, Option, Some, None}
 use Rattle.std.specs.Option.{option_to_list}
 use Rattle.hs_base.specs.declared.limits.TheConstants.{MAX_TAKEN}
+use Rattle.hs_node.specs.declared.pass.TheConstants.{MOST_NOTES, MOST_OFFERS}
 use Rattle.hs_ring.specs.Parts.{Leased}
 use Rattle.hs_agent.specs.Runs.{Run, state_of}
 use Rattle.hs_claimed.specs.declared.answers.Claim.{Claim}
@@ -78,7 +79,7 @@ TakesTriggersOf client run old new =
 
 -- a client's notes, and then its chunks, crumbs, late crumbs and triggers
 abbrev pub TakesFrom : ℕ → Doing
-TakesFrom client = Then (Until (Hears client) MAX_TAKEN) (Then (TakesChunks client) (Then (TakesCrumbs client) (Then (TakesLates client) (TakesTriggersOf client))))
+TakesFrom client = Then (Until (Hears client) MOST_NOTES) (Then (TakesChunks client) (Then (TakesCrumbs client) (Then (TakesLates client) (TakesTriggersOf client))))
 
 abbrev pub TakesAll : Doing
 TakesAll run old new = Each TakesFrom old.clients run old new
@@ -116,7 +117,7 @@ OffersBy run offers.None old new = OffersOne false run old new
 OffersBy run offers.Spent old new = Unit {0}
 
 abbrev pub OffersAll : Doing
-OffersAll run old new = Until OffersOne (length (state_of run).hand) run old new
+OffersAll run old new = Until OffersOne MOST_OFFERS run old new
 
 -- ---- claims
 

@@ -11,4 +11,4 @@ pub use making::{
     ASKS, CALLS, CLAIMS_MORE, MadeNode, NodeFault, PAGE_MORE, WORD_BYTES, WORDS, make_node,
 };
 pub use node::Node;
-pub use pass::Passed;
+pub use pass::{MOST_NOTES, MOST_OFFERS, Passed};

@@ -4,7 +4,7 @@ ghost use Rattle.std.specs.Prelude.{◌≡◌, true, false};
 ghost use Rattle.hs_ring.specs.Parts.{Leased};
 ghost use Rattle.hs_agent.specs.Runs.{Run, IsSpent};
 ghost use Rattle.hs_intake.specs.Intakes.{Stands};
-ghost use Rattle.hs_base.specs.declared.limits.TheConstants.{MAX_TAKEN};
+ghost use Rattle.hs_node.specs.declared.pass.TheConstants.{MOST_NOTES};
 ghost use Rattle.hs_node.specs.Nodes.{GoesOn, GoesOnIf, OffersAs, PassesAs, is_unspent};
 ghost use Rattle.hs_node.specs.Passing.{Until, Hears, TakesChunks, TakesCrumbs, TakesLates, TakesTriggersOf, TakesFrom, TakesAll, TakesAsked, SaysFirst, TakesFront, Takes, Turns, OffersBy, OffersAll, StatesNext, LooksOn, StatesAll, ForgetsOne, ForgetsAll, Passes, is_stated};
 
@@ -12,6 +12,12 @@ use crate::hearing::{note, part};
 use crate::node::Node;
 use hs_base::limits::MAX_TAKEN;
 use hs_intake::{Handed, Stated, Turned, receive_at};
+
+/// The most notes of a client that a pass hears. A link holds no more, so that an agent hears of a segment before it takes its pages.
+pub const MOST_NOTES: u32 = 131_072;
+
+/// The most offers that a pass makes. A chunk that the pool does not take is offered again, until the numbers that found it empty are used up.
+pub const MOST_OFFERS: u32 = 131_072;
 
 /// How far a pass came.
 #[derive(Clone, Copy, Debug, PartialEq, Eq)]
@@ -66,12 +72,12 @@ impl Node {
         true
     }
 
-    /// Hears the notes of a client that have come, at most 64.
+    /// Hears the notes of a client that have come.
     fn hear_all(&mut self, client: u16)
         ensures on { (run : Run Leased) → Stands run self.old.intake → GoesOn run self.old self.new }
-        ensures does { (run : Run Leased) → Stands run self.old.intake → Until (Hears client) MAX_TAKEN run self.old self.new }
+        ensures does { (run : Run Leased) → Stands run self.old.intake → Until (Hears client) MOST_NOTES run self.old self.new }
     {
-        for _ in 0..MAX_TAKEN {
+        for _ in 0..MOST_NOTES {
             if !self.hear(client) {
                 return;
             }
@@ -182,12 +188,12 @@ impl Node {
         }
     }
 
-    /// Offers the chunks of the hand, at most as many as there are at first.
+    /// Offers the chunks of the hand, until it is empty.
     fn offer_all(&mut self) -> bool
         ensures on { (run : Run Leased) → Stands run self.old.intake → GoesOnIf run result self.old self.new }
         ensures does { (run : Run Leased) → Stands run self.old.intake → result ≡ true → OffersAll run self.old self.new }
     {
-        for _ in 0..self.intake.in_hand() {
+        for _ in 0..MOST_OFFERS {
             match self.offer() {
                 Offer::Offered => {}
                 Offer::None => return true,

@@ -1,7 +1,5 @@
-use Rattle.std.proofs.Common.{true, refl, sym, subst, arith, length}
-use Rattle.hs_agent.specs.Runs.{state_of}
-use Rattle.hs_intake.specs.Intakes.{Stands}
-use Rattle.hs_node.specs.Nodes.{PlainNode}
+use Rattle.std.proofs.Common.{true, refl, arith}
+use Rattle.hs_node.specs.declared.pass.TheConstants.{MOST_OFFERS}
 use Rattle.hs_node.specs.Passing.{OffersOne}
 use Rattle.hs_node.proofs.Joining.{on_more, on_nothing}
 use Rattle.hs_node.proofs.Repeating.{each_more, until_stop}
@@ -22,6 +20,4 @@ loop-preserved c =
 
 pub returns-in-None-clause-does : goal.returns-in-None-clause-does
 returns-in-None-clause-does c = λ run stands done.
-    let there : Stands run c.self.inside.intake = subst (λ (x : PlainNode). Stands run x.intake) (sym c.self.view_is) stands in
-    until_stop OffersOne (length (state_of run).hand) run c.loop.counter c.args.self.now c.loop.self c.offer.new.self
-    (let low = c.loop-test.true in let is = c.in_hand-end.ensures run there in omega (arith, low, is)) (c.loop.invariant.does run stands) c.in-None.ensures.does
+    until_stop OffersOne MOST_OFFERS run c.loop.counter c.args.self.now c.loop.self c.offer.new.self (let low = c.loop-test.true in omega (arith, low)) (c.loop.invariant.does run stands) c.in-None.ensures.does
