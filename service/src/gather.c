@@ -184,12 +184,16 @@ static uint8_t trigger_of(hindcore_hub *hub) {
     return (uint8_t)claim.trigger;
 }
 
-/* Pointers in place of places. */
-static void settle(heap *h, gathered *g) {
+/* What was gathered is to be freed with `g`, also where memory came to an end midway. */
+static void hand_over(const heap *h, gathered *g) {
     g->parts = h->parts.at;
     g->records = h->records.at;
     g->payloads = h->payloads.at;
     g->words = h->words.at;
+}
+
+/* Pointers in place of places. */
+static void settle(const heap *h, gathered *g) {
     size_t first = 0;
     for (size_t i = 0; i < h->parts.count; i++) {
         g->parts[i].wholeness = g->words + ((size_t *)h->said.at)[i];
@@ -214,7 +218,8 @@ int gather(hindcore_hub *hub, const hindcore_trace *id, uint16_t nodes, const ch
     g->trace.part = part;
     g->trace.trigger = trigger_of(hub);
     g->trace.is_whole = (int)whole;
-    settle(&h, g);
+    hand_over(&h, g);
+    if (done) settle(&h, g);
     free(payload);
     free(h.places.at);
     free(h.said.at);
