@@ -28,8 +28,8 @@ static const char schema[] =
 static const char *const texts[STATEMENTS] = {
     "INSERT OR IGNORE INTO traces VALUES (?, ?, ?, ?, ?)",
     /* what is not known now does not hide what was known before */
-    "INSERT INTO lives VALUES (?, ?, ?, ?, ?) ON CONFLICT DO UPDATE SET service = iif(excluded.service = '', service, excluded.service),"
-    " wholeness = iif(excluded.wholeness IN ('silent', 'not answered'), wholeness, excluded.wholeness)",
+    ("INSERT INTO lives VALUES (?, ?, ?, ?, ?) ON CONFLICT DO UPDATE SET service = iif(excluded.service = '', service, excluded.service),"
+     " wholeness = iif(excluded.wholeness IN ('silent', 'not answered'), wholeness, excluded.wholeness)"),
     "INSERT OR IGNORE INTO records VALUES (?, ?, ?, ?, ?, ?, ?, ?, ?)",
 };
 

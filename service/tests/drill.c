@@ -183,7 +183,7 @@ static void node_deliver(void *of, const uint8_t *bytes, size_t len) {
 }
 
 static carrier *open_node(node *n, const char *prefix, int number) {
-    char name[16], fault[200] = "";
+    char name[32], fault[200] = "";
     uint8_t hello[256];
     carrier *c = NULL;
     snprintf(name, sizeof name, "node-%d", number);
