@@ -1,0 +1,275 @@
+/* A node: the core's, behind a lock, with its clients. */
+#define _GNU_SOURCE
+#include "within.h"
+#include <errno.h>
+#include <stdlib.h>
+#include <string.h>
+#include <sys/eventfd.h>
+#include <unistd.h>
+
+struct hind_node {
+    hindcore_node core;
+    unsigned forks; /* of the process that opened it */
+    pthread_mutex_t lock; /* around the core, and what follows */
+    int fd, is_signalled; /* -1: nobody asked for it */
+    char name[HINDLIB_NAME + 1];
+    hindcore_digest digest;
+    uint8_t message[HINDLIB_MESSAGE];
+    pthread_mutex_t pool; /* around what follows */
+    int is_closed;
+    hind_client *clients, *waiting; /* all, and those that nobody has */
+    size_t count, users, unsettled; /* users: who has a client, and the node itself while it is open */
+} __attribute__((aligned(HINDLIB_APART)));
+
+/* ---- clients that nobody has */
+
+/* Ends the trace of a client that nobody has, and hands over what waits. Its numbers say whether all of it found a place. */
+static void settle(hind_client *c) {
+    uint64_t waits = 0;
+    if (c->is_open && hindcore_end(&c->core) == HINDCORE_DONE) c->is_open = 0;
+    c->is_unsettled = hindcore_flush(&c->core, &waits) == HINDCORE_DONE && (c->is_open || waits);
+}
+
+/* The first that waits and whose trace was ended, taken out of the list. */
+static hind_client *first_waiting(hind_node *n) {
+    for (hind_client **at = &n->waiting; *at; at = &(*at)->next) {
+        hind_client *c = *at;
+        if (c->is_open) continue;
+        *at = c->next;
+        n->unsettled -= (size_t)c->is_unsettled;
+        return c;
+    }
+    return NULL;
+}
+
+hind_code hindlib_take(hind_node *n, int owner, hind_client **client) {
+    if (n->forks != hindlib_forks) return HIND_FORKED;
+    pthread_mutex_lock(&n->pool);
+    hind_client *c = n->is_closed ? NULL : first_waiting(n);
+    hind_code code = c ? HIND_OK : n->is_closed ? HIND_CLOSED : n->waiting ? HIND_FULL : HIND_MANY;
+    if (c) {
+        n->users++;
+        c->next = NULL;
+        c->is_unsettled = 0;
+        hindlib_store(&c->owner, owner);
+        hindlib_store(&c->is_closed, 0);
+        *client = c;
+    }
+    pthread_mutex_unlock(&n->pool);
+    return code;
+}
+
+/* Frees a node that nobody has any more. */
+static void destroy(hind_node *n) {
+    for (size_t i = 0; i < n->count; i++) hindcore_client_free(&n->clients[i].core);
+    pthread_mutex_destroy(&n->lock);
+    pthread_mutex_destroy(&n->pool);
+    free(n->clients);
+    free(n);
+}
+
+static void put_back(hind_node *n, hind_client *c) {
+    c->next = n->waiting;
+    n->waiting = c;
+    n->unsettled += (size_t)c->is_unsettled;
+}
+
+void hindlib_give_back(hind_client *c) {
+    hind_node *n = c->node;
+    /* from here on a handler gets CLOSED */
+    hindlib_store(&c->is_closed, 1);
+    __atomic_signal_fence(__ATOMIC_SEQ_CST);
+    hindlib_store(&c->owner, HINDLIB_NOBODY);
+    settle(c);
+    pthread_mutex_lock(&n->pool);
+    put_back(n, c);
+    size_t users = --n->users;
+    pthread_mutex_unlock(&n->pool);
+    if (!users) destroy(n);
+}
+
+/* What waits at clients that nobody has goes on by passes. */
+static void settle_waiting(hind_node *n) {
+    pthread_mutex_lock(&n->pool);
+    for (hind_client *c = n->unsettled ? n->waiting : NULL; c; c = c->next) {
+        if (!c->is_unsettled) continue;
+        settle(c);
+        n->unsettled -= !c->is_unsettled;
+    }
+    pthread_mutex_unlock(&n->pool);
+}
+
+/* ---- opening */
+
+static void take_clients(hind_node *n, size_t most) {
+    for (; n->count < most && hindcore_node_client(&n->core, &n->clients[n->count].core) == HINDCORE_DONE; n->count++) {
+        hind_client *c = &n->clients[n->count];
+        c->node = n;
+        c->forks = n->forks;
+        c->is_closed = 1;
+        put_back(n, c);
+    }
+}
+
+static hind_code say_hello(hind_node *n) {
+    return hindlib_code(hindcore_node_hello(&n->core, &n->digest, (const uint8_t *)n->name, strlen(n->name)));
+}
+
+static hind_code open_core(hind_node *n, const hind_node_options *o) {
+    hindcore_fault fault = {0, 0};
+    uint32_t answer = hindcore_node_open((const uint8_t *)o->settings, o->settings_len, o->node, o->epoch, &n->core, &fault);
+    if (answer == HINDCORE_SETTINGS) hindlib_note_fault(&fault);
+    return hindlib_code(answer);
+}
+
+/* All of a node but its handle. What was made is freed where the rest fails. */
+static hind_code make(hind_node *n, const hind_node_options *o) {
+    size_t most = hindlib_setting(o->settings, o->settings_len, "clients", 64);
+    hind_code code = open_core(n, o);
+    if (code) return code;
+    if (posix_memalign((void **)&n->clients, HINDLIB_APART, most * sizeof *n->clients)) {
+        n->clients = NULL;
+        hindcore_node_free(&n->core);
+        return HIND_NOMEM;
+    }
+    memset(n->clients, 0, most * sizeof *n->clients);
+    take_clients(n, most);
+    hindlib_digest(o->settings, o->settings_len, n->digest.bytes);
+    code = say_hello(n);
+    if (code) hindcore_node_free(&n->core);
+    return code;
+}
+
+static hind_code open_with(const hind_node_options *o, hind_node **node) {
+    hind_node *n = NULL;
+    if (posix_memalign((void **)&n, HINDLIB_APART, sizeof *n)) return HIND_NOMEM;
+    memset(n, 0, sizeof *n);
+    n->forks = hindlib_forks;
+    n->fd = -1;
+    n->users = 1;
+    strcpy(n->name, o->name);
+    pthread_mutex_init(&n->lock, NULL);
+    pthread_mutex_init(&n->pool, NULL);
+    hind_code code = make(n, o);
+    if (code) destroy(n);
+    else *node = n;
+    return code;
+}
+
+hind_code hind_node_open(const hind_node_options *options, hind_node **node) {
+    hind_node_options o;
+    if (node) *node = NULL;
+    hind_code code = node ? hindlib_read_options(&o, sizeof o, options) : HIND_INVALID;
+    if (code) return code;
+    if (!o.settings && o.settings_len) return HIND_INVALID;
+    if (!o.settings) o.settings = "";
+    if (!o.name) o.name = "";
+    if (strnlen(o.name, HINDLIB_NAME + 1) > HINDLIB_NAME) return HIND_TOOLONG;
+    if (!o.epoch) o.epoch = hindlib_nanoseconds() / 1000;
+    hindlib_count_forks();
+    return open_with(&o, node);
+}
+
+hind_code hind_node_close(hind_node *node) {
+    if (!node) return HIND_OK;
+    if (node->forks != hindlib_forks) return HIND_FORKED;
+    pthread_mutex_lock(&node->pool);
+    node->is_closed = 1;
+    for (size_t i = 0; i < node->count; i++) hindlib_store(&node->clients[i].is_closed, 1);
+    pthread_mutex_unlock(&node->pool);
+    hindlib_sweep();
+    if (node->fd >= 0) close(node->fd);
+    hindcore_node_free(&node->core);
+    pthread_mutex_lock(&node->pool);
+    size_t users = --node->users;
+    pthread_mutex_unlock(&node->pool);
+    if (!users) destroy(node);
+    return HIND_OK;
+}
+
+/* ---- calls on the core, one at a time */
+
+static hind_code enter(hind_node *n) {
+    if (!n) return HIND_INVALID;
+    if (n->forks != hindlib_forks) return HIND_FORKED;
+    pthread_mutex_lock(&n->lock);
+    return HIND_OK;
+}
+
+/* The descriptor can be read exactly while there is a message. */
+static void signal_fd(hind_node *n) {
+    uint64_t number, len, count = 1;
+    int is_there = n->fd >= 0 && hindcore_node_next(&n->core, &number, n->message, 0, &len) != HINDCORE_NOTHING;
+    if (n->fd < 0 || is_there == n->is_signalled) return;
+    ssize_t moved = is_there ? write(n->fd, &count, sizeof count) : read(n->fd, &count, sizeof count);
+    if (moved == sizeof count) n->is_signalled = is_there;
+}
+
+static hind_code leave(hind_node *n, uint32_t answer) {
+    signal_fd(n);
+    pthread_mutex_unlock(&n->lock);
+    return hindlib_code(answer);
+}
+
+hind_code hind_node_pass(hind_node *node) {
+    uint32_t says = 0;
+    hind_code code = enter(node);
+    if (code) return code;
+    settle_waiting(node);
+    code = leave(node, hindcore_node_pass(&node->core, &says));
+    if (code) return code == HIND_SPENT ? HIND_NOMEM : code;
+    return says ? HIND_OK : HIND_NOTHING;
+}
+
+hind_code hind_node_next(hind_node *node, hind_message *message) {
+    uint64_t number = 0, len = 0;
+    hind_code code = message ? enter(node) : HIND_INVALID;
+    if (code) return code;
+    uint32_t answer = hindcore_node_next(&node->core, &number, node->message, sizeof node->message, &len);
+    if (answer == HINDCORE_DONE) {
+        message->number = number;
+        message->to = HIND_NO_NODE;
+        message->bytes = node->message;
+        message->len = (size_t)len;
+    }
+    return leave(node, answer);
+}
+
+hind_code hind_node_sent(hind_node *node, uint64_t number) {
+    hind_code code = enter(node);
+    return code ? code : leave(node, hindcore_node_sent(&node->core, number));
+}
+
+hind_code hind_node_acknowledged(hind_node *node, uint64_t number) {
+    hind_code code = enter(node);
+    return code ? code : leave(node, hindcore_node_acknowledged(&node->core, number));
+}
+
+hind_code hind_node_again(hind_node *node) {
+    hind_code code = enter(node);
+    return code ? code : leave(node, hindcore_node_again(&node->core));
+}
+
+hind_code hind_node_deliver(hind_node *node, const void *bytes, size_t len) {
+    hind_code code = bytes || !len ? enter(node) : HIND_INVALID;
+    return code ? code : leave(node, hindcore_node_deliver(&node->core, bytes ? bytes : "", len));
+}
+
+hind_code hind_node_hello(hind_node *node) {
+    hind_code code = enter(node);
+    if (code) return code;
+    code = say_hello(node);
+    (void)leave(node, HINDCORE_DONE);
+    return code;
+}
+
+int hind_node_fd(hind_node *node) {
+    if (enter(node)) {
+        errno = EINVAL;
+        return -1;
+    }
+    if (node->fd < 0) node->fd = eventfd(0, EFD_CLOEXEC | EFD_NONBLOCK);
+    int fd = node->fd;
+    (void)leave(node, HINDCORE_DONE);
+    return fd;
+}
