@@ -11,8 +11,12 @@ void *__wrap_realloc(void *old, size_t size);
 void __wrap_free(void *old);
 
 static long allocations, refused_at = -1, live;
+static int refuses_on; /* all behind it are refused too */
 
-static int is_refused(void) { return allocations++ == refused_at; }
+static int is_refused(void) {
+    long number = allocations++;
+    return number == refused_at || (refuses_on && refused_at >= 0 && number > refused_at);
+}
 
 void *__wrap_malloc(size_t size) {
     if (is_refused()) return NULL;
