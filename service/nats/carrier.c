@@ -10,6 +10,7 @@
 enum {
     MOST_UNDER_WAY = 256, /* messages that are published and not acknowledged */
     MOST_TAKEN = 64,      /* of each kind in one turn of the loop */
+    QUIET = 16,           /* turns at the end in which the node has nothing to say: a claim takes some passes to be told */
     LEAST_PATIENCE = 1000, MOST_PATIENCE = 30000 /* milliseconds without an acknowledgement before all is handed out anew */
 };
 
@@ -196,11 +197,13 @@ static int is_drained(carrier *c) {
 static void *carries(void *arg) {
     carrier *c = arg;
     int64_t end = 0;
+    int quiet = 0;
     for (;;) {
         int busy = turn(c);
         unsigned within = atomic_load(&c->stop_within);
+        quiet = end && !busy && is_drained(c) ? quiet + 1 : 0;
         if (within && !end) end = milliseconds() + within;
-        if (end && !busy && is_drained(c)) {
+        if (quiet >= QUIET) {
             atomic_store(&c->drained, 1);
             return NULL;
         }
