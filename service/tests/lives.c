@@ -28,6 +28,7 @@ enum {
     CLAIMS_MORE = 2112, /* docs/RULES.md, "A node's pass" */
     ASK_PLACES = 64,
     MOST_PAYLOAD = 65535,
+    MOST_HEARD = 64,     /* notes of a client in a pass */
     DECLARED = 3
 };
 
@@ -75,7 +76,7 @@ static struct {
     unsigned pass;        /* one step in so many */
     int is_roomy;         /* nothing is evicted or abandoned, and no page is null */
     int is_generous;      /* buckets refuse nothing */
-    int is_long;
+    int flushes;          /* clients flush before each pass */
 } life;
 
 static const uint8_t ids[DECLARED] = {1, 9, 64};
@@ -194,11 +195,13 @@ static unsigned hellos, hellos_seen;
 static int is_blind; /* a message was let go that nobody saw */
 static int is_spent;
 static int has_refused;
+static int is_behind; /* a pass may have taken pages of which it had not heard */
+static unsigned notes_since_pass[MOST_CLIENTS];
 
 static uint64_t total_reported, total_told, total_standings, total_whole, total_whole_checked, total_exact, total_claims_checked, total_filled, total_partial, total_spent, total_calls, total_lost;
 
 static int notes_are_exact(void) {
-    if (has_refused || is_blind || life.remember < life.pool) return 0;
+    if (has_refused || is_blind || is_behind || life.remember < MOST_TRACES) return 0;
     for (unsigned c = 0; c < life.clients; c++)
         if (clients[c].counts.dropped_notes) return 0;
     return 1;
@@ -528,9 +531,21 @@ static void do_again(void) {
     handed = 0;
 }
 
+static uint64_t do_flush(client *c);
+
+/* A pass hears 64 notes of a client that came, and then takes its pages: those whose notes come later are not heard of. */
+static void catch_up(void) {
+    for (unsigned c = 0; c < life.clients; c++) {
+        if (life.flushes ? do_flush(&clients[c]) != 0 : notes_since_pass[c] != 0) is_behind = 1;
+        if (notes_since_pass[c] > MOST_HEARD) is_behind = 1;
+        notes_since_pass[c] = 0;
+    }
+}
+
 static void do_pass(void) {
     uint32_t says = 9;
     uint64_t wanted;
+    catch_up();
     refuse();
     uint32_t code = hindcore_node_pass(&node, &says);
     refuse_nothing();
@@ -674,6 +689,7 @@ static void do_begin(client *c, unsigned t) {
     c->made[c->made_count++] = segment_count;
     c->open = (int)segment_count++;
     c->page = -1;
+    notes_since_pass[c - clients]++;
 }
 
 static void close_page(client *c) {
@@ -782,6 +798,7 @@ static uint32_t do_end(client *c) {
     of[s->trace].longs += s->longs;
     of[s->trace].crumbs_refused += s->crumbs;
     c->open = -1;
+    notes_since_pass[c - clients]++;
     return code;
 }
 
@@ -942,8 +959,8 @@ static void settings_by_seed(void) {
         life.claims = 60000;
     } else {
         life.pins = below(12);
-        life.threshold = below(24);
-        life.buffers = life.clients + life.pins + life.threshold + 1 + below(one_in(2) ? 4 : 30);
+        life.threshold = below(60);
+        life.buffers = life.clients + life.pins + life.threshold + 1 + below(one_in(3) ? 8 : 250);
         life.traces = 1 + below(40);
         life.claims = one_in(2) ? 60000 : 1 + below(60);
     }
@@ -960,6 +977,7 @@ static void settings_by_seed(void) {
     life.refused = one_in(3) ? 2 + below(200) : 0;
     life.acknowledge = one_in(4) ? 0 : 2 + below(30);
     life.pass = 4 + below(one_in(4) ? 200 : 30);
+    life.flushes = !one_in(4);
     may_go_blind = one_in(8);
     sprintf(text,
             "nodes %u\nclients %u\nbuffers %u\nsize %u\nthreshold %u\ntraces %u\npins %u\nbacklog %u\nclaims %u\nremember %u\n"
@@ -972,7 +990,7 @@ static void forget_all(void) {
     page_count = 0, arena_used = 0, segment_count = 0, trigger_count = 0, trigger_first = 0, triggers_used = 0, group_count = 0, fired = 0;
     claims_total = 0, claims_most = 0, ask_count = 0, answered = 0, delivered_since_pass = 0, hellos = 0, hellos_seen = 0;
     memset(states, 0, (size_t)seen + 16 < MOST_MESSAGES ? (size_t)seen + 16 : MOST_MESSAGES);
-    seen = 0, handed = 0, oldest = 0, is_blind = 0, is_spent = 0, has_refused = 0, clock_now = 0;
+    seen = 0, handed = 0, oldest = 0, is_blind = 0, is_spent = 0, is_behind = 0, has_refused = 0, clock_now = 0;
     memset(of, 0, sizeof of);
     for (int t = 0; t < MOST_TRACES; t++) {
         of[t].claimer = -1;
@@ -980,6 +998,7 @@ static void forget_all(void) {
     }
     for (int i = 0; i < MOST_GROUPS; i++) own[i] = -1;
     memset(foreign, -1, sizeof foreign);
+    memset(notes_since_pass, 0, sizeof notes_since_pass);
     for (int i = 0; i < DECLARED; i++) levels[i] = (uint64_t)life.bursts[i] * 1000000, moments[i] = 0, tries[i] = 0;
     for (int c = 0; c < MOST_CLIENTS; c++) {
         client *k = &clients[c];
