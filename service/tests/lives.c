@@ -200,12 +200,13 @@ static unsigned notes_since_pass[MOST_CLIENTS];
 
 static uint64_t total_reported, total_told, total_standings, total_whole, total_whole_checked, total_exact, total_claims_checked, total_filled, total_partial, total_spent, total_calls, total_lost;
 
-static int notes_are_exact(void) {
-    if (has_refused || is_blind || is_behind || life.remember < MOST_TRACES) return 0;
+static int drops_notes(void) {
     for (unsigned c = 0; c < life.clients; c++)
-        if (clients[c].counts.dropped_notes) return 0;
-    return 1;
+        if (clients[c].counts.dropped_notes) return 1;
+    return 0;
 }
+
+static int notes_are_exact(void) { return !has_refused && !is_blind && !is_behind && life.remember >= MOST_TRACES && !drops_notes(); }
 
 static int forgets(void) { return claims_total > life.claims; }
 
@@ -405,7 +406,7 @@ static void learn_standing(const uint8_t *m, size_t len) {
     if (said[0] == SAYS_WHOLE) {
         must_be("losses of what is whole", 0, lost);
         total_whole++;
-        if (!number_at(m + 47, 8) && !is_blind) check_whole(t);
+        if (!number_at(m + 47, 8) && !is_blind && !is_behind && !drops_notes()) check_whole(t);
     }
     if (said[0] == SAYS_UNHEARD) must("nothing is counted of what was not heard", !lost && !out);
     total_lost += said[0] == SAYS_LOST;
