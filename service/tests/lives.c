@@ -7,6 +7,7 @@
 #include "messages.h"
 #include "refusing.h"
 #include <inttypes.h>
+#include <malloc.h>
 #include <stdio.h>
 #include <stdlib.h>
 
@@ -198,7 +199,7 @@ static int has_refused;
 static int is_behind; /* a pass may have taken pages of which it had not heard */
 static unsigned notes_since_pass[MOST_CLIENTS];
 
-static uint64_t total_reported, total_told, total_standings, total_whole, total_whole_checked, total_exact, total_claims_checked, total_filled, total_partial, total_spent, total_calls, total_lost;
+static uint64_t total_reported, total_told, total_standings, total_whole, total_whole_checked, total_exact, total_claims_checked, total_filled, total_partial, total_spent, total_lost, total_refused;
 
 static int drops_notes(void) {
     for (unsigned c = 0; c < life.clients; c++)
@@ -963,11 +964,11 @@ static void settings_by_seed(void) {
         life.threshold = below(60);
         life.buffers = life.clients + life.pins + life.threshold + 1 + below(one_in(3) ? 8 : 250);
         life.traces = 1 + below(40);
-        life.claims = one_in(2) ? 60000 : 1 + below(60);
+        life.claims = one_in(3) ? 1 + below(60) : 60000;
     }
-    life.backlog = one_in(3) ? 1 + below(8) : 64 + below(200);
+    life.backlog = one_in(4) ? 1 + below(8) : 64 + below(200);
     life.pool = 2 + below(one_in(2) ? 12 : 200);
-    life.remember = one_in(4) ? 1 + below(life.pool) : 20000;
+    life.remember = one_in(5) ? 1 + below(life.pool) : 20000;
     for (int i = 0; i < DECLARED; i++) {
         life.bursts[i] = life.is_generous ? 1000 : 1 + below(5);
         life.rates[i] = life.is_generous ? 1000000 : below(3) ? 1 + below(400) : 0;
@@ -975,11 +976,11 @@ static void settings_by_seed(void) {
     life.window = 2 + below(12);
     life.share = 5000 + below(4999);
     life.laterals = 1 + below(5);
-    life.refused = one_in(3) ? 2 + below(200) : 0;
+    life.refused = one_in(4) ? 1 + below(one_in(2) ? 10 : 100) : 0;
     life.acknowledge = one_in(4) ? 0 : 2 + below(30);
     life.pass = 4 + below(one_in(4) ? 200 : 30);
-    life.flushes = !one_in(4);
-    may_go_blind = one_in(8);
+    life.flushes = !one_in(6);
+    may_go_blind = one_in(10);
     sprintf(text,
             "nodes %u\nclients %u\nbuffers %u\nsize %u\nthreshold %u\ntraces %u\npins %u\nbacklog %u\nclaims %u\nremember %u\n"
             "triggerid 1 3 %u %u\ntriggerid 9 1 %u %u\ntriggerid 64 100 %u %u\nauto 0 exception 1\nauto 1 queue 9 %u %u %u\n",
@@ -1223,7 +1224,95 @@ static void live_once(void) {
         check_buffers();
     }
     free_all();
-    total_calls += CALLS;
+    total_refused += (uint64_t)has_refused;
+}
+
+/* ---- a long life without an acknowledgement */
+
+static size_t bytes_in_use(void) { return mallinfo2().uordblks; }
+
+/* The most that was in use in the quarter of the life that ends now. */
+typedef struct {
+    long allocations;
+    size_t bytes;
+    uint64_t null_pages;
+} use;
+
+static void note_use(use *u) {
+    if (live > u->allocations) u->allocations = live;
+    if (bytes_in_use() > u->bytes) u->bytes = bytes_in_use();
+}
+
+static void long_call(hindcore_client *c, int *is_open) {
+    hindcore_trace lead, lateral;
+    trace_id(below(3000), lead.bytes);
+    trace_id(below(3000), lateral.bytes);
+    unsigned r = below(100);
+    if (!*is_open) *is_open = hindcore_begin(c, &lead) == HINDCORE_DONE;
+    else if (r < 60) hindcore_point(c, 1, payload, below(200));
+    else if (r < 65) hindcore_crumb(c, (uint16_t)below(4));
+    else if (r < 70) hindcore_crumb_of(c, &lateral, (uint16_t)below(4));
+    else if (r < 75) hindcore_trigger(c, some_moment(), 1, &lead, &lateral, below(2));
+    else if (r < 95) *is_open = hindcore_end(c) != HINDCORE_DONE;
+    else hindcore_sample(c, some_moment(), 0, below(4) == 0);
+}
+
+static void live_long(void) {
+    static const char settings[] = "nodes 4\nclients 2\nbuffers 400\nsize 128\nthreshold 100\ntraces 200\npins 20\nclaims 100\nremember 1000\ntriggerid 1 1 1000 1000000\nauto 0 exception 1\n";
+    hindcore_fault fault;
+    use uses[4];
+    int is_open[2] = {0};
+    state = seed;
+    memset(&node, 0, sizeof node);
+    memset(uses, 0, sizeof uses);
+    must_be("open", HINDCORE_DONE, hindcore_node_open((const uint8_t *)settings, strlen(settings), 1, seed, &node, &fault));
+    for (int c = 0; c < 2; c++) must_be("client", HINDCORE_DONE, hindcore_node_client(&node, &clients[c].handle));
+    uint64_t number, len, messages = 0;
+    uint32_t says;
+    for (step = 0; step < LONG_CALLS; step++) {
+        int c = (int)below(2);
+        long_call(&clients[c].handle, &is_open[c]);
+        use *u = &uses[step / (LONG_CALLS / 4)];
+        if (step % 20 == 0) {
+            must_be("pass", HINDCORE_DONE, hindcore_node_pass(&node, &says));
+            note_use(u);
+        }
+        if (step % 8 == 0 && hindcore_node_next(&node, &number, out, sizeof out, &len) == HINDCORE_DONE) {
+            must_be("sent", HINDCORE_DONE, hindcore_node_sent(&node, number));
+            if (number >= messages) messages = number + 1;
+        }
+        if (step % 10000 == 0) must_be("again", HINDCORE_DONE, hindcore_node_again(&node));
+        if (step % (LONG_CALLS / 4) == LONG_CALLS / 4 - 1)
+            for (c = 0; c < 2; c++) {
+                hindcore_count counts;
+                hindcore_counts(&clients[c].handle, &counts);
+                u->null_pages += counts.null_pages;
+            }
+    }
+    must("no more messages wait than have places", messages <= 1024 + 20);
+    must_be("null pages in a life without acknowledgements", 0, uses[3].null_pages);
+    must("as many allocations at the end as before", uses[3].allocations <= uses[1].allocations + uses[1].allocations / 20);
+    must("as many bytes at the end as before", uses[3].bytes <= uses[1].bytes + uses[1].bytes / 20);
+    /* what waited comes once there is room */
+    uint64_t told = 0;
+    for (int k = 0; k < 5000; k++) {
+        hindcore_node_pass(&node, &says);
+        while (hindcore_node_next(&node, &number, out, sizeof out, &len) == HINDCORE_DONE) {
+            told += number >= messages;
+            hindcore_node_sent(&node, number);
+        }
+        hindcore_node_again(&node);
+        while (hindcore_node_next(&node, &number, out, sizeof out, &len) == HINDCORE_DONE) {
+            hindcore_node_sent(&node, number);
+            must_be("acknowledged", HINDCORE_DONE, hindcore_node_acknowledged(&node, number));
+        }
+    }
+    must("what waited is said", told);
+    for (int c = 0; c < 2; c++) must_be("free a client", HINDCORE_DONE, hindcore_client_free(&clients[c].handle));
+    must_be("free the node", HINDCORE_DONE, hindcore_node_free(&node));
+    must_be("what stays allocated", 0, (uint64_t)live);
+    printf("lives: a long life of %d calls: %ld allocations and %zu bytes at most in its second quarter, %ld and %zu in its last; %" PRIu64 " messages without an acknowledgement, %" PRIu64 " then\n",
+           LONG_CALLS, uses[1].allocations, uses[1].bytes, uses[3].allocations, uses[3].bytes, messages, told);
 }
 
 int main(int count, char **words) {
@@ -1232,6 +1321,11 @@ int main(int count, char **words) {
         fprintf(stderr, "lives FIRST COUNT [--loud]\n");
         return 2;
     }
+    if (!strcmp(words[1], "long")) {
+        seed = strtoull(words[2], NULL, 10);
+        live_long();
+        return 0;
+    }
     uint64_t first = strtoull(words[1], NULL, 10), lives = strtoull(words[2], NULL, 10);
     for (seed = first; seed < first + lives; seed++) {
         live_once();
@@ -1239,8 +1333,8 @@ int main(int count, char **words) {
             printf("seed %" PRIu64 ": %u pages, %u groups, %" PRIu64 " messages%s\n", seed, page_count, group_count, seen, is_spent ? ", spent" : "");
     }
     printf("lives: %" PRIu64 " lives, %" PRIu64 " pages reported, %" PRIu64 " told, %" PRIu64 " standings, %" PRIu64 " whole, %" PRIu64 " of these looked at, %" PRIu64
-           " lost; %" PRIu64 " lives exact with %" PRIu64 " claims; %" PRIu64 " spent; all buffers drawn in %" PRIu64 ", some in %" PRIu64 "\n",
-           lives, total_reported, total_told, total_standings, total_whole, total_whole_checked, total_lost, total_exact, total_claims_checked, total_spent, total_filled,
+           " lost; %" PRIu64 " lives exact with %" PRIu64 " claims; memory refused in %" PRIu64 ", %" PRIu64 " spent; all buffers drawn in %" PRIu64 ", some in %" PRIu64 "\n",
+           lives, total_reported, total_told, total_standings, total_whole, total_whole_checked, total_lost, total_exact, total_claims_checked, total_refused, total_spent, total_filled,
            total_partial);
     return 0;
 }
