@@ -1,8 +1,34 @@
-/* Random lives of a node against a plain model: what its clients wrote, what was lost of it, what it was asked, and what it said.
+/* Random lives of a node against a plain model: what its clients wrote, what was lost of it, what the node was asked, and what it said.
  *
  *     lives FIRST COUNT          lives of the seeds from FIRST on, of 5,000 calls each; --loud as a third word prints each
- *     lives long SEED            one life of a million calls without an acknowledgement: the number of allocations stays flat
- */
+ *     lives long SEED            a life of a million calls without an acknowledgement
+ *
+ * One thread makes all calls, the node's between the clients'. In each life:
+ *
+ *   1. Each call answers what the model says. FULL alone is learned: it may come only where a call asks for a place, and nothing changes but the
+ *      count of what was refused. No call of a client allocates. All counts of a client are the model's.
+ *   2. A page that is reported is, byte for byte, what its client wrote; it was sent, had a buffer, and is reported once. Those of a client and a
+ *      trace come in their order. Its group was told before and names its trace, and it is the group that claimed the trace first.
+ *   3. Numbers of messages rise by one, and next, sent, acknowledged and again answer as a list does. Groups that fired have rising numbers. Each is
+ *      a trigger that was done; where buckets refuse nothing all of these fire, and where there is one client those fire that the buckets of the
+ *      model let through. Each ask that was taken is answered once, in order, and what is no ask is refused. Crumbs that are told were left; where
+ *      nothing is evicted, all that were left of a claimed trace are told.
+ *   4. A standing is news of its claim. Where no note was dropped, no memory refused and no page taken before its segment was heard, it
+ *      counts the pages that were handed out before it; and once all is acknowledged, the last one of each claim says how whole the trace is, and what was
+ *      lost of it by each cause, exactly: what was sent is what was reported, evicted and abandoned. Where a node that missed nothing says whole, at any
+ *      time, all pages are out of each segment of which one is, and nothing of them was refused.
+ *   5. In the end no buffer is lost, and none is there twice: the index filled, as many pages have a buffer as it does not keep, and the next one has
+ *      none. All that was allocated is freed.
+ *
+ * In a quarter of the lives allocations are refused: opening then answers MEMORY and leaves nothing allocated, and 1 to 3 and 5 hold as ever. In the
+ * long life the number of allocations and their bytes stay flat, pages go on having buffers, and what waited comes once there is room.
+ *
+ * What it does not tell: which pages are evicted or abandoned (their number alone); the order among groups in which pages are reported, and the share of each
+ * trigger id; buckets where several clients fire; standings of a node that dropped a note, found no memory for one, or remembers fewer traces than there are,
+ * and the horizon there; which groups are forgotten. A page is taken before its segment is heard where more than 64 notes of its client came between two passes,
+ * or more than the backlog has places: what is said then is not looked at. Lost crumbs that the index or a forgotten group took with it, and refused
+ * ones of a trace that need not be open, are expected in no count. No life is spent, none reaches the end of numbers, and no core is renewed but in the long
+ * life, whose pages are not read. Two threads at once are not tried. */
 #include "hindcore.h"
 #include "messages.h"
 #include "refusing.h"
@@ -535,11 +561,12 @@ static void do_again(void) {
 
 static uint64_t do_flush(client *c);
 
-/* A pass hears 64 notes of a client that came, and then takes its pages: those whose notes come later are not heard of. */
+/* A pass hears 64 notes of a client that came, and then takes its pages. Segments whose notes come later are not heard of before their pages. As many notes
+ * as the backlog has places come at once; more may wait. */
 static void catch_up(void) {
     for (unsigned c = 0; c < life.clients; c++) {
-        if (life.flushes ? do_flush(&clients[c]) != 0 : notes_since_pass[c] != 0) is_behind = 1;
-        if (notes_since_pass[c] > MOST_HEARD) is_behind = 1;
+        if (life.flushes) do_flush(&clients[c]);
+        if (notes_since_pass[c] > MOST_HEARD || notes_since_pass[c] > life.backlog) is_behind = 1;
         notes_since_pass[c] = 0;
     }
 }
@@ -770,7 +797,7 @@ static uint32_t write_point(client *c, uint64_t moment, size_t len) {
 }
 
 static void do_point(client *c) {
-    size_t len = one_in(500) ? MOST_PAYLOAD + 1 + below(8) : one_in(200) ? below(3000) : one_in(5) ? below(3 * life.size) : below(life.size / 2);
+    size_t len = one_in(500) ? MOST_PAYLOAD + 1 + below(8) : one_in(200) ? below(one_in(2) ? 3000 : 20000) : one_in(5) ? below(3 * life.size) : below(life.size / 2);
     write_point(c, next_random() >> below(64), len);
 }
 
@@ -934,6 +961,8 @@ static void client_call(void) {
     client *c = &clients[below(life.clients)];
     long before = allocations;
     unsigned r = below(100);
+    if (one_in(2000))
+        for (unsigned k = 3 * life.backlog; k; k--) do_crumb(c); /* more than have places */
     if (c->open < 0 ? r < 60 : r < 1) do_begin(c, some_trace());
     else if (r < 60) do_point(c);
     else if (r < 70) do_crumb(c);
@@ -979,7 +1008,7 @@ static void settings_by_seed(void) {
     life.refused = one_in(4) ? 1 + below(one_in(2) ? 10 : 100) : 0;
     life.acknowledge = one_in(4) ? 0 : 2 + below(30);
     life.pass = 4 + below(one_in(4) ? 200 : 30);
-    life.flushes = !one_in(6);
+    life.flushes = one_in(2);
     may_go_blind = one_in(10);
     sprintf(text,
             "nodes %u\nclients %u\nbuffers %u\nsize %u\nthreshold %u\ntraces %u\npins %u\nbacklog %u\nclaims %u\nremember %u\n"
