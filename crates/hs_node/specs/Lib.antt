@@ -2,3 +2,4 @@ pub mod Nodes
 pub mod Passing
 pub mod NodeLayout
 pub mod Made
+pub mod Examples
