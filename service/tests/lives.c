@@ -56,6 +56,7 @@ enum {
     ASK_PLACES = 64,
     MOST_PAYLOAD = 65535,
     MOST_HEARD = 64,     /* notes of a client in a pass */
+    MOST_LOOKS = 64,     /* traces that are looked at for one that may be forgotten */
     DECLARED = 3
 };
 
@@ -104,6 +105,7 @@ static struct {
     int is_roomy;         /* nothing is evicted or abandoned, and no page is null */
     int is_generous;      /* buckets refuse nothing */
     int flushes;          /* clients flush before each pass */
+    int is_prompt;        /* all that a pass says is handed out at once */
 } life;
 
 static const uint8_t ids[DECLARED] = {1, 9, 64};
@@ -140,8 +142,9 @@ static uint8_t arena[ARENA];
 static size_t arena_used;
 
 typedef struct {
-    unsigned trace, pages, nulls, fulls, longs, crumbs;
-    int is_opened_told, is_closed, is_closed_told;
+    unsigned trace, pages, nulls, fulls, longs, crumbs, out; /* out: of the pages, those that were reported */
+    uint64_t heard; /* which of all segments that were heard, from 1 */
+    int is_closed;
 } segment;
 
 static segment segments[MOST_SEGMENTS];
@@ -154,9 +157,7 @@ typedef struct {
     uint32_t numbers[MOST_PAGES / MOST_CLIENTS]; /* its pages, by number */
     uint32_t page_numbers, records;
     unsigned made[MOST_SEGMENTS / MOST_CLIENTS]; /* its segments */
-    unsigned made_count;
-    int heard_open;    /* what the node takes for its open segment's trace, or -1, once all notes came */
-    int gap;           /* a note was dropped since the last that was sent */
+    unsigned made_count, heard_count;
     hindcore_count counts;
     uint64_t samples;
     uint64_t values[1024];
@@ -225,7 +226,12 @@ static int has_refused;
 static int is_behind; /* a pass may have taken pages of which it had not heard */
 static unsigned notes_since_pass[MOST_CLIENTS];
 
-static uint64_t total_reported, total_told, total_standings, total_whole, total_whole_checked, total_exact, total_claims_checked, total_filled, total_partial, total_spent, total_lost, total_refused;
+/* What is said is of the last pass, and nothing was written since: then the node heard all that was written. */
+static int all_seen, is_of_pass, is_touched;
+static uint64_t heard; /* segments, in the order in which passes heard them */
+static int is_fresh(void) { return is_of_pass && !is_touched; }
+
+static uint64_t total_reported, total_told, total_standings, total_whole, total_whole_checked, total_exact, total_claims_checked, total_filled, total_partial, total_spent, total_lost, total_refused, total_whole_since;
 
 static int drops_notes(void) {
     for (unsigned c = 0; c < life.clients; c++)
@@ -234,6 +240,11 @@ static int drops_notes(void) {
 }
 
 static int notes_are_exact(void) { return !has_refused && !is_blind && !is_behind && life.remember >= MOST_TRACES && !drops_notes(); }
+
+/* Each trace finds a place (docs/RULES.md, "How whole a node's part is"), so that no note is missed though traces are forgotten. */
+static int horizon_is_exact(void) {
+    return !has_refused && !is_blind && !is_behind && !drops_notes() && life.remember > life.buffers + life.clients && life.remember <= MOST_LOOKS;
+}
 
 static int forgets(void) { return claims_total > life.claims; }
 
@@ -373,6 +384,7 @@ static void learn_reported(const uint8_t *m, size_t len, uint64_t at) {
     must("pages of a client and a trace come in order", of[t].last[c] < (int)number);
     of[t].last[c] = (int)number;
     p->is_reported = 1;
+    segments[p->segment].out++;
     of[t].reported++;
     total_reported++;
     group *g = group_of((unsigned)number_at(m + 20, 2), number_at(m + 22, 4));
@@ -386,26 +398,53 @@ static void learn_reported(const uint8_t *m, size_t len, uint64_t at) {
 /* Whole, and nothing was missed: of each client all pages of the trace are out up to the end of a segment, and nothing else was lost of them. */
 static void check_whole(unsigned t) {
     for (unsigned c = 0; c < life.clients; c++) {
-        int is_behind = 0;
+        int is_over = 0;
         for (unsigned i = 0; i < clients[c].made_count; i++) {
             const segment *s = &segments[clients[c].made[i]];
             if (s->trace != t || !s->pages) continue;
-            unsigned out = 0;
-            for (unsigned n = clients[c].made[i], k = 0; k < page_count; k++) {
-                /* pages of a segment stand in a row */
-                if (pages[k].segment == n) out += (unsigned)pages[k].is_reported;
-            }
-            if (is_behind) {
-                must_be("pages behind those of which it says whole", 0, out);
-            } else if (out == 0) {
-                is_behind = 1;
+            if (is_over) {
+                must_be("pages behind those of which it says whole", 0, s->out);
+            } else if (s->out == 0) {
+                is_over = 1;
             } else {
-                must_be("pages of a segment of what is whole", s->pages, out);
+                must_be("pages of a segment of what is whole", s->pages, s->out);
                 must("nothing was lost of what is whole", !s->nulls && !s->fulls && !s->longs && !s->crumbs);
             }
         }
     }
     total_whole_checked++;
+}
+
+/* Whole since a horizon, where the node heard all segments by now: of each that it heard behind the horizon everything is out. */
+static void check_whole_since(unsigned t, uint64_t horizon) {
+    for (unsigned n = 0; n < segment_count; n++) {
+        const segment *s = &segments[n];
+        if (s->trace != t || s->heard <= horizon) continue;
+        must("what is whole is closed", s->is_closed);
+        must("nothing was lost of what is whole since", !s->nulls && !s->fulls && !s->longs && !s->crumbs);
+        must_be("pages of a segment of what is whole since", s->pages, s->out);
+    }
+    total_whole_since++;
+}
+
+/* How a node stands to a trace that has heard all that was written, and whose memory has no end. */
+static void check_standing(unsigned t, const uint8_t *s) {
+    uint64_t evicted = number_at(s + 21 + 56, 8), abandoned = number_at(s + 21 + 64, 8), lost = 0, left = of[t].reported + evicted + abandoned;
+    unsigned open = 0, here = 0;
+    for (unsigned c = 0; c < life.clients; c++)
+        if (clients[c].open >= 0 && segments[clients[c].open].trace == t) open++, here += segments[clients[c].open].pages - segments[clients[c].open].nulls;
+    for (int n = 0; n < 9; n++) lost += number_at(s + 21 + 8 * n, 8);
+    must_be("open segments", open, number_at(s + 1, 4));
+    must_be("horizon", 0, number_at(s + 5, 8));
+    must_be("pages", of[t].reported, number_at(s + 13, 8));
+    must_be("null pages", of[t].nulls, number_at(s + 21, 8));
+    must_be("points refused for want of places", of[t].fulls, number_at(s + 29, 8));
+    must_be("dry points", 0, number_at(s + 37, 8));
+    must_be("long points", of[t].longs, number_at(s + 45, 8));
+    must_be("refused crumbs", of[t].crumbs_refused, number_at(s + 53, 8));
+    must("no more pages left than were sent", left <= of[t].sent + here);
+    must_be("how whole", open ? SAYS_OPEN : !of[t].segments ? SAYS_UNHEARD : lost ? SAYS_LOST : of[t].sent == of[t].reported ? SAYS_WHOLE : SAYS_UNKNOWN, s[0]);
+    total_claims_checked++;
 }
 
 static void learn_standing(const uint8_t *m, size_t len) {
@@ -434,7 +473,9 @@ static void learn_standing(const uint8_t *m, size_t len) {
         must_be("losses of what is whole", 0, lost);
         total_whole++;
         if (!number_at(m + 47, 8) && !is_blind && !is_behind && !drops_notes()) check_whole(t);
+        if (is_fresh() && (notes_are_exact() || horizon_is_exact())) check_whole_since(t, number_at(m + 47, 8));
     }
+    if (is_fresh() && notes_are_exact()) check_standing(t, said);
     if (said[0] == SAYS_UNHEARD) must("nothing is counted of what was not heard", !lost && !out);
     total_lost += said[0] == SAYS_LOST;
 }
@@ -481,6 +522,7 @@ static int look(uint64_t *number) {
     uint32_t code = hindcore_node_next(&node, &got, out, sizeof out, &len);
     if (code == HINDCORE_NOTHING) {
         must_be("a message waits", 0, (uint64_t)is_known);
+        all_seen = 1;
         return 0;
     }
     must_be("next", HINDCORE_DONE, code);
@@ -568,7 +610,11 @@ static void catch_up(void) {
         if (life.flushes) do_flush(&clients[c]);
         if (notes_since_pass[c] > MOST_HEARD || notes_since_pass[c] > life.backlog) is_behind = 1;
         notes_since_pass[c] = 0;
+        while (clients[c].heard_count < clients[c].made_count) segments[clients[c].made[clients[c].heard_count++]].heard = ++heard;
     }
+    is_of_pass = all_seen;
+    all_seen = 0;
+    is_touched = 0;
 }
 
 static void do_pass(void) {
@@ -699,6 +745,7 @@ static void compare(client *c) {
 
 static void do_begin(client *c, unsigned t) {
     hindcore_trace trace;
+    is_touched = 1;
     trace_id(t, trace.bytes);
     uint32_t code = hindcore_begin(&c->handle, &trace);
     if (c->open >= 0) {
@@ -714,7 +761,6 @@ static void do_begin(client *c, unsigned t) {
     segment *s = &segments[segment_count];
     memset(s, 0, sizeof *s);
     s->trace = t;
-    s->is_opened_told = !drops;
     c->made[c->made_count++] = segment_count;
     c->open = (int)segment_count++;
     c->page = -1;
@@ -761,6 +807,7 @@ static uint8_t payload[MOST_PAYLOAD + 64];
 
 static uint32_t write_point(client *c, uint64_t moment, size_t len) {
     for (size_t i = 0; i < len && i < 8; i++) payload[i] = (uint8_t)next_random();
+    is_touched = 1;
     uint32_t code = hindcore_point(&c->handle, moment, payload, len);
     unsigned began = 0, nulls;
     int drops;
@@ -802,6 +849,7 @@ static void do_point(client *c) {
 }
 
 static uint32_t do_end(client *c) {
+    is_touched = 1;
     uint32_t code = hindcore_end(&c->handle);
     if (c->open < 0) {
         must_be("end without a trace", HINDCORE_NO_TRACE, code);
@@ -819,7 +867,6 @@ static uint32_t do_end(client *c) {
     close_page(c);
     segment *s = &segments[c->open];
     s->is_closed = 1;
-    s->is_closed_told = !drops;
     of[s->trace].segments++;
     of[s->trace].sent += s->pages - s->nulls;
     of[s->trace].nulls += s->nulls;
@@ -834,6 +881,7 @@ static uint32_t do_end(client *c) {
 static void do_crumb(client *c) {
     unsigned n = below(life.nodes + 1);
     uint32_t code;
+    is_touched = 1;
     int is_open = c->open >= 0;
     unsigned t = is_open ? segments[c->open].trace : 0;
     if (one_in(3)) {
@@ -998,6 +1046,13 @@ static void settings_by_seed(void) {
     life.backlog = one_in(4) ? 1 + below(8) : 64 + below(200);
     life.pool = 2 + below(one_in(2) ? 12 : 200);
     life.remember = one_in(5) ? 1 + below(life.pool) : 20000;
+    if (one_in(6)) {
+        /* traces are forgotten, and each note finds a place */
+        life.pins = below(10), life.threshold = below(16), life.is_roomy = 0, life.traces = 1 + below(40);
+        life.buffers = life.clients + life.pins + life.threshold + 4 + below(20);
+        life.remember = life.buffers + life.clients + 1;
+        life.pool = 100 + below(200);
+    }
     for (int i = 0; i < DECLARED; i++) {
         life.bursts[i] = life.is_generous ? 1000 : 1 + below(5);
         life.rates[i] = life.is_generous ? 1000000 : below(3) ? 1 + below(400) : 0;
@@ -1009,6 +1064,7 @@ static void settings_by_seed(void) {
     life.acknowledge = one_in(4) ? 0 : 2 + below(30);
     life.pass = 4 + below(one_in(4) ? 200 : 30);
     life.flushes = one_in(2);
+    life.is_prompt = one_in(2);
     may_go_blind = one_in(10);
     sprintf(text,
             "nodes %u\nclients %u\nbuffers %u\nsize %u\nthreshold %u\ntraces %u\npins %u\nbacklog %u\nclaims %u\nremember %u\n"
@@ -1021,7 +1077,7 @@ static void forget_all(void) {
     page_count = 0, arena_used = 0, segment_count = 0, trigger_count = 0, trigger_first = 0, triggers_used = 0, group_count = 0, fired = 0;
     claims_total = 0, claims_most = 0, ask_count = 0, answered = 0, delivered_since_pass = 0, hellos = 0, hellos_seen = 0;
     memset(states, 0, (size_t)seen + 16 < MOST_MESSAGES ? (size_t)seen + 16 : MOST_MESSAGES);
-    seen = 0, handed = 0, oldest = 0, is_blind = 0, is_spent = 0, is_behind = 0, has_refused = 0, clock_now = 0;
+    seen = 0, handed = 0, oldest = 0, is_blind = 0, is_spent = 0, is_behind = 0, all_seen = 1, is_of_pass = 0, is_touched = 0, heard = 0, has_refused = 0, clock_now = 0;
     memset(of, 0, sizeof of);
     for (int t = 0; t < MOST_TRACES; t++) {
         of[t].claimer = -1;
@@ -1035,7 +1091,7 @@ static void forget_all(void) {
         client *k = &clients[c];
         memset(&k->handle, 0, sizeof k->handle);
         memset(&k->counts, 0, sizeof k->counts);
-        k->open = -1, k->page = -1, k->page_numbers = 0, k->records = 0, k->made_count = 0, k->samples = 0;
+        k->open = -1, k->page = -1, k->page_numbers = 0, k->records = 0, k->made_count = 0, k->heard_count = 0, k->samples = 0;
     }
 }
 
@@ -1069,9 +1125,17 @@ static void hello(void) {
     hellos++;
 }
 
+static void see_all(void) {
+    uint64_t number;
+    while (look(&number)) send_one(number);
+}
+
 static void one_step(void) {
     client_call();
-    if (one_in(life.pass)) do_pass();
+    if (one_in(life.pass)) {
+        do_pass();
+        if (life.is_prompt) see_all();
+    }
     if (one_in(6)) do_next();
     if (one_in(life.acknowledge)) do_acknowledge();
     if (one_in(300)) do_again();
@@ -1135,21 +1199,11 @@ static void check_claims(void) {
             if (life.is_roomy && of[t].claimer == (int)i) must_be("crumbs of a claimed trace that are not told", 0, of[t].crumbs & ~g->crumbs);
             if (!are_exact) continue;
             const uint8_t *s = g->said[k];
-            uint64_t evicted = number_at(s + 21 + 56, 8), abandoned = number_at(s + 21 + 64, 8), lost = 0;
-            for (int n = 0; n < 9; n++) lost += number_at(s + 21 + 8 * n, 8);
-            must_be("open segments at the end", 0, number_at(s + 1, 4));
-            must_be("horizon", 0, number_at(s + 5, 8));
-            must_be("pages", of[t].reported, number_at(s + 13, 8));
-            must_be("null pages", of[t].nulls, number_at(s + 21, 8));
-            must_be("points refused for want of places", of[t].fulls, number_at(s + 29, 8));
-            must_be("dry points", 0, number_at(s + 37, 8));
-            must_be("long points", of[t].longs, number_at(s + 45, 8));
-            must_be("refused crumbs", of[t].crumbs_refused, number_at(s + 53, 8));
+            uint64_t evicted = number_at(s + 21 + 56, 8), abandoned = number_at(s + 21 + 64, 8);
+            check_standing(t, s);
             must_be("pages that left", of[t].sent, of[t].reported + evicted + abandoned);
-            if (all_pages <= life.threshold && segment_count + MOST_TRACES <= life.traces) must_be("evicted pages where there is room", 0, evicted);
+            if (all_pages <= life.threshold && life.is_roomy) must_be("evicted pages where there is room", 0, evicted);
             if (all_pages <= life.pins) must_be("abandoned pages where there is room", 0, abandoned);
-            must_be("how whole", of[t].segments == 0 ? SAYS_UNHEARD : lost ? SAYS_LOST : SAYS_WHOLE, s[0]);
-            total_claims_checked++;
         }
     }
     total_exact += are_exact;
@@ -1362,8 +1416,8 @@ int main(int count, char **words) {
             printf("seed %" PRIu64 ": %u pages, %u groups, %" PRIu64 " messages%s\n", seed, page_count, group_count, seen, is_spent ? ", spent" : "");
     }
     printf("lives: %" PRIu64 " lives, %" PRIu64 " pages reported, %" PRIu64 " told, %" PRIu64 " standings, %" PRIu64 " whole, %" PRIu64 " of these looked at, %" PRIu64
-           " lost; %" PRIu64 " lives exact with %" PRIu64 " claims; memory refused in %" PRIu64 ", %" PRIu64 " spent; all buffers drawn in %" PRIu64 ", some in %" PRIu64 "\n",
-           lives, total_reported, total_told, total_standings, total_whole, total_whole_checked, total_lost, total_exact, total_claims_checked, total_refused, total_spent, total_filled,
+           " lost; %" PRIu64 " lives exact, %" PRIu64 " standings compared; memory refused in %" PRIu64 ", %" PRIu64 " spent; all buffers drawn in %" PRIu64 ", some in %" PRIu64 "\n",
+           lives, total_reported, total_told, total_standings, total_whole, total_whole_checked + total_whole_since, total_lost, total_exact, total_claims_checked, total_refused, total_spent, total_filled,
            total_partial);
     return 0;
 }
