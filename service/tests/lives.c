@@ -472,7 +472,7 @@ static void learn_standing(const uint8_t *m, size_t len) {
     if (said[0] == SAYS_WHOLE) {
         must_be("losses of what is whole", 0, lost);
         total_whole++;
-        if (!number_at(m + 47, 8) && !is_blind && !is_behind && !drops_notes()) check_whole(t);
+        if (!number_at(m + 47, 8) && !is_blind && !is_behind && !drops_notes() && !has_refused) check_whole(t);
         if (is_fresh() && (notes_are_exact() || horizon_is_exact())) check_whole_since(t, number_at(m + 47, 8));
     }
     if (is_fresh() && notes_are_exact()) check_standing(t, said);
