@@ -1,6 +1,7 @@
 /* Random lives of a node against a plain model: what its clients wrote, what was lost of it, what the node was asked, and what it said.
  *
- *     lives FIRST COUNT          lives of the seeds from FIRST on, of 5,000 calls each; --loud as a third word prints each
+ *     lives FIRST COUNT          lives of the seeds from FIRST on, of 5,000 calls each; --loud as a third word prints each, and
+ *                                --strict looks at standings also where pages were taken before their notes
  *     lives long SEED            a life of a million calls without an acknowledgement
  *
  * One thread makes all calls, the node's between the clients'. In each life:
@@ -26,7 +27,7 @@
  * What it does not tell: which pages are evicted or abandoned (their number alone); the order among groups in which pages are reported, and the share of each
  * trigger id; buckets where several clients fire; standings of a node that dropped a note, found no memory for one, or remembers fewer traces than there are,
  * and the horizon there; which groups are forgotten. A page is taken before its segment is heard where more than 64 notes of its client came between two passes,
- * or more than the backlog has places: what is said then is not looked at. Lost crumbs that the index or a forgotten group took with it, and refused
+ * or more than the backlog has places: what is said then is not looked at, unless `--strict` is said. Lost crumbs that the index or a forgotten group took with it, and refused
  * ones of a trace that need not be open, are expected in no count. No life is spent, none reaches the end of numbers, and no core is renewed but in the long
  * life, whose pages are not read. Two threads at once are not tried. */
 #include "hindcore.h"
@@ -105,6 +106,7 @@ static struct {
     int is_roomy;         /* nothing is evicted or abandoned, and no page is null */
     int is_generous;      /* buckets refuse nothing */
     int flushes;          /* clients flush before each pass */
+    int is_greedy;        /* groups have many laterals, so that claims run out of places */
     int is_prompt;        /* all that a pass says is handed out at once */
 } life;
 
@@ -223,6 +225,7 @@ static unsigned hellos, hellos_seen;
 static int is_blind; /* a message was let go that nobody saw */
 static int is_spent;
 static int has_refused;
+static int is_strict; /* it is wrong to take pages before their notes */
 static int is_behind; /* a pass may have taken pages of which it had not heard */
 static unsigned notes_since_pass[MOST_CLIENTS];
 
@@ -608,7 +611,7 @@ static uint64_t do_flush(client *c);
 static void catch_up(void) {
     for (unsigned c = 0; c < life.clients; c++) {
         if (life.flushes) do_flush(&clients[c]);
-        if (notes_since_pass[c] > MOST_HEARD || notes_since_pass[c] > life.backlog) is_behind = 1;
+        if (!is_strict && (notes_since_pass[c] > MOST_HEARD || notes_since_pass[c] > life.backlog)) is_behind = 1;
         notes_since_pass[c] = 0;
         while (clients[c].heard_count < clients[c].made_count) segments[clients[c].made[clients[c].heard_count++]].heard = ++heard;
     }
@@ -642,7 +645,7 @@ static void do_pass(void) {
 static unsigned some_trace(void) { return one_in(3) ? below(life.pool) : below(life.pool < 8 ? life.pool : 8); }
 
 static unsigned some_laterals(unsigned *laterals) {
-    unsigned count = one_in(3) ? 1 + below(3) : one_in(40) ? below(MOST_LATERALS + 1) : 0;
+    unsigned count = life.is_greedy ? 20 + below(13) : one_in(3) ? 1 + below(3) : one_in(40) ? below(MOST_LATERALS + 1) : 0;
     for (unsigned i = 0; i < count; i++) laterals[i] = some_trace();
     return count;
 }
@@ -1065,6 +1068,10 @@ static void settings_by_seed(void) {
     life.pass = 4 + below(one_in(4) ? 200 : 30);
     life.flushes = one_in(2);
     life.is_prompt = one_in(2);
+    if (one_in(10)) {
+        life.is_greedy = 1, life.acknowledge = 0;
+        life.claims = 1 + below(60), life.pool = 100 + below(200);
+    }
     may_go_blind = one_in(10);
     sprintf(text,
             "nodes %u\nclients %u\nbuffers %u\nsize %u\nthreshold %u\ntraces %u\npins %u\nbacklog %u\nclaims %u\nremember %u\n"
@@ -1401,7 +1408,7 @@ static void live_long(void) {
 int main(int count, char **words) {
     (void)put_hello, (void)put_told, (void)put_reported, (void)put_standing;
     if (count < 3) {
-        fprintf(stderr, "lives FIRST COUNT [--loud]\n");
+        fprintf(stderr, "lives FIRST COUNT [--loud | --strict]\n");
         return 2;
     }
     if (!strcmp(words[1], "long")) {
@@ -1410,9 +1417,10 @@ int main(int count, char **words) {
         return 0;
     }
     uint64_t first = strtoull(words[1], NULL, 10), lives = strtoull(words[2], NULL, 10);
+    is_strict = count > 3 && !strcmp(words[3], "--strict");
     for (seed = first; seed < first + lives; seed++) {
         live_once();
-        if (count > 3)
+        if (count > 3 && !strcmp(words[3], "--loud"))
             printf("seed %" PRIu64 ": %u pages, %u groups, %" PRIu64 " messages%s\n", seed, page_count, group_count, seen, is_spent ? ", spent" : "");
     }
     printf("lives: %" PRIu64 " lives, %" PRIu64 " pages reported, %" PRIu64 " told, %" PRIu64 " standings, %" PRIu64 " whole, %" PRIu64 " of these looked at, %" PRIu64
