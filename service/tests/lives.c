@@ -107,6 +107,7 @@ static struct {
     int is_generous;      /* buckets refuse nothing */
     int flushes;          /* clients flush before each pass */
     int is_greedy;        /* groups have many laterals, so that claims run out of places */
+    int repeats;          /* groups are asked for more than once */
     int is_prompt;        /* all that a pass says is handed out at once */
 } life;
 
@@ -213,6 +214,7 @@ typedef struct {
 } ask;
 
 static ask asks[MOST_ASKS];
+static uint32_t asked[MOST_NODES]; /* the number of the next group of a node, where none is asked for twice */
 static unsigned ask_count, answered, delivered_since_pass;
 
 /* ---- what was said */
@@ -224,6 +226,7 @@ static uint64_t seen, handed, oldest;
 static unsigned hellos, hellos_seen;
 static int is_blind; /* a message was let go that nobody saw */
 static int is_spent;
+static int is_told_again; /* a group was answered for twice: if it was forgotten between, it claims anew */
 static int has_refused;
 static int is_strict; /* it is wrong to take pages before their notes */
 static int is_behind; /* a pass may have taken pages of which it had not heard */
@@ -234,7 +237,7 @@ static int all_seen, is_of_pass, is_touched;
 static uint64_t heard; /* segments, in the order in which passes heard them */
 static int is_fresh(void) { return is_of_pass && !is_touched; }
 
-static uint64_t total_reported, total_told, total_standings, total_whole, total_whole_checked, total_exact, total_claims_checked, total_filled, total_partial, total_spent, total_lost, total_refused, total_whole_since;
+static uint64_t total_reported, total_told, total_standings, total_whole, total_whole_checked, total_exact, total_claims_checked, total_filled, total_partial, total_spent, total_lost, total_refused, total_whole_since, total_forgotten, total_kept;
 
 static int drops_notes(void) {
     for (unsigned c = 0; c < life.clients; c++)
@@ -334,6 +337,7 @@ static void learn_answer(unsigned from, uint32_t number, uint8_t id, unsigned le
     must_be("lead of the answer", a->lead, lead);
     must_be("laterals of the answer", a->count, count);
     must("laterals of the answer are those of the ask", !memcmp(a->laterals, laterals, count * sizeof *laterals));
+    is_told_again |= group_of(from, number) != NULL;
     if (!group_of(from, number)) add_group(from, number, id, lead, count, laterals, told);
 }
 
@@ -664,12 +668,13 @@ static void do_deliver(void) {
     writing w = {bytes, 0};
     ask a;
     memset(&a, 0, sizeof a);
-    if (ask_count && one_in(4)) {
+    if (ask_count && life.repeats && one_in(4)) {
         a = asks[below(ask_count)]; /* once more */
     } else {
         do a.node = below(MOST_NODES);
         while (a.node == life.me);
-        a.number = below(64);
+        a.number = life.repeats ? below(64) : asked[a.node];
+        if (a.number == 64) return;
         /* the same group is always asked for with the same words */
         uint64_t kept = state;
         state = seed * 1000003u + a.node * 64 + a.number;
@@ -713,6 +718,7 @@ static void do_deliver(void) {
         must("there are places for no more asks", ++delivered_since_pass <= ASK_PLACES);
         must("asks have room", ask_count < MOST_ASKS);
         asks[ask_count++] = a;
+        asked[a.node] = a.number + 1;
         claims_most += 1 + a.count;
     }
 }
@@ -1047,7 +1053,7 @@ static void settings_by_seed(void) {
         life.claims = one_in(3) ? 1 + below(60) : 60000;
     }
     life.backlog = one_in(4) ? 1 + below(8) : 64 + below(200);
-    life.pool = 2 + below(one_in(2) ? 12 : 200);
+    life.pool = 2 + below(one_in(3) ? 12 : one_in(2) ? 200 : 2000);
     life.remember = one_in(5) ? 1 + below(life.pool) : 20000;
     if (one_in(6)) {
         /* traces are forgotten, and each note finds a place */
@@ -1068,6 +1074,7 @@ static void settings_by_seed(void) {
     life.pass = 4 + below(one_in(4) ? 200 : 30);
     life.flushes = one_in(2);
     life.is_prompt = one_in(2);
+    life.repeats = one_in(2);
     if (one_in(10)) {
         life.is_greedy = 1, life.acknowledge = 0;
         life.claims = 1 + below(60), life.pool = 100 + below(200);
@@ -1084,7 +1091,7 @@ static void forget_all(void) {
     page_count = 0, arena_used = 0, segment_count = 0, trigger_count = 0, trigger_first = 0, triggers_used = 0, group_count = 0, fired = 0;
     claims_total = 0, claims_most = 0, ask_count = 0, answered = 0, delivered_since_pass = 0, hellos = 0, hellos_seen = 0;
     memset(states, 0, (size_t)seen + 16 < MOST_MESSAGES ? (size_t)seen + 16 : MOST_MESSAGES);
-    seen = 0, handed = 0, oldest = 0, is_blind = 0, is_spent = 0, is_behind = 0, all_seen = 1, is_of_pass = 0, is_touched = 0, heard = 0, has_refused = 0, clock_now = 0;
+    seen = 0, handed = 0, oldest = 0, is_blind = 0, is_spent = 0, is_told_again = 0, is_behind = 0, all_seen = 1, is_of_pass = 0, is_touched = 0, heard = 0, has_refused = 0, clock_now = 0;
     memset(of, 0, sizeof of);
     for (int t = 0; t < MOST_TRACES; t++) {
         of[t].claimer = -1;
@@ -1093,6 +1100,7 @@ static void forget_all(void) {
     for (int i = 0; i < MOST_GROUPS; i++) own[i] = -1;
     memset(foreign, -1, sizeof foreign);
     memset(notes_since_pass, 0, sizeof notes_since_pass);
+    memset(asked, 0, sizeof asked);
     for (int i = 0; i < DECLARED; i++) levels[i] = (uint64_t)life.bursts[i] * 1000000, moments[i] = 0, tries[i] = 0;
     for (int c = 0; c < MOST_CLIENTS; c++) {
         client *k = &clients[c];
@@ -1231,6 +1239,48 @@ static int write_page(client *c, unsigned t) {
     return 0;
 }
 
+/* The only group that names a trace, or -1. */
+static int only_group(unsigned t) {
+    int only = -1;
+    for (unsigned i = 0; i < group_count; i++)
+        if (has_trace(&groups[i], t) >= 0) {
+            if (only >= 0) return -1;
+            only = (int)i;
+        }
+    return only;
+}
+
+static int was_abandoned(const group *g) {
+    for (unsigned k = 0; k < g->trace_count; k++)
+        if (!g->has_said[k] || number_at(g->said[k] + 21 + 64, 8)) return 1;
+    return 0;
+}
+
+/* The groups that claimed first are forgotten until no more claims are left than are kept: a further page of a trace that one of these alone named is not
+ * reported, and one of a trace that another one claims is. */
+static void check_forgotten(void) {
+    unsigned kept = 0, first = group_count;
+    if (is_blind || is_told_again) return;
+    while (first > 0 && kept + groups[first - 1].trace_count <= life.claims) kept += groups[--first].trace_count;
+    for (unsigned k = 0, looks = 0; k < 4 && looks < 30; looks++) {
+        unsigned t = below(life.pool), before = of[t].reported;
+        int g = only_group(t);
+        if (g < 0) continue;
+        k++;
+        int is_plain = notes_are_exact() && life.pins && !was_abandoned(&groups[g]);
+        if (!write_page(&clients[0], t)) continue;
+        int is_null = pages[page_count - 1].is_null;
+        end_all();
+        settle();
+        if (is_spent) return;
+        if (is_null) continue;
+        if (g < (int)first) must_be("pages of a trace whose group is forgotten", before, of[t].reported);
+        else if (is_plain) must_be("pages of a trace whose group is not forgotten", before + 1, of[t].reported);
+        total_forgotten += g < (int)first;
+        total_kept += g >= (int)first && is_plain;
+    }
+}
+
 static void check_buffers(void) {
     unsigned kept = life.threshold < life.traces ? life.threshold : life.traces, fresh = life.pool, c = 0, drawn = 0;
     if (life.is_roomy) return; /* too many to fill */
@@ -1311,6 +1361,7 @@ static void live_once(void) {
         total_spent++;
     } else {
         check_claims();
+        check_forgotten();
         check_buffers();
     }
     free_all();
@@ -1424,8 +1475,8 @@ int main(int count, char **words) {
             printf("seed %" PRIu64 ": %u pages, %u groups, %" PRIu64 " messages%s\n", seed, page_count, group_count, seen, is_spent ? ", spent" : "");
     }
     printf("lives: %" PRIu64 " lives, %" PRIu64 " pages reported, %" PRIu64 " told, %" PRIu64 " standings, %" PRIu64 " whole, %" PRIu64 " of these looked at, %" PRIu64
-           " lost; %" PRIu64 " lives exact, %" PRIu64 " standings compared; memory refused in %" PRIu64 ", %" PRIu64 " spent; all buffers drawn in %" PRIu64 ", some in %" PRIu64 "\n",
-           lives, total_reported, total_told, total_standings, total_whole, total_whole_checked + total_whole_since, total_lost, total_exact, total_claims_checked, total_refused, total_spent, total_filled,
+           " lost; %" PRIu64 " lives exact, %" PRIu64 " standings compared; %" PRIu64 " groups looked at that are forgotten, %" PRIu64 " that are kept; memory refused in %" PRIu64 ", %" PRIu64 " spent; all buffers drawn in %" PRIu64 ", some in %" PRIu64 "\n",
+           lives, total_reported, total_told, total_standings, total_whole, total_whole_checked + total_whole_since, total_lost, total_exact, total_claims_checked, total_forgotten, total_kept, total_refused, total_spent, total_filled,
            total_partial);
     return 0;
 }
