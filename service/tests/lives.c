@@ -15,21 +15,22 @@
  *      model let through. Each ask that was taken is answered once, in order, and what is no ask is refused. Crumbs that are told were left; where
  *      nothing is evicted, all that were left of a claimed trace are told.
  *   4. A standing is news of its claim. Where no note was dropped, no memory refused and no page taken before its segment was heard, it
- *      counts the pages that were handed out before it; and once all is acknowledged, the last one of each claim says how whole the trace is, and what was
- *      lost of it by each cause, exactly: what was sent is what was reported, evicted and abandoned. Where a node that missed nothing says whole, at any
- *      time, all pages are out of each segment of which one is, and nothing of them was refused.
+ *      counts the pages that were handed out before it. Where the node then heard all that was written, it says exactly what is open, what was lost by
+ *      each cause that a client counts, and how whole the trace is. Once all is acknowledged each claim has one, and what was sent of the trace is
+ *      what was reported, evicted and abandoned. Where a node says whole, all pages are out of each segment behind its horizon, and nothing of them was refused.
  *   5. In the end no buffer is lost, and none is there twice: the index filled, as many pages have a buffer as it does not keep, and the next one has
- *      none. All that was allocated is freed.
+ *      none. The groups that claimed first are forgotten, as many as claims are too many: a further page of a trace that one of these alone named is
+ *      not reported, and that of another group's is. All that was allocated is freed.
  *
  * In a quarter of the lives allocations are refused: opening then answers MEMORY and leaves nothing allocated, and 1 to 3 and 5 hold as ever. In the
  * long life the number of allocations and their bytes stay flat, pages go on having buffers, and what waited comes once there is room.
  *
- * What it does not tell: which pages are evicted or abandoned (their number alone); the order among groups in which pages are reported, and the share of each
- * trigger id; buckets where several clients fire; standings of a node that dropped a note, found no memory for one, or remembers fewer traces than there are,
- * and the horizon there; which groups are forgotten. A page is taken before its segment is heard where more than 64 notes of its client came between two passes,
- * or more than the backlog has places: what is said then is not looked at, unless `--strict` is said. Lost crumbs that the index or a forgotten group took with it, and refused
- * ones of a trace that need not be open, are expected in no count. No life is spent, none reaches the end of numbers, and no core is renewed but in the long
- * life, whose pages are not read. Two threads at once are not tried. */
+ * What it does not tell: which pages are evicted or abandoned (their number alone); the order among groups in which pages are reported, and the
+ * share of each trigger id; buckets where several clients fire; standings of a node that dropped a note, found no memory for one, or has no room for each trace,
+ * and the horizon there. A page is taken before its segment is heard where more than 64 notes of its client came between two passes, or more than
+ * the backlog has places: what is said then is looked at under --strict alone. Crumbs that the index or a forgotten group took with it, and
+ * refused ones of a trace that need not be open, are expected in no count. No life is spent, none reaches the end of numbers, and no core is renewed but in
+ * the long life, whose pages are not read. Two threads at once are not tried. */
 #include "hindcore.h"
 #include "messages.h"
 #include "refusing.h"
@@ -315,8 +316,9 @@ static void learn_fired(uint32_t number, uint8_t id, unsigned lead, unsigned cou
     fired = number + 1;
     while (trigger_first < trigger_count && triggers[trigger_first].is_used) trigger_first++;
     unsigned i = trigger_first;
-    while (i < trigger_count && (triggers[i].is_used || !triggers[i].is_let || !says_this(&triggers[i], id, lead, count, laterals))) {
-        if (life.clients == 1 && triggers_are_exact() && triggers[i].is_let && !triggers[i].is_used) wrong("a trigger was passed over", i, number);
+    int is_exact = triggers_are_exact(); /* else some went by unseen, for want of places for claims, and took nothing out of a bucket */
+    while (i < trigger_count && (triggers[i].is_used || (is_exact && !triggers[i].is_let) || !says_this(&triggers[i], id, lead, count, laterals))) {
+        if (life.clients == 1 && is_exact && triggers[i].is_let && !triggers[i].is_used) wrong("a trigger was passed over", i, number);
         i++;
     }
     must("what fired is a trigger that was done", i < trigger_count);
