@@ -1,7 +1,8 @@
 /* Random lives of a node against a plain model: what its clients wrote, what was lost of it, what the node was asked, and what it said.
  *
  *     lives FIRST COUNT          lives of the seeds from FIRST on, of 5,000 calls each; --loud as a third word prints each, and
- *                                --strict looks at standings also where pages were taken before their notes
+ *                                --strict looks at whole, and at the pages that are counted, also where
+ *                                pages were taken before their notes
  *     lives long SEED            a life of a million calls without an acknowledgement
  *
  * One thread makes all calls, the node's between the clients'. In each life:
@@ -28,7 +29,7 @@
  * What it does not tell: which pages are evicted or abandoned (their number alone); the order among groups in which pages are reported, and the
  * share of each trigger id; buckets where several clients fire; standings of a node that dropped a note, found no memory for one, or has no room for each trace,
  * and the horizon there. A page is taken before its segment is heard where more than 64 notes of its client came between two passes, or more than
- * the backlog has places: what is said then is looked at under --strict alone. Crumbs that the index or a forgotten group took with it, and
+ * the backlog has places: what is said then is looked at under --strict alone, and in part. Crumbs that the index or a forgotten group took with it, and
  * refused ones of a trace that need not be open, are expected in no count. No life is spent, none reaches the end of numbers, and no core is renewed but in
  * the long life, whose pages are not read. Two threads at once are not tried. */
 #include "hindcore.h"
@@ -246,7 +247,8 @@ static int drops_notes(void) {
     return 0;
 }
 
-static int notes_are_exact(void) { return !has_refused && !is_blind && !is_behind && life.remember >= MOST_TRACES && !drops_notes(); }
+static int misses_nothing(void) { return !has_refused && !is_blind && life.remember >= MOST_TRACES && !drops_notes(); }
+static int notes_are_exact(void) { return misses_nothing() && !is_behind; }
 
 /* Each trace finds a place (docs/RULES.md, "How whole a node's part is"), so that no note is missed though traces are forgotten. */
 static int horizon_is_exact(void) {
@@ -473,7 +475,7 @@ static void learn_standing(const uint8_t *m, size_t len) {
     g->has_said[at] = 1;
     uint64_t out = number_at(m + 55, 8);
     must("no more pages are counted than were handed out", is_blind || out <= of[t].reported);
-    if (notes_are_exact()) must_be("pages that a standing counts", of[t].reported, out);
+    if (misses_nothing() && (is_strict || !is_behind)) must_be("pages that a standing counts", of[t].reported, out);
     int is_open = number_at(m + 43, 4) != 0;
     must_be("open is said where a segment is open", is_open, said[0] == 4);
     uint64_t lost = 0;
@@ -481,7 +483,7 @@ static void learn_standing(const uint8_t *m, size_t len) {
     if (said[0] == SAYS_WHOLE) {
         must_be("losses of what is whole", 0, lost);
         total_whole++;
-        if (!number_at(m + 47, 8) && !is_blind && !is_behind && !drops_notes() && !has_refused) check_whole(t);
+        if (!number_at(m + 47, 8) && !is_blind && (is_strict || !is_behind) && !drops_notes() && !has_refused) check_whole(t);
         if (is_fresh() && (notes_are_exact() || horizon_is_exact())) check_whole_since(t, number_at(m + 47, 8));
     }
     if (is_fresh() && notes_are_exact()) check_standing(t, said);
@@ -617,7 +619,7 @@ static uint64_t do_flush(client *c);
 static void catch_up(void) {
     for (unsigned c = 0; c < life.clients; c++) {
         if (life.flushes) do_flush(&clients[c]);
-        if (!is_strict && (notes_since_pass[c] > MOST_HEARD || notes_since_pass[c] > life.backlog)) is_behind = 1;
+        if (notes_since_pass[c] > MOST_HEARD || notes_since_pass[c] > life.backlog) is_behind = 1;
         notes_since_pass[c] = 0;
         while (clients[c].heard_count < clients[c].made_count) segments[clients[c].made[clients[c].heard_count++]].heard = ++heard;
     }
