@@ -129,7 +129,8 @@ typedef struct {
  * says where), UNFIT (the settings have no such node). All memory of its life that has a fixed size is taken here. A node takes one call at a
  * time; its clients may be in use by other threads meanwhile. */
 uint32_t hindcore_node_open(const uint8_t *text, size_t len, uint16_t number, uint64_t epoch, hindcore_node *node, hindcore_fault *fault);
-/* Hands the next client out: DONE, VACANT (the node is), BUSY (the client's handle is in use), NOTHING (all were handed out). */
+/* Hands the next client out, that of the highest number first: DONE, VACANT (the node is), BUSY (the client's handle is in use), NOTHING (all were
+ * handed out). */
 uint32_t hindcore_node_client(hindcore_node *node, hindcore_client *client);
 /* Says who the node is: DONE, FULL (no place), UNFIT (the name has more than 64 bytes), SPENT (the numbers of its epoch have ended). */
 uint32_t hindcore_node_hello(hindcore_node *node, const hindcore_digest *digest, const uint8_t *name, size_t len);
