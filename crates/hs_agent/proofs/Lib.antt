@@ -15,6 +15,7 @@ pub mod Evictions
 pub mod Relieving
 pub mod Started
 pub mod Settling
+pub mod Needed
 pub mod Claimed
 pub mod Growing
 pub mod Arrived

@@ -127,6 +127,10 @@ a_chunk_touches = refl
 chunks_stand_in_order : chunks_after 9 9 (chunk 1 2 ∷ chunk 2 1 ∷ chunk 1 0 ∷ []) 1 ≡ b 1 0 ∷ b 1 2 ∷ []
 chunks_stand_in_order = refl
 
+-- as many are counted; of a trace with a crumb alone none, and none of a trace that is not there
+chunks_are_counted : map (λ trace. length (chunks_after 9 9 (chunk 1 2 ∷ chunk 2 1 ∷ chunk 1 0 ∷ crumb 4 5 ∷ []) trace)) (1 ∷ 2 ∷ 4 ∷ 7 ∷ []) ≡ 2 ∷ 1 ∷ 0 ∷ 0 ∷ []
+chunks_are_counted = refl
+
 -- at the threshold all stay
 two_may_stay : traces_after 2 9 (chunk 2 1 ∷ chunk 1 0 ∷ []) ≡ 1 ∷ 2 ∷ []
 two_may_stay = refl

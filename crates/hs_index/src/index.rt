@@ -1,7 +1,7 @@
 //! The index.
 
 ghost use Rattle.std.specs.Prelude.{◌≡◌, ◌+◌, ◌<◌, ◌≤◌, length, map, find, None, IfOk, IfErr, OnOk, OnErr, IsOk, IsSome};
-ghost use Rattle.hs_index.specs.Index.{leaving_of, is_of, new_index, noted_of, count_chunks, chunks_left, arrived, crumbed, going, IsWithin};
+ghost use Rattle.hs_index.specs.Index.{leaving_of, is_of, new_index, noted_of, chunk_count, count_chunks, chunks_left, arrived, crumbed, going, IsWithin};
 ghost use Rattle.hs_words.specs.Buffers.{buffer_of};
 ghost use Rattle.hs_index.specs.Calls.{after_call, Arrived, Crumbed, Claimed};
 
@@ -110,6 +110,13 @@ impl<L: Token> TraceIndex<L> {
         ensures { result ≡ (noted_of trace self.now.touched).crumbs }
     {
         self.recent.crumbs(trace)
+    }
+
+    /// The number of indexed chunks of a trace. There are none where the trace is not indexed.
+    pub fn chunks_of(&self, trace: TraceId) -> usize
+        ensures { result ≡ chunk_count (noted_of trace self.now.touched) }
+    {
+        self.recent.chunks_of(trace)
     }
 
     /// The number of indexed chunks.

@@ -222,6 +222,19 @@ impl<L: Token> Recent<L> {
         }
     }
 
+    /// The number of chunks of a trace.
+    pub fn chunks_of(&self, trace: TraceId) -> usize
+        ensures { result ≡ chunk_count (noted_of trace self.now.traces) }
+    {
+        if self.cache.len() == 0 {
+            return 0;
+        }
+        match self.cache.peek(&trace) {
+            Some(entry) => entry.len(),
+            None => 0,
+        }
+    }
+
     /// The number of chunks.
     pub fn chunks(&self) -> u32
         ensures { result ≡ count_chunks self.now.traces }

@@ -74,6 +74,11 @@ fn holds(index: &TraceIndex<()>, chunks: u32, traces: u32) -> bool {
     index.chunks() == chunks && index.traces() == traces
 }
 
+/// Whether the index has so many chunks of the trace.
+fn counts(index: &TraceIndex<()>, trace: u32, chunks: usize) -> bool {
+    index.chunks_of(TraceId(u128::from(trace))) == chunks
+}
+
 /// Whether the trace has so many chunks, the first with this number, and these crumbs. Takes it out.
 fn claims(
     index: &mut TraceIndex<()>,
@@ -244,6 +249,31 @@ fn nothing_stays(alloc: Global) -> Result<bool, Memory> {
     Ok(index.finish()?.is_empty() && kept_nothing)
 }
 
+/// Gives the index two chunks of trace 1, one of trace 2 and a crumb of trace 4. Answers whether nothing goes.
+fn takes_three(index: &mut TraceIndex<()>, chunks: &mut List<Chunk>) -> bool {
+    is_none(arrive(index, chunks.pop(), 1))
+        && is_none(arrive(index, chunks.pop(), 2))
+        && is_none(arrive(index, chunks.pop(), 1))
+        && drops_crumb(index, 4, 2)
+}
+
+/// Whether traces 1 and 2 have two chunks and one, trace 4 has its crumb alone, and trace 7 is not there.
+fn counts_three(index: &TraceIndex<()>) -> bool {
+    counts(index, 1, 2) && counts(index, 2, 1) && counts(index, 4, 0) && counts(index, 7, 0)
+}
+
+/// A trace that is counted is touched by that no more than before: of three chunks that may stay, a fourth lets the one of
+/// trace 2 go. A trace that is claimed has none.
+fn each_trace_is_counted(alloc: Global) -> Result<bool, Memory> {
+    let mut chunks = Stock::make(alloc, 4, MIN_SIZE)?;
+    let mut index = TraceIndex::make(alloc, 3, 8)?;
+    let none = counts(&index, 1, 0);
+    let counted = takes_three(&mut index, &mut chunks) && counts_three(&index);
+    let gone = are_gone(arrive(&mut index, chunks.pop(), 3), 1, 2, 4, 4);
+    let claimed = claims(&mut index, 1, 2, Some(3), NodeSet(0)) && counts(&index, 1, 0);
+    Ok(none && counted && gone && claimed)
+}
+
 #[test]
 fn indexes(rt: HostRuntime) {
     row(
@@ -252,6 +282,11 @@ fn indexes(rt: HostRuntime) {
         a_crumb_alone_goes_first(rt.alloc()),
     );
     row(&rt, "nothing stays", nothing_stays(rt.alloc()));
+    row(
+        &rt,
+        "each trace is counted",
+        each_trace_is_counted(rt.alloc()),
+    );
     row(&rt, "most traces stay", most_traces_stay(rt.alloc()));
     row(
         &rt,

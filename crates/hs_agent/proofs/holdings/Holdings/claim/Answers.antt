@@ -1,6 +1,6 @@
-use Rattle.std.proofs.Common.{◌≡◌, ◌≤◌, List, ◌++◌, true, length, map, sym, ap, subst, ◌∙◌, arith}
+use Rattle.std.proofs.Common.{◌≡◌, ◌≤◌, List, [], ◌++◌, true, length, map, sym, ap, subst, ◌∙◌, arith}
 use Rattle.hs_base.specs.Rules.{is_declared}
-use Rattle.hs_agent.proofs.Prelude.{option_map, option_to_list, Left, Out, Going, going_buffer, going_left, going_of, hand_of, pin_of, sent_pin, leaving, relieved, staying_few, drops, Remembers, claim_each, Kept, Holds, Point, with_state, kept_in, abandoned_going, claimed_for}
+use Rattle.hs_agent.proofs.Prelude.{option_map, option_to_list, Left, Out, Going, going_buffer, going_left, going_of, hand_of, pin_of, sent_pin, leaving, relieved, staying_few, drops, Remembers, claim_each, traces_of, Kept, Holds, Point, with_state, kept_in, abandoned_going, claimed_for}
 use Rattle.hs_pins.specs.Opens.{restored}
 use Rattle.hs_agent.specs.Asking.{IsClaiming}
 use Rattle.hs_agent.specs.Trying.{lefts_noted}
@@ -14,16 +14,23 @@ open-requires-clause-declared g c =
     let h : Holds (kept_in {L = g.row.L.Denot} {g = g.L.Token} c.self.inside) c.requires.0 = subst (λ k. Holds k c.requires.0) (sym c.self.view_is) c.requires.1 in
     (h.memory, h.remembers, (λ i. is_declared (h.pins.rules i) c.args.ask.now.group.trigger) ∙ c.requires.2)
 
+pub open-requires-clause-few : goal.open-requires-clause-few
+open-requires-clause-few g c =
+    let h : Holds (kept_in {L = g.row.L.Denot} {g = g.L.Token} c.self.inside) c.requires.0 = subst (λ k. Holds k c.requires.0) (sym c.self.view_is) c.requires.1 in
+    let few = h.few in
+    let needs = c.chunks_needed-chunks.ensures in
+    (h.memory, h.remembers, omega (arith, few, needs))
+
 pub claim_all-requires-clause-known : goal.claim_all-requires-clause-known
 claim_all-requires-clause-known g c =
     let ask = c.args.ask.now in
     let kept : Kept g.row.L.Denot = kept_in {L = g.row.L.Denot} {g = g.L.Token} c.self.inside in
     let h : Holds kept c.requires.0 = subst (λ k. Holds k c.requires.0) (sym c.self.view_is) c.requires.1 in
     let declared = c.requires.2 in
-    let begun : IsClaiming ask kept c.open.new.self kept.index c.reserve.new.self.items c.in_ok-claiming.claiming c.requires.0 =
-    subst (λ notes. IsClaiming ask kept c.open.new.self kept.index notes c.in_ok-claiming.claiming c.requires.0) (sym c.reserve.ensures.items)
-    (asked-begun ask kept c.open.new.self c.in_ok-claiming.claiming c.requires.0 c.chunks-chunks.result h c.in_ok-claiming.ensures.back c.in_ok-claiming.ensures.group c.in_ok-claiming.ensures.laterals declared
-    c.in_ok-claiming.ensures.most (c.in_ok-claiming.ensures.ready h.memory h.remembers) c.in_ok-claiming.ensures.chunks c.chunks-chunks.ensures.value) in
+    let begun : IsClaiming ask (traces_of ask) kept c.open.new.self kept.index c.reserve.new.self.items c.in_ok-claiming.claiming c.requires.0 =
+    subst (λ notes. IsClaiming ask (traces_of ask) kept c.open.new.self kept.index notes c.in_ok-claiming.claiming c.requires.0) (sym c.reserve.ensures.items)
+    (asked-begun ask kept c.open.new.self c.in_ok-claiming.claiming c.requires.0 c.chunks_needed-chunks.result h c.in_ok-claiming.ensures.back c.in_ok-claiming.ensures.group c.in_ok-claiming.ensures.laterals declared
+    c.in_ok-claiming.ensures.most (c.in_ok-claiming.ensures.ready h.memory h.remembers) c.in_ok-claiming.ensures.chunks c.chunks_needed-chunks.ensures) in
     (kept, c.open.new.self, c.requires.0, begun)
 
 pub claim_all-requires-clause-notes : goal.claim_all-requires-clause-notes
@@ -36,13 +43,13 @@ close-gone-requires g c =
     let kept : Kept g.row.L.Denot = kept_in {L = g.row.L.Denot} {g = g.L.Token} c.self.inside in
     let h : Holds kept point = subst (λ k. Holds k point) (sym c.self.view_is) c.requires.1 in
     let declared = c.requires.2 in
-    let begun : IsClaiming ask kept c.open.new.self kept.index c.reserve.new.self.items c.in_ok-claiming.claiming point =
-    subst (λ notes. IsClaiming ask kept c.open.new.self kept.index notes c.in_ok-claiming.claiming point) (sym c.reserve.ensures.items)
-    (asked-begun ask kept c.open.new.self c.in_ok-claiming.claiming point c.chunks-chunks.result h c.in_ok-claiming.ensures.back c.in_ok-claiming.ensures.group c.in_ok-claiming.ensures.laterals declared
-    c.in_ok-claiming.ensures.most (c.in_ok-claiming.ensures.ready h.memory h.remembers) c.in_ok-claiming.ensures.chunks c.chunks-chunks.ensures.value) in
+    let begun : IsClaiming ask (traces_of ask) kept c.open.new.self kept.index c.reserve.new.self.items c.in_ok-claiming.claiming point =
+    subst (λ notes. IsClaiming ask (traces_of ask) kept c.open.new.self kept.index notes c.in_ok-claiming.claiming point) (sym c.reserve.ensures.items)
+    (asked-begun ask kept c.open.new.self c.in_ok-claiming.claiming point c.chunks_needed-chunks.result h c.in_ok-claiming.ensures.back c.in_ok-claiming.ensures.group c.in_ok-claiming.ensures.laterals declared
+    c.in_ok-claiming.ensures.most (c.in_ok-claiming.ensures.ready h.memory h.remembers) c.in_ok-claiming.ensures.chunks c.chunks_needed-chunks.ensures) in
     let next : Point g.row.L.Denot = with_state (claim_each ask point.state) point in
-    let k : IsClaiming ask kept c.open.new.self c.claim_all.new.index c.claim_all.new.notes.items c.claim_all.new.claiming next = c.claim_all.ensures.after kept c.open.new.self point begun in
-    asked-ends ask kept c.open.new.self c.claim_all.new.index c.claim_all.new.notes.items c.claim_all.new.claiming next k
+    let k : IsClaiming ask [] kept c.open.new.self c.claim_all.new.index c.claim_all.new.notes.items c.claim_all.new.claiming next = c.claim_all.ensures.after kept c.open.new.self point begun in
+    asked-ends ask [] kept c.open.new.self c.claim_all.new.index c.claim_all.new.notes.items c.claim_all.new.claiming next k
 
 pub drop_into-requires : goal.drop_into-requires
 drop_into-requires g c =
@@ -51,14 +58,14 @@ drop_into-requires g c =
     let kept : Kept g.row.L.Denot = kept_in {L = g.row.L.Denot} {g = g.L.Token} c.self.inside in
     let h : Holds kept point = subst (λ k. Holds k point) (sym c.self.view_is) c.requires.1 in
     let declared = c.requires.2 in
-    let begun : IsClaiming ask kept c.open.new.self kept.index c.reserve.new.self.items c.in_ok-claiming.claiming point =
-    subst (λ notes. IsClaiming ask kept c.open.new.self kept.index notes c.in_ok-claiming.claiming point) (sym c.reserve.ensures.items)
-    (asked-begun ask kept c.open.new.self c.in_ok-claiming.claiming point c.chunks-chunks.result h c.in_ok-claiming.ensures.back c.in_ok-claiming.ensures.group c.in_ok-claiming.ensures.laterals declared
-    c.in_ok-claiming.ensures.most (c.in_ok-claiming.ensures.ready h.memory h.remembers) c.in_ok-claiming.ensures.chunks c.chunks-chunks.ensures.value) in
+    let begun : IsClaiming ask (traces_of ask) kept c.open.new.self kept.index c.reserve.new.self.items c.in_ok-claiming.claiming point =
+    subst (λ notes. IsClaiming ask (traces_of ask) kept c.open.new.self kept.index notes c.in_ok-claiming.claiming point) (sym c.reserve.ensures.items)
+    (asked-begun ask kept c.open.new.self c.in_ok-claiming.claiming point c.chunks_needed-chunks.result h c.in_ok-claiming.ensures.back c.in_ok-claiming.ensures.group c.in_ok-claiming.ensures.laterals declared
+    c.in_ok-claiming.ensures.most (c.in_ok-claiming.ensures.ready h.memory h.remembers) c.in_ok-claiming.ensures.chunks c.chunks_needed-chunks.ensures) in
     let next : Point g.row.L.Denot = with_state (claim_each ask point.state) point in
-    let k : IsClaiming ask kept c.open.new.self c.claim_all.new.index c.claim_all.new.notes.items c.claim_all.new.claiming next = c.claim_all.ensures.after kept c.open.new.self point begun in
+    let k : IsClaiming ask [] kept c.open.new.self c.claim_all.new.index c.claim_all.new.notes.items c.claim_all.new.claiming next = c.claim_all.ensures.after kept c.open.new.self point begun in
     let few = c.close-gone.ensures.few k.holds.memory k.holds.remembers in
-    let pinned = pinned_few ask kept c.open.new.self c.claim_all.new.index c.claim_all.new.notes.items c.claim_all.new.claiming next k in
+    let pinned = pinned_few ask [] kept c.open.new.self c.claim_all.new.index c.claim_all.new.notes.items c.claim_all.new.claiming next k in
     let same = c.claim_all.ensures.ready in
     let ready = c.in_ok-claiming.ensures.ready h.memory h.remembers in
     let chunks = c.chunks.ensures h.memory h.remembers in
@@ -72,14 +79,14 @@ invariant_of-self-2 g c =
     let kept : Kept g.row.L.Denot = kept_in {L = g.row.L.Denot} {g = g.L.Token} c.self.inside in
     let h : Holds kept point = subst (λ k. Holds k point) (sym c.self.view_is) c.requires.1 in
     let declared = c.requires.2 in
-    let begun : IsClaiming ask kept c.open.new.self kept.index c.reserve.new.self.items c.in_ok-claiming.claiming point =
-    subst (λ notes. IsClaiming ask kept c.open.new.self kept.index notes c.in_ok-claiming.claiming point) (sym c.reserve.ensures.items)
-    (asked-begun ask kept c.open.new.self c.in_ok-claiming.claiming point c.chunks-chunks.result h c.in_ok-claiming.ensures.back c.in_ok-claiming.ensures.group c.in_ok-claiming.ensures.laterals declared
-    c.in_ok-claiming.ensures.most (c.in_ok-claiming.ensures.ready h.memory h.remembers) c.in_ok-claiming.ensures.chunks c.chunks-chunks.ensures.value) in
+    let begun : IsClaiming ask (traces_of ask) kept c.open.new.self kept.index c.reserve.new.self.items c.in_ok-claiming.claiming point =
+    subst (λ notes. IsClaiming ask (traces_of ask) kept c.open.new.self kept.index notes c.in_ok-claiming.claiming point) (sym c.reserve.ensures.items)
+    (asked-begun ask kept c.open.new.self c.in_ok-claiming.claiming point c.chunks_needed-chunks.result h c.in_ok-claiming.ensures.back c.in_ok-claiming.ensures.group c.in_ok-claiming.ensures.laterals declared
+    c.in_ok-claiming.ensures.most (c.in_ok-claiming.ensures.ready h.memory h.remembers) c.in_ok-claiming.ensures.chunks c.chunks_needed-chunks.ensures) in
     let next : Point g.row.L.Denot = with_state (claim_each ask point.state) point in
-    let k : IsClaiming ask kept c.open.new.self c.claim_all.new.index c.claim_all.new.notes.items c.claim_all.new.claiming next = c.claim_all.ensures.after kept c.open.new.self point begun in
+    let k : IsClaiming ask [] kept c.open.new.self c.claim_all.new.index c.claim_all.new.notes.items c.claim_all.new.claiming next = c.claim_all.ensures.after kept c.open.new.self point begun in
     let few = c.close-gone.ensures.few k.holds.memory k.holds.remembers in
-    let pinned = pinned_few ask kept c.open.new.self c.claim_all.new.index c.claim_all.new.notes.items c.claim_all.new.claiming next k in
+    let pinned = pinned_few ask [] kept c.open.new.self c.claim_all.new.index c.claim_all.new.notes.items c.claim_all.new.claiming next k in
     let same = c.claim_all.ensures.ready in
     let ready = c.in_ok-claiming.ensures.ready h.memory h.remembers in
     let chunks = c.chunks.ensures h.memory h.remembers in
@@ -104,12 +111,12 @@ returns-clause-after g c = λ point known.
     let h0 : Holds kept c.requires.0 = subst (λ k. Holds k c.requires.0) (sym c.self.view_is) c.requires.1 in
     let declared : is_declared point.settings.triggers ask.group.trigger ≡ true =
     (λ i. is_declared (sym h.pins.rules i) ask.group.trigger) ∙ declared-too kept.pins h0.memory h.memory h0.remembers h.remembers ask ((λ i. is_declared (h0.pins.rules i) ask.group.trigger) ∙ c.requires.2) in
-    let begun : IsClaiming ask kept c.open.new.self kept.index c.reserve.new.self.items c.in_ok-claiming.claiming point =
-    subst (λ notes. IsClaiming ask kept c.open.new.self kept.index notes c.in_ok-claiming.claiming point) (sym c.reserve.ensures.items)
-    (asked-begun ask kept c.open.new.self c.in_ok-claiming.claiming point c.chunks-chunks.result h c.in_ok-claiming.ensures.back c.in_ok-claiming.ensures.group c.in_ok-claiming.ensures.laterals declared
-    c.in_ok-claiming.ensures.most (c.in_ok-claiming.ensures.ready h.memory h.remembers) c.in_ok-claiming.ensures.chunks c.chunks-chunks.ensures.value) in
+    let begun : IsClaiming ask (traces_of ask) kept c.open.new.self kept.index c.reserve.new.self.items c.in_ok-claiming.claiming point =
+    subst (λ notes. IsClaiming ask (traces_of ask) kept c.open.new.self kept.index notes c.in_ok-claiming.claiming point) (sym c.reserve.ensures.items)
+    (asked-begun ask kept c.open.new.self c.in_ok-claiming.claiming point c.chunks_needed-chunks.result h c.in_ok-claiming.ensures.back c.in_ok-claiming.ensures.group c.in_ok-claiming.ensures.laterals declared
+    c.in_ok-claiming.ensures.most (c.in_ok-claiming.ensures.ready h.memory h.remembers) c.in_ok-claiming.ensures.chunks c.chunks_needed-chunks.ensures) in
     let next : Point g.row.L.Denot = with_state (claim_each ask point.state) point in
-    let k : IsClaiming ask kept c.open.new.self c.claim_all.new.index c.claim_all.new.notes.items c.claim_all.new.claiming next = c.claim_all.ensures.after kept c.open.new.self point begun in
+    let k : IsClaiming ask [] kept c.open.new.self c.claim_all.new.index c.claim_all.new.notes.items c.claim_all.new.claiming next = c.claim_all.ensures.after kept c.open.new.self point begun in
     let memory = k.holds.memory in
     let opened : Kept g.row.L.Denot = record kept { index = c.claim_all.new.index; claims = c.claim_all.new.notes.items; pins = restored c.open.new.self c.claim_all.new.claiming } in
     let goings : map abandoned_going (map pin_of c.close-gone.result.items) ≡ map abandoned_going (drops memory) = ap (map abandoned_going) (c.close-gone.ensures.gone memory k.holds.remembers) in
