@@ -67,6 +67,7 @@ begun_inside trace s live notebook tally is after half number more none =
       fires = is.fires;
       nodes = is.nodes;
       late = is.late;
+      most = is.most;
       calls = is.calls;
       enough = is.enough;
       size = is.size;

@@ -1,4 +1,7 @@
 mod Prelude
+mod Paging
+mod Behind
+mod Segments
 mod Ends
 mod Living
 mod Known

@@ -6,6 +6,7 @@ use Rattle.hs_link.specs.Contents.{sent}
 use Rattle.hs_lists.proofs.Alls.{all_push}
 use Rattle.hs_node_client.specs.Notes.{AreNumbered, AreRising, Notes}
 use Rattle.hs_node_client.specs.declared.notebook.Notebook.{Notebook}
+use Rattle.hs_node_client.specs.declared.paged.Place.{Place}
 use Rattle.hs_node_client.specs.declared.segment.Segment.{Segment}
 use Rattle.hs_node_client.specs.declared.segment.SegmentState.{SegmentState}
 
@@ -18,15 +19,15 @@ rising_push : (notes : List Segment) (last : Segment) → AreRising notes → Al
 rising_push [] last rising below = (tt, tt)
 rising_push (note ∷ notes) last rising below = (all_push (λ (other : Segment). note.number < other.number) notes last rising.0 below.0, rising_push notes last rising.1 below.1)
 
-pub numbered : (trace : TraceId) (state : SegmentState) (old : Notebook) (was_sent : Bool) (new : Notebook) → Notes trace state old was_sent new → AreNumbered old → AreNumbered new
-numbered trace state old true new n h =
-    let last : Segment = record { number = old.number; trace = trace; state = state } in
+pub numbered : (place : Place) (trace : TraceId) (state : SegmentState) (old : Notebook) (was_sent : Bool) (new : Notebook) → Notes place trace state old was_sent new → AreNumbered old → AreNumbered new
+numbered place trace state old true new n h =
+    let last : Segment = record { number = old.number; trace = trace; core = place.core; page = place.page; state = state } in
     let up : old.number ≤ new.number = omega (arith, n.number) in
     record {
       rising = subst AreRising (sym n.sends) (rising_push (sent old.link) last h.rising h.below);
       below = subst (AllByRecursion (λ (note : Segment). note.number < new.number)) (sym n.sends) (all_push (λ (note : Segment). note.number < new.number) (sent old.link) last (below_more (sent old.link) old.number new.number up h.below) (omega (arith, n.number)));
     }
-numbered trace state old false new n h =
+numbered place trace state old false new n h =
     let up : old.number ≤ new.number = omega (arith, n.number) in
     record {
       rising = subst AreRising (sym n.sends.0) h.rising;

@@ -1,6 +1,6 @@
 -- What contracts see of a client of a service: the client of the library, the link for crumbs of traces that need not be open, what it
 -- notes of its segments, and what it counts.
-use Rattle.std.specs.Prelude.{◌≡◌, ℕ, ◌+◌, ◌*◌, Bool, true, false, if◌then◌else◌, nat_lt, length, count_by, IfSome}
+use Rattle.std.specs.Prelude.{◌≡◌, ℕ, ◌+◌, ◌*◌, ◌^◌, ◌<◌, ◌≤◌, Bool, true, false, if◌then◌else◌, nat_lt, length, count_by, IfSome}
 use Rattle.hs_base.specs.declared.ids.TraceId.{TraceId}
 use Rattle.hs_base.specs.declared.told.Crumb.{Crumb}
 use Rattle.hs_client.specs.Core.{Core, is_null}
@@ -11,10 +11,12 @@ use Rattle.hs_live.specs.Writing.{DrawsOn}
 use Rattle.hs_ring.specs.Parts.{Leased}
 use Rattle.hs_node_client.specs.declared.counts.Tally.{Tally}
 use Rattle.hs_node_client.specs.declared.notebook.Notebook.{Notebook}
+use Rattle.hs_node_client.specs.declared.paged.Place.{Place}
 use Rattle.hs_node_client.specs.declared.segment.SegmentState.{SegmentState}
 use Rattle.hs_node_client.specs.declared.segment.SegmentState.TheVariants.{Closed}
 use Rattle.hs_node_client.specs.Counting.{opened, closed, renewed, segment_counts, with_dropped}
 use Rattle.hs_node_client.specs.Notes.{PutsOn, Notes}
+use Rattle.hs_node_client.specs.Paging.{place_behind, place_in}
 
 pub record PlainNodeClient : Type 0 where
   pub live : PlainClient
@@ -48,9 +50,9 @@ abbrev pub counted_note : Bool → Tally → Tally
 counted_note true tally = tally
 counted_note false tally = with_dropped tally
 
--- The segment is noted, and a note that is dropped is counted.
-abbrev pub NotesIt : TraceId → SegmentState → Notebook → Tally → Notebook → Tally → Type 0
-NotesIt trace state old counted new tally = (was_sent : Bool) × Notes trace state old was_sent new × (tally ≡ counted_note was_sent counted)
+-- It is noted, with the place of the client's next page. A note that is dropped is counted.
+abbrev pub NotesIt : TraceId → SegmentState → Place → Notebook → Tally → Notebook → Tally → Type 0
+NotesIt trace state place old counted new tally = (was_sent : Bool) × Notes place trace state old was_sent new × (tally ≡ counted_note was_sent counted)
 
 -- the null pages of a core
 abbrev pub nulls_of : Core Leased → ℕ
@@ -63,7 +65,12 @@ tally_at_begin old =
 
 -- The end of the open segment is noted with its counts.
 abbrev pub NotesEnd : PlainNodeClient → PlainNodeClient → Type 0
-NotesEnd old new = IfSome old.live.core.trace (λ trace. NotesIt trace (Closed (segment_counts (nulls_of new.live.core) new.live.drawer.left old.tally)) old.notebook (closed old.tally) new.notebook new.tally)
+NotesEnd old new = IfSome old.live.core.trace (λ trace. NotesIt trace (Closed (segment_counts (nulls_of new.live.core) new.live.drawer.left old.tally)) (place_in new.live.core) old.notebook (closed old.tally) new.notebook new.tally)
+
+-- What became of a crumb of a trace that need not be open is noted, if a number is left beside that for the end of a segment. Else nothing is.
+pub record NotesLate (trace : TraceId) (state : SegmentState) (old : PlainNodeClient) (counted : Tally) (new : PlainNodeClient) : Type 0 where
+  pub noted : old.notebook.number + 2 < 2 ^ 64 → NotesIt trace state (place_behind old.live.core) old.notebook counted new.notebook new.tally
+  pub spent : 2 ^ 64 ≤ old.notebook.number + 2 → (new.notebook ≡ old.notebook) × (new.tally ≡ counted)
 
 -- how many items wait in all outboxes
 abbrev pub waiting : PlainNodeClient → ℕ

@@ -1,6 +1,8 @@
 -- What a client counts: the points that were done, and what was refused, by cause. A count of a segment has 32 bits, one of a whole
 -- life 64, and each stays at its greatest number once it is there.
 use Rattle.std.specs.Prelude.{◌≡◌, ℕ, ◌+◌, ◌-◌, min, refl}
+use Rattle.hs_base.specs.NodeSets.{no_nodes, with_node}
+use Rattle.hs_base.specs.declared.ids.NodeId.{NodeId}
 use Rattle.hs_node_client.specs.declared.called.Called.{Called}
 use Rattle.hs_node_client.specs.declared.called.Called.TheVariants as called
 use Rattle.hs_node_client.specs.declared.segment.SegmentCounts.{SegmentCounts}
@@ -14,7 +16,7 @@ abbrev pub more_in_segment : ℕ → ℕ
 more_in_segment count = min (count + 1) 4294967295
 
 abbrev pub none_here : SegmentCounts
-none_here = record { points = 0; pages = 0; null_pages = 0; full_points = 0; long_points = 0; spent_points = 0; refused_crumbs = 0 }
+none_here = record { points = 0; pages = 0; null_pages = 0; full_points = 0; long_points = 0; spent_points = 0; refused_crumbs = 0; crumbs = no_nodes }
 
 abbrev pub none_past : Counts
 none_past = record { points = 0; null_pages = 0; stray_points = 0; full_points = 0; long_points = 0; spent_points = 0; refused_crumbs = 0; refused_triggers = 0; dropped_notes = 0 }
@@ -55,6 +57,10 @@ with_point called.Unknown tally = tally
 with_point called.Spent tally =
     record tally { here = record tally.here { spent_points = more_in_segment tally.here.spent_points }; past = record tally.past { spent_points = more tally.past.spent_points 1 } }
 
+-- a crumb of the open trace that led to this node
+abbrev pub with_crumb : NodeId → Tally → Tally
+with_crumb node tally = record tally { here = record tally.here { crumbs = with_node tally.here.crumbs node } }
+
 abbrev pub with_refused_crumb : Tally → Tally
 with_refused_crumb tally =
     record tally { here = record tally.here { refused_crumbs = more_in_segment tally.here.refused_crumbs }; past = record tally.past { refused_crumbs = more tally.past.refused_crumbs 1 } }
@@ -68,6 +74,16 @@ with_refused_trigger tally = record tally { past = record tally.past { refused_t
 
 abbrev pub with_dropped : Tally → Tally
 with_dropped tally = record tally { past = record tally.past { dropped_notes = more tally.past.dropped_notes 1 } }
+
+-- what a crumb of the open trace counts that was answered so
+abbrev pub with_crumb_called : NodeId → Called → Tally → Tally
+with_crumb_called node called.Done tally = with_crumb node tally
+with_crumb_called node called.NoTrace tally = tally
+with_crumb_called node called.AlreadyOpen tally = tally
+with_crumb_called node called.TooWide tally = tally
+with_crumb_called node called.Full tally = with_refused_crumb tally
+with_crumb_called node called.Unknown tally = tally
+with_crumb_called node called.Spent tally = tally
 
 -- what a call counts that is refused only where its outbox has no place
 abbrev pub if_full : Called → (Tally → Tally) → Tally → Tally
@@ -89,12 +105,16 @@ all_counts nulls tally = record tally.past { points = more tally.past.points tal
 abbrev three_points : Tally
 three_points = with_point called.Full (with_point called.Done (with_point called.Done (opened 4 90 no_counts)))
 
-counted_here : segment_counts 5 87 three_points ≡ record { points = 2; pages = 2; null_pages = 1; full_points = 1; long_points = 0; spent_points = 0; refused_crumbs = 0 }
+counted_here : segment_counts 5 87 three_points ≡ record { points = 2; pages = 2; null_pages = 1; full_points = 1; long_points = 0; spent_points = 0; refused_crumbs = 0; crumbs = no_nodes }
 counted_here = refl
 
 -- an end changes no sum
 counted_all : all_counts 5 (closed three_points) ≡ all_counts 5 three_points
 counted_all = refl
+
+-- crumbs to the nodes 0 and 2, and 2 again, are those to two nodes
+led_to_two : (with_crumb (record { 0 = 2 }) (with_crumb (record { 0 = 0 }) (with_crumb (record { 0 = 2 }) no_counts))).here.crumbs ≡ record { 0 = 5 }
+led_to_two = refl
 
 stays_at_most : more 18446744073709551615 3 ≡ 18446744073709551615
 stays_at_most = refl

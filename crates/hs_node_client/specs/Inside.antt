@@ -1,7 +1,7 @@
 -- How a client of a service lies in its fields, and what is true of these between calls.
 use Rattle.std.specs.Prelude.{◌≡◌, ◌+◌, ◌*◌, ◌^◌, ◌<◌, ◌≤◌, map, None, IsSome}
 use Rattle.hs_base.specs.Rules.{fired_by}
-use Rattle.hs_base.specs.declared.limits.TheConstants.{PIECE_COST, MAX_SIZE}
+use Rattle.hs_base.specs.declared.limits.TheConstants.{PIECE_COST, MAX_SIZE, MOST_NODES}
 use Rattle.hs_client.specs.Core.{Core}
 use Rattle.hs_ring.specs.Parts.{Leased}
 use Rattle.hs_node_client.specs.declared.client.NodeClient.TheInside.{Inside}
@@ -22,6 +22,7 @@ pub record IsNodeClient (s : Inside) : Type 0 where
   pub fires : map fired_by (rules_in s.live) ≡ s.fires.items
   pub nodes : s.live.crumbs.key.nodes ≡ s.nodes
   pub late : s.late.key.nodes ≡ s.nodes
+  pub most : s.nodes ≤ MOST_NODES
   pub calls : s.live.core.calls ≡ s.calls
   pub enough : MIN_CALLS ≤ s.calls
   pub size : s.live.core.size ≤ MAX_SIZE

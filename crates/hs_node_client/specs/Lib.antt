@@ -1,4 +1,7 @@
 pub mod Known
+pub mod Paging
+pub mod Paged
+pub mod Segments
 pub mod Counting
 pub mod Notes
 pub mod Clients

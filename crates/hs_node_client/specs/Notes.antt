@@ -10,6 +10,7 @@ use Rattle.hs_node_client.specs.declared.segment.Segment.{Segment}
 use Rattle.hs_node_client.specs.declared.segment.SegmentState.{SegmentState}
 use Rattle.hs_node_client.specs.declared.segment.SegmentState.TheVariants.{Opened}
 use Rattle.hs_node_client.specs.declared.notebook.Notebook.{Notebook}
+use Rattle.hs_node_client.specs.declared.paged.Place.{Place}
 
 -- The sender went on and was given nothing: what waited may have gone into the ring.
 pub record PutsOn {T F : Type 0} (s t : Outgoing T F) : Type 0 where
@@ -21,15 +22,15 @@ pub record Lacks {T F : Type 0} (places : ℕ) (s t : Outgoing T F) : Type 0 whe
   pub before : HasPlaces places s → ⊥
   pub after : HasPlaces places t → ⊥
 
--- what was sent of a note
-abbrev pub SendsNote : TraceId → SegmentState → Notebook → Bool → Notebook → Type 0
-SendsNote trace state old true new = sent new.link ≡ sent old.link ++ record { number = old.number; trace = trace; state = state } ∷ []
-SendsNote trace state old false new = (sent new.link ≡ sent old.link) × (HasPlaces 1 new.link → ⊥)
+-- what was sent of a note, where the client's next page comes at this place
+abbrev pub SendsNote : Place → TraceId → SegmentState → Notebook → Bool → Notebook → Type 0
+SendsNote place trace state old true new = sent new.link ≡ sent old.link ++ record { number = old.number; trace = trace; core = place.core; page = place.page; state = state } ∷ []
+SendsNote place trace state old false new = (sent new.link ≡ sent old.link) × (HasPlaces 1 new.link → ⊥)
 
 -- The note has the next number. It was sent, or it was dropped where the outbox had no place.
-pub record Notes (trace : TraceId) (state : SegmentState) (old : Notebook) (was_sent : Bool) (new : Notebook) : Type 0 where
+pub record Notes (place : Place) (trace : TraceId) (state : SegmentState) (old : Notebook) (was_sent : Bool) (new : Notebook) : Type 0 where
   pub number : new.number ≡ old.number + 1
-  pub sends : SendsNote trace state old was_sent new
+  pub sends : SendsNote place trace state old was_sent new
   pub goes : GoesOn old.link new.link
 
 -- ---- numbers
@@ -48,7 +49,7 @@ pub record AreNumbered (notebook : Notebook) : Type 0 where
 
 -- of the notes 0, 1 and 4 the numbers 2 and 3 were dropped
 abbrev note_of : TraceId → ℕ → Segment
-note_of trace number = record { number = number; trace = trace; state = Opened }
+note_of trace number = record { number = number; trace = trace; core = 0; page = 0; state = Opened }
 
 a_gap : (trace : TraceId) → AreRising (note_of trace 0 ∷ note_of trace 1 ∷ note_of trace 4 ∷ [])
 a_gap trace = ((lit≤ tt, (lit≤ tt, tt)), ((lit≤ tt, tt), (tt, tt)))

@@ -13,14 +13,15 @@ ghost use Rattle.hs_node_client.specs.Known.{rules_in};
 ghost use Rattle.hs_node_client.specs.Lives.{Lives};
 
 use crate::called::Called;
+use crate::paged::Paged;
 use crate::places::{has_chunk_places, has_crumb_place, has_trigger_place};
 use hs_base::limits::{MAX_PAYLOAD, PIECE_COST};
 use hs_base::{NodeId, Trigger, TriggerId};
-use hs_live::{Called as Live, Client};
+use hs_live::Called as Live;
 use hs_records::{piece_count, piece_limit};
 
 /// How many pieces a payload of so many bytes has. Most have one, and no division is made for these.
-fn pieces_of(client: &Client, bytes: usize) -> u32
+fn pieces_of(client: &Paged, bytes: usize) -> u32
     requires { bytes ≤ MAX_PAYLOAD }
     ensures value { result ≡ pieces_in client.now bytes }
     ensures some { 1 ≤ result }
@@ -34,7 +35,7 @@ fn pieces_of(client: &Client, bytes: usize) -> u32
 }
 
 /// Whether the core has calls, and the drawer draws, for so many pieces on new pages.
-fn has_numbers(client: &Client, pieces: u32) -> bool
+fn has_numbers(client: &Paged, pieces: u32) -> bool
     ensures has { result ≡ true → HasNumbers pieces client.now }
     ensures lacks { result ≡ false → LacksNumbers pieces client.now }
 {
@@ -43,7 +44,7 @@ fn has_numbers(client: &Client, pieces: u32) -> bool
 }
 
 /// Records a payload that the open page has no room for.
-pub(crate) fn point(client: &mut Client, moment: u64, payload: &[u8]) -> Called
+pub(crate) fn point(client: &mut Paged, moment: u64, payload: &[u8]) -> Called
     requires { NeedsPage client.old.core (length payload.now) }
     ensures answer { PointsBy client.old (length payload.now) result client.new }
     ensures does { Lives (Point moment payload.now) result client.old client.new }
@@ -75,7 +76,7 @@ pub(crate) fn point(client: &mut Client, moment: u64, payload: &[u8]) -> Called
 }
 
 /// Leaves a crumb to one of the nodes.
-pub(crate) fn crumb(client: &mut Client, node: NodeId) -> Called
+pub(crate) fn crumb(client: &mut Paged, node: NodeId) -> Called
     requires { node.0 < client.old.crumbs.key.nodes }
     ensures answer { CrumbsBy client.old node result client.new }
     ensures does { Lives (LeaveCrumb node) result client.old client.new }
@@ -97,7 +98,7 @@ pub(crate) fn crumb(client: &mut Client, node: NodeId) -> Called
 }
 
 /// Fires a trigger of a declared id.
-pub(crate) fn trigger(client: &mut Client, trigger: &Trigger) -> Called
+pub(crate) fn trigger(client: &mut Paged, trigger: &Trigger) -> Called
     requires { IsTriggerOf client.old.triggers.key trigger.now }
     ensures answer { TriggersBy client.old trigger.now result client.new }
     ensures does { Lives (Fire trigger.now) result client.old client.new }
@@ -115,7 +116,7 @@ pub(crate) fn trigger(client: &mut Client, trigger: &Trigger) -> Called
 
 /// Gives an autotrigger a value of the open trace.
 pub(crate) fn sample(
-    client: &mut Client,
+    client: &mut Paged,
     moment: u64,
     auto: u32,
     value: u64,
@@ -142,7 +143,7 @@ pub(crate) fn sample(
 }
 
 /// Closes the open trace, whose core has a call left.
-pub(crate) fn end(client: &mut Client) -> Called
+pub(crate) fn end(client: &mut Paged) -> Called
     requires { IsSome client.old.core.trace → client.old.core.counted < client.old.core.calls }
     ensures answer { EndsBy client.old result client.new }
     ensures does { Lives End result client.old client.new }

@@ -1,43 +1,46 @@
 //! The client of a service.
 
 ghost use Rattle.std.specs.Prelude.{◌≡◌, ◌+◌, ◌<◌, ◌≤◌, ◌^◌, true, false, length, map, count_by, Some, None};
+ghost use Rattle.hs_base.specs.NodeSets.{one_node};
 ghost use Rattle.hs_base.specs.Rules.{fired_by};
-ghost use Rattle.hs_base.specs.declared.limits.TheConstants.{MAX_SIZE};
+ghost use Rattle.hs_base.specs.declared.limits.TheConstants.{MAX_SIZE, MOST_NODES};
 ghost use Rattle.hs_client.specs.Core.{is_null, NeedsPage};
 ghost use Rattle.hs_live.specs.Live.{Sends};
 ghost use Rattle.hs_records.specs.Plain.{Point, Crumb as LeaveCrumb, End, Fire, Sample};
-ghost use Rattle.hs_node_client.specs.declared.called.Called.TheVariants.{Done};
+ghost use Rattle.hs_node_client.specs.declared.called.Called.TheVariants.{Done, Full, Unknown};
 ghost use Rattle.hs_node_client.specs.declared.limits.TheConstants.{MIN_CALLS};
-ghost use Rattle.hs_node_client.specs.declared.segment.SegmentState.TheVariants.{Opened};
-ghost use Rattle.hs_node_client.specs.Counting.{no_counts, all_counts, with_point, with_refused_crumb, with_refused_late, with_refused_trigger, if_full};
+ghost use Rattle.hs_node_client.specs.declared.segment.SegmentState.TheVariants.{Opened, Refused, Led};
+ghost use Rattle.hs_node_client.specs.Counting.{no_counts, all_counts, with_point, with_crumb_called, with_refused_late, with_refused_trigger, if_full};
 ghost use Rattle.hs_node_client.specs.Answers.{BeginsBy, PointsBy, CrumbsBy, LateBy, TriggersBy, SamplesBy, EndsBy, MayRenew, IsAtItsLast};
-ghost use Rattle.hs_node_client.specs.Clients.{PutsThrough, KeepsEnds, NotesIt, NotesEnd, tally_at_begin, waiting};
+ghost use Rattle.hs_node_client.specs.Clients.{PutsThrough, KeepsEnds, NotesIt, NotesEnd, NotesLate, tally_at_begin, waiting};
 ghost use Rattle.hs_node_client.specs.Known.{AreDeclared, rules_in};
 ghost use Rattle.hs_node_client.specs.Notes.{PutsOn};
+ghost use Rattle.hs_node_client.specs.Paging.{place_in};
 ghost use Rattle.hs_node_client.specs.Lives.{HasHalf, Lives, LivesByBegin, LivesOn, TurnsInto, RenewsInto};
 
 use crate::acts;
 use crate::called::Called;
 use crate::counts::{Counts, Tally};
 use crate::notebook::Notebook;
+use crate::paged::Paged;
 use crate::places::has_place;
 use crate::segment::{Segment, SegmentKey, SegmentState};
-use hs_base::{Crumb, List, NodeId, TraceId, Trigger, TriggerId};
+use hs_base::{Crumb, List, NodeId, NodeSet, TraceId, Trigger, TriggerId};
 use hs_link::Sender;
-use hs_live::{Called as Live, Client, ClientKey};
+use hs_live::{Called as Live, ClientKey};
 use std::marker::Model;
 
 /// How many trigger ids there could be: an id has eight bits.
 pub(crate) const IDS: usize = 256;
 
-/// From this number on a begin makes no note, since none would be left for the end.
+/// From this number on a begin makes no note, since none would be left for the end, nor does a crumb outside of a segment.
 const MOST_NOTES: u64 = u64::MAX - 1;
 
 /// What a thread of a service holds. Each call may be made at any time, answers at once, and takes no memory: its answer says
 /// whether it was done.
 #[derive(Drop)]
 pub struct NodeClient {
-    live: Client,
+    live: Paged,
     late: Sender<Crumb, ClientKey>,
     notebook: Notebook,
     tally: Tally,
@@ -62,7 +65,7 @@ impl Model for NodeClient {
 impl NodeClient {
     /// A client with these parts, none of which was used.
     pub(crate) fn make(
-        live: Client,
+        live: Paged,
         late: Sender<Crumb, ClientKey>,
         notes: Sender<Segment, SegmentKey>,
         declared: [bool; IDS],
@@ -73,6 +76,7 @@ impl NodeClient {
         requires declared { AreDeclared live.triggers.key.rules declared }
         requires fires { map fired_by (rules_in live) ≡ fires.items }
         requires nodes { (live.crumbs.key.nodes ≡ nodes) × (late.key.nodes ≡ nodes) }
+        requires most { nodes ≤ MOST_NODES }
         requires calls { (live.core.calls ≡ calls) × (MIN_CALLS ≤ calls) }
         requires trace { live.core.trace ≡ None }
         requires size { live.core.size ≤ MAX_SIZE }
@@ -101,7 +105,7 @@ impl NodeClient {
         ensures keeps { KeepsEnds self.old.live self.new.live }
         ensures opens { result ≡ Done → self.new.live.core.trace ≡ Some trace }
         ensures half { result ≡ Done → HasHalf self.new.live.core }
-        ensures notes { result ≡ Done → NotesIt trace Opened self.old.notebook (tally_at_begin self.old) self.new.notebook self.new.tally }
+        ensures notes { result ≡ Done → NotesIt trace Opened (place_in self.new.live.core) self.old.notebook (tally_at_begin self.old) self.new.notebook self.new.tally }
         ensures late { self.new.late ≡ self.old.late }
     {
         if self.live.trace().is_some() {
@@ -110,12 +114,13 @@ impl NodeClient {
         if self.notebook.number >= MOST_NOTES || !self.has_calls() {
             return Called::Spent;
         }
+        let place = self.live.place();
         match self.live.begin(trace) {
             Live::Done => {}
             Live::Spent | Live::AlreadyOpen | Live::NoTrace | Live::TooWide => unreachable!(),
         }
         self.tally.open(self.live.nulls(), self.live.draws_left());
-        if !self.notebook.note(trace, SegmentState::Opened) {
+        if !self.notebook.note(place, trace, SegmentState::Opened) {
             self.tally.drop_note();
         }
         Called::Done
@@ -195,37 +200,61 @@ impl NodeClient {
         ensures refused { (result ≡ Done → ⊥) → PutsThrough self.old.live self.new.live }
         ensures keeps { KeepsEnds self.old.live self.new.live }
         ensures core { self.new.live.core ≡ self.old.live.core }
-        ensures counts { self.new.tally ≡ if_full result with_refused_crumb self.old.tally }
+        ensures counts { self.new.tally ≡ with_crumb_called node result self.old.tally }
         ensures only { self.new ≡ record self.old { live = self.new.live; tally = self.new.tally } }
     {
         if node.0 >= self.nodes {
             return Called::Unknown;
         }
         let called = acts::crumb(&mut self.live, node);
-        if let Called::Full = called {
-            self.tally.refuse_crumb();
+        match called {
+            Called::Done => self.tally.leave_crumb(node),
+            Called::Full => self.tally.refuse_crumb(),
+            Called::NoTrace
+            | Called::AlreadyOpen
+            | Called::TooWide
+            | Called::Unknown
+            | Called::Spent => {}
         }
         called
     }
 
     /// Leaves a crumb of a trace that need not be open: it went on to this node. The crumb goes by a link of its own, and is none of
-    /// the operations of the client's cores.
+    /// the operations of the client's cores. It is noted where it led, or that it was refused for want of a place.
     pub fn crumb_of(&mut self, trace: TraceId, node: NodeId) -> Called
         ensures answer { LateBy self.old node result self.new }
         ensures sends { result ≡ Done → Sends (record { trace = trace; node = node }) self.old.late self.new.late }
         ensures refused { (result ≡ Done → ⊥) → PutsOn self.old.late self.new.late }
-        ensures counts { self.new.tally ≡ if_full result with_refused_late self.old.tally }
-        ensures only { self.new ≡ record self.old { late = self.new.late; tally = self.new.tally } }
+        ensures led { result ≡ Done → NotesLate trace (Led (one_node node)) self.old self.old.tally self.new }
+        ensures notes { result ≡ Full → NotesLate trace Refused self.old (with_refused_late self.old.tally) self.new }
+        ensures same { result ≡ Unknown → self.new ≡ self.old }
+        ensures only { self.new ≡ record self.old { late = self.new.late; notebook = self.new.notebook; tally = self.new.tally } }
     {
         if self.nodes <= node.0 {
             return Called::Unknown;
         }
         if !has_place(&mut self.late) {
             self.tally.refuse_late();
+            self.note_late(trace, SegmentState::Refused);
             return Called::Full;
         }
         self.late.send_within(Crumb { trace, node });
+        self.note_late(trace, SegmentState::Led(NodeSet::only(node)));
         Called::Done
+    }
+
+    /// Notes what became of a crumb of a trace that need not be open, if a number is left beside that for the end of a segment.
+    fn note_late(&mut self, trace: TraceId, state: SegmentState)
+        ensures notes { NotesLate trace state self.old self.old.tally self.new }
+        ensures only { self.new ≡ record self.old { notebook = self.new.notebook; tally = self.new.tally } }
+    {
+        if self.notebook.number >= MOST_NOTES {
+            return;
+        }
+        let place = self.live.place();
+        if !self.notebook.note(place, trace, state) {
+            self.tally.drop_note();
+        }
     }
 
     /// Fires a trigger. It needs no open trace.
@@ -285,7 +314,11 @@ impl NodeClient {
         let called = acts::end(&mut self.live);
         if let Called::Done = called {
             let counts = self.tally.close(self.live.nulls(), self.live.draws_left());
-            if !self.notebook.note(trace, SegmentState::Closed(counts)) {
+            let place = self.live.place();
+            if !self
+                .notebook
+                .note(place, trace, SegmentState::Closed(counts))
+            {
                 self.tally.drop_note();
             }
         }

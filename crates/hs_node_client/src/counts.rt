@@ -1,10 +1,12 @@
 //! What a client counts.
 
 ghost use Rattle.std.specs.Prelude.{◌≡◌, ◌<◌, ◌+◌, ◌^◌};
-ghost use Rattle.hs_node_client.specs.Counting.{more, more_in_segment, segment_counts, all_counts, no_counts, opened, closed, renewed, with_point, with_refused_crumb, with_refused_late, with_refused_trigger, with_dropped};
+ghost use Rattle.hs_base.specs.declared.limits.TheConstants.{MOST_NODES};
+ghost use Rattle.hs_node_client.specs.Counting.{more, more_in_segment, segment_counts, all_counts, no_counts, opened, closed, renewed, with_point, with_crumb, with_refused_crumb, with_refused_late, with_refused_trigger, with_dropped};
 
 use crate::called::Called;
 use crate::segment::SegmentCounts;
+use hs_base::{NodeId, NodeSet};
 
 /// What a client did since it was made and what it refused, by cause. A count stays at the greatest number of its type once it
 /// is there.
@@ -64,6 +66,7 @@ const NONE_HERE: SegmentCounts = SegmentCounts {
     long_points: 0,
     spent_points: 0,
     refused_crumbs: 0,
+    crumbs: NodeSet(0),
 };
 
 const NONE_PAST: Counts = Counts {
@@ -146,6 +149,14 @@ impl Tally {
             }
             Called::AlreadyOpen | Called::Unknown => {}
         }
+    }
+
+    /// A crumb of the open trace led to this node.
+    pub(crate) fn leave_crumb(&mut self, node: NodeId)
+        requires { node.0 < MOST_NODES }
+        ensures { self.new ≡ with_crumb node self.old }
+    {
+        self.here.crumbs = self.here.crumbs.with(node);
     }
 
     /// A crumb of the open trace was refused for want of a place.

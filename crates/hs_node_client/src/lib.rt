@@ -12,13 +12,14 @@ mod laws;
 mod limits;
 mod making;
 mod notebook;
+mod paged;
 mod places;
 mod segment;
 
 pub use called::Called;
 pub use client::NodeClient;
 pub use counts::Counts;
-pub use laws::notes_are_numbered;
+pub use laws::{notes_are_numbered, segments_name_their_pages};
 pub use limits::{ClientLimits, MAX_BACKLOG, MIN_CALLS, MakeFault};
 pub use making::{Made, make_clients};
 pub use segment::{Segment, SegmentCounts, SegmentKey, SegmentState};

@@ -10,13 +10,14 @@ ghost use Rattle.hs_node_client.specs.Making.{AreMade, AreJoined, AreLinked, Are
 use crate::checking::{check, fired_id};
 use crate::client::{IDS, NodeClient};
 use crate::limits::{ClientLimits, MakeFault};
+use crate::paged::Paged;
 use crate::segment::{Segment, SegmentKey};
 use hs_auto::Auto;
 use hs_base::limits::MOST_DRAWS;
 use hs_base::{AutoRule, ClientId, Crumb, List, Memory, Trigger, TriggerId, TriggerRule};
 use hs_client::ClientCore;
 use hs_link::{Receiver, Sender, link};
-use hs_live::{AgentPort, Client, ClientKey};
+use hs_live::{AgentPort, ClientKey};
 use hs_ring::{Drawer, Giver, Lease, RingPool};
 use hs_words::{Held, Stock};
 use std::alloc::Global;
@@ -244,7 +245,7 @@ fn join_one(
         late,
         notes,
     } = senders;
-    let live = Client::make(core, watches, drawer, chunks, crumbs, fired);
+    let live = Paged::make(core, watches, drawer, chunks, crumbs, fired);
     let declared = declared_in(triggers);
     let client = NodeClient::make(live, late, notes, declared, fires, nodes, limits.calls);
     Ok((client, receivers))

@@ -3,6 +3,7 @@
 ghost use Rattle.std.specs.Prelude.{◌≡◌, ◌+◌, ◌<◌, ◌≤◌, ◌^◌, IsTrue, length};
 ghost use Rattle.hs_node_client.specs.Notes.{Notes, PutsOn};
 
+use crate::paged::Place;
 use crate::segment::{Segment, SegmentKey, SegmentState};
 use hs_base::TraceId;
 use hs_link::Sender;
@@ -15,18 +16,19 @@ pub(crate) struct Notebook {
 }
 
 impl Notebook {
-    /// Notes that a segment of a trace begins or ends. The answer is whether the note was sent. Where the outbox has no place it is
-    /// dropped, and its number with it.
+    /// Notes what becomes of a trace, where the client's next page comes at this place. The answer is whether the note was sent. Where the outbox has no place it is dropped, and its number with it.
     #[inline(always)]
-    pub(crate) fn note(&mut self, trace: TraceId, state: SegmentState) -> bool
+    pub(crate) fn note(&mut self, place: Place, trace: TraceId, state: SegmentState) -> bool
         requires { self.old.number + 1 < 2 ^ 64 }
-        ensures { Notes trace state self.old result self.new }
+        ensures { Notes place trace state self.old result self.new }
     {
         let number = self.number;
         self.number += 1;
         self.link.send_or_drop(Segment {
             number,
             trace,
+            core: place.core,
+            page: place.page,
             state,
         })
     }

@@ -7,11 +7,11 @@ ghost use Rattle.hs_live.specs.Done.{DoesNothing};
 ghost use Rattle.hs_node_client.specs.Clients.{PutsThrough};
 ghost use Rattle.hs_node_client.specs.Notes.{Lacks, PutsOn};
 
+use crate::paged::Paged;
 use hs_link::{Fact, Sender};
-use hs_live::Client;
 
 /// Whether so many chunks may be sent.
-pub(crate) fn has_chunk_places(client: &mut Client, places: u32) -> bool
+pub(crate) fn has_chunk_places(client: &mut Paged, places: u32) -> bool
     ensures enough { result ≡ true → HasPlaces places client.new.chunks }
     ensures lacks { result ≡ false → Lacks places client.old.chunks client.new.chunks }
     ensures through { PutsThrough client.old client.new }
@@ -25,7 +25,7 @@ pub(crate) fn has_chunk_places(client: &mut Client, places: u32) -> bool
 
 #[cold]
 #[inline(never)]
-fn flush_for_chunks(client: &mut Client, places: u32) -> bool
+fn flush_for_chunks(client: &mut Paged, places: u32) -> bool
     ensures enough { result ≡ true → HasPlaces places client.new.chunks }
     ensures lacks { result ≡ false → Lacks places client.old.chunks client.new.chunks }
     ensures through { PutsThrough client.old client.new }
@@ -36,7 +36,7 @@ fn flush_for_chunks(client: &mut Client, places: u32) -> bool
 }
 
 /// Whether a crumb may be sent.
-pub(crate) fn has_crumb_place(client: &mut Client) -> bool
+pub(crate) fn has_crumb_place(client: &mut Paged) -> bool
     ensures enough { result ≡ true → HasPlaces 1 client.new.crumbs }
     ensures lacks { result ≡ false → Lacks 1 client.old.crumbs client.new.crumbs }
     ensures through { PutsThrough client.old client.new }
@@ -50,7 +50,7 @@ pub(crate) fn has_crumb_place(client: &mut Client) -> bool
 
 #[cold]
 #[inline(never)]
-fn flush_for_crumb(client: &mut Client) -> bool
+fn flush_for_crumb(client: &mut Paged) -> bool
     ensures enough { result ≡ true → HasPlaces 1 client.new.crumbs }
     ensures lacks { result ≡ false → Lacks 1 client.old.crumbs client.new.crumbs }
     ensures through { PutsThrough client.old client.new }
@@ -61,7 +61,7 @@ fn flush_for_crumb(client: &mut Client) -> bool
 }
 
 /// Whether a trigger may be sent.
-pub(crate) fn has_trigger_place(client: &mut Client) -> bool
+pub(crate) fn has_trigger_place(client: &mut Paged) -> bool
     ensures enough { result ≡ true → HasPlaces 1 client.new.triggers }
     ensures lacks { result ≡ false → Lacks 1 client.old.triggers client.new.triggers }
     ensures through { PutsThrough client.old client.new }
@@ -75,7 +75,7 @@ pub(crate) fn has_trigger_place(client: &mut Client) -> bool
 
 #[cold]
 #[inline(never)]
-fn flush_for_trigger(client: &mut Client) -> bool
+fn flush_for_trigger(client: &mut Paged) -> bool
     ensures enough { result ≡ true → HasPlaces 1 client.new.triggers }
     ensures lacks { result ≡ false → Lacks 1 client.old.triggers client.new.triggers }
     ensures through { PutsThrough client.old client.new }

@@ -1,6 +1,6 @@
 //! What a client notes of its segments. A segment is what it records between the begin and the end of a trace.
 
-use hs_base::{ClientId, TraceId};
+use hs_base::{ClientId, NodeSet, TraceId};
 use hs_link::Fact;
 
 /// What was recorded and what was refused in a segment, by cause. A count stays at the greatest number of its type once it is
@@ -21,21 +21,33 @@ pub struct SegmentCounts {
     pub spent_points: u32,
     /// Crumbs refused since the outbox had no place.
     pub refused_crumbs: u32,
+    /// The nodes to which its crumbs led, of those that were done.
+    pub crumbs: NodeSet,
 }
 
-/// Whether a segment begins or ends.
+/// Whether a segment begins or ends, or what became of a crumb outside of one.
 #[derive(Clone, Copy, Debug, PartialEq, Eq)]
 pub enum SegmentState {
     Opened,
     Closed(SegmentCounts),
+    /// A crumb of a trace that need not be open was refused, since the outbox had no place.
+    Refused,
+    /// Crumbs of a trace that need not be open led to these nodes.
+    Led(NodeSet),
 }
 
-/// A note of a client: a segment of a trace begins, or ends. The numbers of a client's notes rise by one for each note, sent or
-/// not. So a gap tells how many were dropped.
+/// A note of a client: a segment of a trace begins, or ends, or a crumb of the trace was left or refused outside of one. The numbers of a
+/// client's notes rise by one for each note, sent or not. So a gap tells how many were dropped.
 #[derive(Clone, Copy, Debug, PartialEq, Eq)]
 pub struct Segment {
     pub number: u64,
     pub trace: TraceId,
+    /// The core of the client that writes the segment's pages, by its number. The first core has the number 0, and each renewal brings the
+    /// next one. The lease of a page's buffer has the number of its core as its mark.
+    pub core: u64,
+    /// Where the segment begins, the number of the first page that it may have. Where it ends, the number behind its last page. Numbers of
+    /// pages are those of their headers. In a note of a crumb, the number behind the core's last page.
+    pub page: u32,
     pub state: SegmentState,
 }
 

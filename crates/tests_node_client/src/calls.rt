@@ -2,9 +2,12 @@
 
 use crate::made::{Ends, ID, LEAST, make_ends};
 use crate::rows::row;
-use hs_base::{Crumb, Laterals, NodeId, TraceId, Trigger, TriggerId};
+use hs_base::{Crumb, Laterals, NodeId, NodeSet, TraceId, Trigger, TriggerId};
 use hs_node_client::{Called, ClientLimits, MakeFault, NodeClient, SegmentState};
 use std::alloc::Global;
+
+/// As much as a page of 64 bytes holds.
+const FULL: [u8; 30] = [7; 30];
 
 /// More than two pieces of pages of 64 bytes.
 const THREE_PIECES: [u8; 61] = [7; 61];
@@ -41,16 +44,36 @@ fn is_done(called: Called) -> bool {
     matches!(called, Called::Done)
 }
 
-/// Whether the late crumb came, and the notes 0 and 1 of a segment with one point.
+/// Whether the late crumb came, and the notes that the segment begins, and where that crumb led. The note of the end found no place.
 fn comes(ends: &mut Ends) -> bool {
     let late = ends.late.receive();
     let opened = next_note(ends);
-    let closed = next_note(ends);
+    let led = next_led(ends);
     late == Some(Crumb {
         trace: TraceId(7),
         node: NodeId(0),
     }) && opened == Some((0, None))
-        && closed == Some((1, Some(1)))
+        && led == Some((1, TraceId(7), NodeSet(1)))
+        && ends.client.counts().dropped_notes == 1
+}
+
+/// The number and the trace of the next note, and the nodes, if it is that of a crumb that led on: bit n stands for node n.
+fn next_led(ends: &mut Ends) -> Option<(u64, TraceId, NodeSet)> {
+    ends.client.flush();
+    let note = ends.segments.receive()?;
+    match note.state {
+        SegmentState::Opened | SegmentState::Closed(_) | SegmentState::Refused => None,
+        SegmentState::Led(nodes) => Some((note.number, note.trace, nodes)),
+    }
+}
+
+/// The nodes to which crumbs of a segment led, of which the next note says that it ends.
+fn next_nodes(ends: &mut Ends) -> Option<NodeSet> {
+    ends.client.flush();
+    match ends.segments.receive()?.state {
+        SegmentState::Opened | SegmentState::Refused | SegmentState::Led(_) => None,
+        SegmentState::Closed(counts) => Some(counts.crumbs),
+    }
 }
 
 /// The number of the next note, with its points if it is that of an end.
@@ -60,7 +83,27 @@ fn next_note(ends: &mut Ends) -> Option<(u64, Option<u32>)> {
     match note.state {
         SegmentState::Opened => Some((note.number, None)),
         SegmentState::Closed(counts) => Some((note.number, Some(counts.points))),
+        SegmentState::Refused | SegmentState::Led(_) => Some((note.number, None)),
     }
+}
+
+/// The number of the next note, and the trace of which a crumb was refused, if it is of one.
+fn next_refused(ends: &mut Ends) -> Option<(u64, Option<TraceId>)> {
+    ends.client.flush();
+    let note = ends.segments.receive()?;
+    match note.state {
+        SegmentState::Opened | SegmentState::Closed(_) | SegmentState::Led(_) => {
+            Some((note.number, None))
+        }
+        SegmentState::Refused => Some((note.number, Some(note.trace))),
+    }
+}
+
+/// The core and the page that the next note names.
+fn next_place(ends: &mut Ends) -> Option<(u64, u32)> {
+    ends.client.flush();
+    let note = ends.segments.receive()?;
+    Some((note.core, note.page))
 }
 
 /// What is looked at.
@@ -74,6 +117,10 @@ enum Row {
     ThirdTrigger,
     Renewals,
     Gap,
+    Pages,
+    NextCore,
+    ThirdCrumb,
+    Nodes,
 }
 
 /// Whether a row comes out as wanted with a client that did nothing.
@@ -87,6 +134,10 @@ fn comes_out(ends: &mut Ends, row: Row) -> bool {
         Row::ThirdTrigger => drops_a_trigger(&mut ends.client),
         Row::Renewals => traces(&mut ends.client, 10_000) == 0,
         Row::Gap => leaves_a_gap(ends),
+        Row::Pages => names_pages(ends),
+        Row::NextCore => names_the_next_core(ends),
+        Row::ThirdCrumb => notes_a_refused_crumb(ends),
+        Row::Nodes => names_its_nodes(ends),
     }
 }
 
@@ -172,6 +223,87 @@ fn leaves_a_gap(ends: &mut Ends) -> bool {
         && ends.client.counts().dropped_notes == 2
 }
 
+/// Whether the answers of a trace with so many points, each of which fills a page, are all `Done`.
+fn fills(client: &mut NodeClient, pages: u32) -> bool {
+    let mut done = is_done(client.begin(TraceId(1)));
+    for _ in 0..pages {
+        let pointed = client.point(5, &FULL);
+        done = done && is_done(pointed);
+    }
+    let ended = client.end();
+    done && is_done(ended)
+}
+
+/// The first segment has the pages 0 and 1, and the second begins behind them.
+fn names_pages(ends: &mut Ends) -> bool {
+    let done = fills(&mut ends.client, 2);
+    let opened = next_place(ends);
+    let closed = next_place(ends);
+    let begun = ends.client.begin(TraceId(2));
+    let behind = next_place(ends);
+    done && is_done(begun)
+        && opened == Some((0, 0))
+        && closed == Some((0, 2))
+        && behind == Some((0, 2))
+}
+
+/// A core counts 8,192 calls, and a begin renews it where fewer than half are left. The first trace takes three calls, and 2,047 more take
+/// 4,094. So the next begin brings the core 1, whose pages count from 0.
+fn names_the_next_core(ends: &mut Ends) -> bool {
+    let done = fills(&mut ends.client, 1);
+    let opened = next_place(ends);
+    let closed = next_place(ends);
+    let others = traces(&mut ends.client, 2047);
+    let third = next_place(ends);
+    let fourth = next_place(ends);
+    let begun = ends.client.begin(TraceId(9));
+    let renewed = next_place(ends);
+    done && others == 0
+        && is_done(begun)
+        && opened == Some((0, 0))
+        && closed == Some((0, 1))
+        && third == Some((0, 1))
+        && fourth == Some((0, 1))
+        && renewed == Some((1, 0))
+}
+
+/// A crumb leads to the node 1 and one to the node 0, which are the bits 1 and 0 of the set. The note of the end has it.
+fn names_its_nodes(ends: &mut Ends) -> bool {
+    let begun = ends.client.begin(TraceId(1));
+    let first = ends.client.crumb(NodeId(1));
+    let second = ends.client.crumb(NodeId(0));
+    let ended = ends.client.end();
+    let opened = next_note(ends);
+    let nodes = next_nodes(ends);
+    is_done(begun)
+        && is_done(first)
+        && is_done(second)
+        && is_done(ended)
+        && opened == Some((0, None))
+        && nodes == Some(NodeSet(3))
+}
+
+/// One crumb lies in the ring and one waits, and it is noted where each led. The third is refused, and this is noted with the next number.
+fn notes_a_refused_crumb(ends: &mut Ends) -> bool {
+    let first = ends.client.crumb_of(TraceId(7), NodeId(0));
+    let second = ends.client.crumb_of(TraceId(8), NodeId(1));
+    let led = next_led(ends);
+    let too = next_led(ends);
+    let third = ends.client.crumb_of(TraceId(9), NodeId(1));
+    let noted = next_refused(ends);
+    let begun = ends.client.begin(TraceId(1));
+    let opened = next_refused(ends);
+    is_done(first)
+        && is_done(second)
+        && third == Called::Full
+        && is_done(begun)
+        && led == Some((0, TraceId(7), NodeSet(1)))
+        && too == Some((1, TraceId(8), NodeSet(2)))
+        && noted == Some((2, Some(TraceId(9))))
+        && opened == Some((3, None))
+        && ends.client.counts().refused_crumbs == 1
+}
+
 /// A pool without a buffer is a fault.
 fn no_buffer(alloc: Global) -> Result<bool, MakeFault> {
     let limits = ClientLimits {
@@ -195,5 +327,9 @@ fn calls(rt: HostRuntime) {
     row(&rt, "third trigger", with_client(alloc, Row::ThirdTrigger));
     row(&rt, "renewals", with_client(alloc, Row::Renewals));
     row(&rt, "gap", with_client(alloc, Row::Gap));
+    row(&rt, "pages", with_client(alloc, Row::Pages));
+    row(&rt, "next core", with_client(alloc, Row::NextCore));
+    row(&rt, "third crumb", with_client(alloc, Row::ThirdCrumb));
+    row(&rt, "nodes", with_client(alloc, Row::Nodes));
     row(&rt, "no buffer", no_buffer(alloc));
 }
