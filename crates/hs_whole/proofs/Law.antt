@@ -8,18 +8,23 @@ use Rattle.hs_whole.specs.declared.answers.NoteLimits.{NoteLimits}
 use Rattle.hs_whole.specs.declared.kept.Kept.{Kept}
 use Rattle.hs_whole.specs.Tracks.{no_notes, is_open}
 use Rattle.hs_whole.specs.Kept.{wholeness}
-use Rattle.hs_whole.specs.Notes.{AreOut, no_notes_in, kept_of, open_segments, wholeness_of}
-use Rattle.hs_whole.specs.History.{Deed, Opens, Closes, Loses, HandsOut, Misses, Drops, IsOfClient, AreOfClients, HavePlaces, notes_after, opens, segments, hands_out, handed_out_of, IsWholeSince}
+use Rattle.hs_whole.specs.Notes.{AreOut, no_notes_in, kept_of, open_segments, wholeness_of, crumbs_of}
+use Rattle.hs_whole.specs.History.{Deed, Opens, Closes, Refuses, Leads, Loses, HandsOut, Misses, Drops, IsOfClient, AreOfClients, HavePlaces, notes_after, opens, segments, hands_out, handed_out_of, AreLed, IsWholeSince}
+use Rattle.hs_base.specs.declared.node_set.NodeSet.{NodeSet}
+use Rattle.hs_base.specs.NodeSets.{no_nodes}
 use Rattle.hs_whole.proofs.Standings.{most, IsKept, Stands, all_announced}
+use Rattle.hs_whole.proofs.Ends.{end_behind}
 use Rattle.hs_whole.proofs.Steps.{IsLike, none_open_at, any_deed, like_after}
 
 -- ---- counts of deeds
 
 opens_one : (deed : Deed) → opens deed ≤ 1
-opens_one (Opens client number trace) = omega arith
-opens_one (Closes client number trace report) = omega arith
+opens_one (Opens client number trace first) = omega arith
+opens_one (Closes client number trace end report) = omega arith
+opens_one (Refuses client number trace) = omega arith
+opens_one (Leads client number trace nodes) = omega arith
 opens_one (Loses trace loss count) = omega arith
-opens_one (HandsOut trace) = omega arith
+opens_one (HandsOut client page trace) = omega arith
 opens_one Misses = omega arith
 opens_one (Drops trace) = omega arith
 
@@ -32,10 +37,12 @@ if_one true = omega arith
 if_one false = omega arith
 
 hands_one : (trace : TraceId) (deed : Deed) → hands_out trace deed ≤ 1
-hands_one trace (Opens client number other) = omega arith
-hands_one trace (Closes client number other report) = omega arith
+hands_one trace (Opens client number other first) = omega arith
+hands_one trace (Closes client number other end report) = omega arith
+hands_one trace (Refuses client number other) = omega arith
+hands_one trace (Leads client number other nodes) = omega arith
 hands_one trace (Loses other loss count) = omega arith
-hands_one trace (HandsOut other) = if_one _
+hands_one trace (HandsOut client page other) = if_one _
 hands_one trace Misses = omega arith
 hands_one trace (Drops other) = omega arith
 
@@ -97,19 +104,21 @@ record SaysWhole (count : ℕ) (k : Kept) : Type 0 where
   none_open : nat_lt 0 count ≡ false
   not_lost : k.is_lost ≡ false
   not_missed : k.is_missed ≡ false
+  heard : k.is_heard ≡ true
   all_out : (k.sent == k.handed_out) ≡ true
 
-whole_facts : (a b c d : Bool) → (if a then Open else (if b then Lost else (if (c || not d) then Unknown else WholeSince))) ≡ WholeSince → (a ≡ false) × (b ≡ false) × (c ≡ false) × (d ≡ true)
-whole_facts true b c d is = absurd cc
-whole_facts false true c d is = absurd cc
-whole_facts false false true d is = absurd cc
-whole_facts false false false true is = (refl, refl, refl, refl)
-whole_facts false false false false is = absurd cc
+whole_facts : (a b c d e : Bool) → (if a then Open else (if b then Lost else (if (c || not d) then Unknown else (if e then WholeSince else UnheardSince)))) ≡ WholeSince → (a ≡ false) × (b ≡ false) × (c ≡ false) × (d ≡ true) × (e ≡ true)
+whole_facts true b c d e is = absurd cc
+whole_facts false true c d e is = absurd cc
+whole_facts false false true d e is = absurd cc
+whole_facts false false false true true is = (refl, refl, refl, refl, refl)
+whole_facts false false false true false is = absurd cc
+whole_facts false false false false e is = absurd cc
 
 says_whole : (count : ℕ) (k : Kept) → wholeness count k ≡ WholeSince → SaysWhole count k
 says_whole count k is =
-    let facts = whole_facts (nat_lt 0 count) k.is_lost k.is_missed (k.sent == k.handed_out) is in
-    record { none_open = facts.0; not_lost = facts.1; not_missed = facts.2; all_out = facts.3 }
+    let facts = whole_facts (nat_lt 0 count) k.is_lost k.is_missed (k.sent == k.handed_out) k.is_heard is in
+    record { none_open = facts.0; not_lost = facts.1; not_missed = facts.2; all_out = facts.3; heard = facts.4 }
 
 none_below : (n : ℕ) → nat_lt 0 n ≡ false → n ≡ 0
 none_below n off = grind (arith, off)
@@ -122,11 +131,13 @@ heard_all limits trace deeds k bound like stands says = record {
   parts = stands.parts;
   horizon_holds = stands.before;
   over = stands.over;
-  heard = stands.heard says.not_missed;
+  heard = stands.heard says.not_missed says.heard;
   in_order = stands.in_order says.not_missed;
   closed = λ client low.
       ap (is_open trace) (sym (like.tracks client))
       ∙ none_open_at trace (notes_after limits deeds).tracks client (none_below (open_segments (notes_after limits deeds) trace) says.none_open);
+  heard_of = stands.heard_of says.not_missed;
+  before_ends = end_behind trace stands.later stands.earlier stands.over.closed (stands.in_order says.not_missed) (stands.heard_of says.not_missed);
   handed_out = (
       let few = handed_few trace stands.later in
       let part = part_few stands.later stands.earlier in
@@ -150,3 +161,18 @@ said_whole limits trace deeds in_range of places bound =
         → option_map_or (wholeness (open_segments (notes_after limits deeds) trace)) o UnheardSince ≡ WholeSince → IsWholeSince (notes_after limits deeds).horizon limits.clients trace deeds
     at None like stands is = let never : UnheardSince ≡ WholeSince = is in absurd cc
     at (Some k) like stands is = heard_all limits trace deeds k bound like stands (says_whole (open_segments (notes_after limits deeds) trace) k is)
+
+-- and each node to which a crumb led in that part is kept
+pub said_led : (limits : NoteLimits) (trace : TraceId) (deeds : List Deed) → (AreOut limits → ⊥) → AreOfClients limits.clients deeds → HavePlaces limits deeds → length deeds < 2 ^ 63
+    → wholeness_of (notes_after limits deeds) trace ≡ WholeSince
+    → (whole : IsWholeSince (notes_after limits deeds).horizon limits.clients trace deeds) × AreLed (crumbs_of (notes_after limits deeds) trace) trace whole.later
+unfolding heard_all
+said_led limits trace deeds in_range of places bound =
+    let all = all_hold limits trace in_range deeds of places bound in
+    at (kept_of (notes_after limits deeds) trace) all.like all.stands
+  where
+    at : (o : Option Kept) → IsLike limits deeds (notes_after limits deeds) → Stands false false trace deeds (notes_after limits deeds).horizon o
+        → option_map_or (wholeness (open_segments (notes_after limits deeds) trace)) o UnheardSince ≡ WholeSince
+        → (whole : IsWholeSince (notes_after limits deeds).horizon limits.clients trace deeds) × AreLed (option_map_or (λ (kept : Kept). kept.crumbs) o no_nodes) trace whole.later
+    at None like stands is = let never : UnheardSince ≡ WholeSince = is in absurd cc
+    at (Some k) like stands is = (heard_all limits trace deeds k bound like stands (says_whole (open_segments (notes_after limits deeds) trace) k is), stands.led)

@@ -1,15 +1,17 @@
 -- What a node keeps of one trace, against what it heard: a later part of the deeds is counted in what is kept, and no segment before
 -- that part is behind the horizon.
-use Rattle.std.proofs.Common.{◌≡◌, ℕ, ◌+◌, ◌-◌, ◌<◌, ◌≤◌, ◌^◌, min, max, Bool, true, false, ◌||◌, ◌&&◌, List, [], ◌∷◌, ◌++◌, Option, Some, None, option_map, refl, sym, ap, subst, arith, ◌∙◌}
+use Rattle.std.proofs.Common.{◌≡◌, ◌⊎◌, inl, inr, ℕ, ◌+◌, ◌-◌, ◌<◌, ◌≤◌, ◌^◌, min, max, Bool, true, false, ◌||◌, ◌&&◌, List, [], ◌∷◌, ◌++◌, Option, Some, None, option_map, refl, sym, ap, subst, arith, ◌∙◌}
 use Rattle.std.specs.Prelude.{if◌then◌else◌, nat_lt, nat_le}
 use Rattle.hs_lists.proofs.Bools.{first_true, second_true}
 use Rattle.hs_base.specs.declared.ids.TraceId.{TraceId}
 use Rattle.hs_whole.specs.declared.kept.Kept.{Kept}
 use Rattle.hs_whole.specs.Kept.{fresh, misses, is_settled}
-use Rattle.hs_whole.specs.History.{Deed, Opens, Closes, Loses, HandsOut, Misses, Drops, opens, opens_of, segments, latest_of, has_segment, sends, sent_of, announces, announced_of, hands_out, handed_out_of, lets_go, let_go_of, track_after, loses_some, is_lost_in, IsInOrder, AreInOrder, IsOver}
+use Rattle.hs_whole.specs.History.{Deed, Opens, Closes, Refuses, Leads, Loses, HandsOut, Misses, Drops, opens, opens_of, segments, latest_of, has_segment, sends, sent_of, announces, announced_of, hands_out, handed_out_of, lets_go, let_go_of, track_after, leads_to, has_led_to, AreLed, loses_some, is_lost_in, IsInOrder, AreInOrder, IsHeardOf, AreHeardOf, IsOver}
 use Rattle.hs_whole.specs.Tracks.{is_open, ends_next}
+use Rattle.hs_base.specs.NodeSets.{has_node}
 use Rattle.hs_base.specs.Ids.{same_trace}
 use Rattle.hs_whole.specs.declared.answers.SegmentReport.{SegmentReport}
+use Rattle.hs_whole.specs.declared.page.PageName.{PageName}
 
 abbrev pub most : ℕ
 most = 2 ^ 64 - 1
@@ -27,12 +29,14 @@ pub record IsKept (pending : Bool) (trace : TraceId) (deeds : List Deed) (horizo
   pub before : latest_of trace earlier ≤ horizon
   pub over : IsOver trace earlier
   pub latest : latest_of trace deeds ≤ max horizon k.latest
-  pub heard : k.is_missed ≡ false → (pending || has_segment trace later) ≡ true
+  pub heard : k.is_missed ≡ false → k.is_heard ≡ true → (pending || has_segment trace later) ≡ true
   pub in_order : k.is_missed ≡ false → AreInOrder trace later earlier
+  pub heard_of : k.is_missed ≡ false → AreHeardOf trace later earlier
   pub sent : k.sent ≡ min (announced_in trace later earlier) most
   pub out : k.handed_out ≡ min (handed_out_of trace later) most
   pub gone : k.losses.evicted_pages + k.losses.abandoned_pages ≤ let_go_of trace later
   pub lost : k.is_lost ≡ false → is_lost_in trace later ≡ false
+  pub led : AreLed k.crumbs trace later
 
 -- `there`: the trace is kept
 abbrev pub Stands : Bool → Bool → TraceId → List Deed → ℕ → Option Kept → Type 0
@@ -68,10 +72,12 @@ module _ (there pending : Bool) (trace : TraceId) (deeds : List Deed) where
     latest = (let low = stands.latest in omega (arith, low, up));
     heard = stands.heard;
     in_order = stands.in_order;
+    heard_of = stands.heard_of;
     sent = stands.sent;
     out = stands.out;
     gone = stands.gone;
     lost = stands.lost;
+    led = stands.led;
   }
 
   -- it moves to the present count
@@ -91,10 +97,12 @@ module _ (there pending : Bool) (trace : TraceId) (deeds : List Deed) where
     latest = (let one = latest_within trace deeds in omega (arith, one));
     heard = stands.heard;
     in_order = stands.in_order;
+    heard_of = stands.heard_of;
     sent = stands.sent;
     out = stands.out;
     gone = stands.gone;
     lost = stands.lost;
+    led = stands.led;
   }
 
   -- a note may have been missed
@@ -107,30 +115,34 @@ module _ (there pending : Bool) (trace : TraceId) (deeds : List Deed) where
     before = stands.before;
     over = stands.over;
     latest = stands.latest;
-    heard = λ off. let never : true ≡ false = off in absurd cc;
+    heard = λ off on. let never : true ≡ false = off in absurd cc;
     in_order = λ off. let never : true ≡ false = off in absurd cc;
+    heard_of = λ off. let never : true ≡ false = off in absurd cc;
     sent = stands.sent;
     out = stands.out;
     gone = stands.gone;
     lost = stands.lost;
+    led = stands.led;
   }
 
 -- a trace that is not kept is kept from now on
-pub freshly : (pending is_missed : Bool) (trace : TraceId) (deeds : List Deed) (horizon heard : ℕ) → latest_of trace deeds ≤ horizon → IsOver trace deeds → (is_missed ≡ false → pending ≡ true)
+pub freshly : (pending is_missed : Bool) (trace : TraceId) (deeds : List Deed) (horizon heard : ℕ) → latest_of trace deeds ≤ horizon → IsOver trace deeds
     → IsKept pending trace deeds horizon (fresh heard is_missed)
-freshly pending is_missed trace deeds horizon heard low over pends = record {
+freshly pending is_missed trace deeds horizon heard low over = record {
   later = [];
   earlier = deeds;
   parts = refl;
   before = low;
   over = over;
   latest = omega (arith, low);
-  heard = λ off. ap (λ b. b || false) (pends off);
+  heard = λ off on. let never : false ≡ true = on in absurd cc;
   in_order = λ off. tt;
+  heard_of = λ off. tt;
   sent = refl;
   out = refl;
   gone = omega arith;
   lost = λ off. refl;
+  led = λ node on. let never : false ≡ true = on in absurd cc;
 }
 
 -- a trace that is kept has a segment that begins
@@ -143,12 +155,14 @@ kept_pending true trace deeds horizon k stands = record {
   before = stands.before;
   over = stands.over;
   latest = stands.latest;
-  heard = λ off. refl;
+  heard = λ off on. refl;
   in_order = stands.in_order;
+  heard_of = stands.heard_of;
   sent = stands.sent;
   out = stands.out;
   gone = stands.gone;
   lost = stands.lost;
+  led = stands.led;
 }
 
 -- ---- a deed
@@ -161,40 +175,54 @@ pub with_deed : (deed : Deed) (pending : Bool) (trace : TraceId) (deeds : List D
     → latest_of trace (deed ∷ deeds) ≤ max horizon k'.latest
     → (k'.is_missed ≡ false → k.is_missed ≡ false)
     → (k'.is_missed ≡ false → IsInOrder trace deed deeds)
+    → (k'.is_missed ≡ false → IsHeardOf trace deed deeds)
+    → (k'.is_heard ≡ true → (k.is_heard ≡ true) ⊎ (opens_of trace deed ≡ true))
     → (pending ≡ true → opens_of trace deed ≡ true)
     → ((n : ℕ) → k.sent ≡ min n most → k'.sent ≡ min (n + announces trace deed deeds) most)
     → ((n : ℕ) → k.handed_out ≡ min n most → k'.handed_out ≡ min (n + hands_out trace deed) most)
     → k'.losses.evicted_pages + k'.losses.abandoned_pages ≤ k.losses.evicted_pages + k.losses.abandoned_pages + lets_go trace deed
     → (k'.is_lost ≡ false → (k.is_lost ≡ false) × (loses_some trace deed ≡ false))
+    → ((node : ℕ) → has_node k.crumbs node ≡ true → has_node k'.crumbs node ≡ true)
+    → ((node : ℕ) → leads_to trace node deed ≡ true → has_node k'.crumbs node ≡ true)
     → IsKept false trace (deed ∷ deeds) horizon k'
-with_deed deed pending trace deeds horizon k k' stands latest still order begins sent out gone lost = record {
+with_deed deed pending trace deeds horizon k k' stands latest still order hearing marks begins sent out gone lost crumbs led = record {
   later = deed ∷ stands.later;
   earlier = stands.earlier;
   parts = ap (λ (ds : List Deed). deed ∷ ds) stands.parts;
   before = stands.before;
   over = stands.over;
   latest = latest;
-  heard = λ off. hears pending begins (stands.heard (still off));
+  heard = λ off on. hears pending begins (marks on) (stands.heard (still off));
   in_order = λ off. (subst (IsInOrder trace deed) stands.parts (order off), stands.in_order (still off));
+  heard_of = λ off. (subst (IsHeardOf trace deed) stands.parts (hearing off), stands.heard_of (still off));
   sent =
       subst (λ (ds : List Deed). k'.sent ≡ min (announced_in trace stands.later stands.earlier + announces trace deed ds) most) stands.parts
       (sent (announced_in trace stands.later stands.earlier) stands.sent);
   out = out (handed_out_of trace stands.later) stands.out;
   gone = (let was = stands.gone in omega (arith, was, gone));
   lost = λ off. ap (λ b. b || loses_some trace deed) (stands.lost (lost off).0) ∙ (lost off).1;
+  led = λ node on. leads (leads_to trace node deed) (has_led_to trace node stands.later) (has_node k'.crumbs node ≡ true) on (led node) (λ later. crumbs node (stands.led node later));
 }
   where
-    hears : (p : Bool) → (p ≡ true → opens_of trace deed ≡ true) → (p || has_segment trace stands.later) ≡ true → (opens_of trace deed || has_segment trace stands.later) ≡ true
-    hears true begins is = ap (λ b. b || has_segment trace stands.later) (begins refl)
-    hears false begins is = or_swaps (opens_of trace deed) (has_segment trace stands.later) is
+    hears : (p : Bool) → (p ≡ true → opens_of trace deed ≡ true) → (k.is_heard ≡ true) ⊎ (opens_of trace deed ≡ true) → (k.is_heard ≡ true → (p || has_segment trace stands.later) ≡ true)
+        → (opens_of trace deed || has_segment trace stands.later) ≡ true
+    hears true begins marks is = ap (λ b. b || has_segment trace stands.later) (begins refl)
+    hears false begins (inl was) is = or_swaps (opens_of trace deed) (has_segment trace stands.later) (is was)
+    hears false begins (inr opens) is = ap (λ b. b || has_segment trace stands.later) opens
+
+    leads : (a b : Bool) (P : Type 0) → (a || b) ≡ true → (a ≡ true → P) → (b ≡ true → P) → P
+    leads true b P on one two = one refl
+    leads false b P on one two = two on
 
 -- a deed that counts nothing for the trace
 pub record IsAside (trace : TraceId) (deed : Deed) : Type 0 where
   pub opens : opens_of trace deed ≡ false
   pub sends : (deeds : List Deed) → announces trace deed deeds ≡ 0
   pub hands_out : hands_out trace deed ≡ 0
+  pub heard_of : (deeds : List Deed) → IsHeardOf trace deed deeds
   pub goes : lets_go trace deed ≡ 0
   pub loses : loses_some trace deed ≡ false
+  pub leads : (node : ℕ) → leads_to trace node deed ≡ false
   pub closed : (client : ℕ) (deeds : List Deed) → is_open trace (track_after client deeds) ≡ false → is_open trace (track_after client (deed ∷ deeds)) ≡ false
 
 latest_aside : (trace : TraceId) (deed : Deed) (deeds : List Deed) → IsAside trace deed → latest_of trace (deed ∷ deeds) ≡ latest_of trace deeds
@@ -202,24 +230,28 @@ latest_aside trace deed deeds aside = ap (λ b. if b then segments deeds + opens
 
 pub aside : (trace : TraceId) (deed : Deed) (deeds : List Deed) (horizon : ℕ) (o : Option Kept) → IsAside trace deed → ((k : Kept) → o ≡ Some k → k.is_missed ≡ false → IsInOrder trace deed deeds)
     → Stands false false trace deeds horizon o → Stands false false trace (deed ∷ deeds) horizon o
-aside trace deed deeds horizon None counts order stands = (
+aside trace deed deeds horizon None beside order stands = (
   stands.0,
-  (let same = latest_aside trace deed deeds counts in let low = stands.1 in omega (arith, same, low)),
+  (let same = latest_aside trace deed deeds beside in let low = stands.1 in omega (arith, same, low)),
   record {
-    settled = (let was = stands.2.settled in let none = counts.sends deeds in let out = counts.hands_out in let gone = counts.goes in omega (arith, was, none, out, gone));
-    closed = λ client. counts.closed client deeds (stands.2.closed client);
+    settled = (let was = stands.2.settled in let none = beside.sends deeds in let out = beside.hands_out in let gone = beside.goes in omega (arith, was, none, out, gone));
+    closed = λ client. beside.closed client deeds (stands.2.closed client);
   },
 )
-aside trace deed deeds horizon (Some k) counts order stands =
+aside trace deed deeds horizon (Some k) beside order stands =
     with_deed deed false trace deeds horizon k k stands
-    (let same = latest_aside trace deed deeds counts in let low = stands.latest in omega (arith, same, low))
+    (let same = latest_aside trace deed deeds beside in let low = stands.latest in omega (arith, same, low))
     (λ off. off)
     (order k refl)
+    (λ off. beside.heard_of deeds)
+    (λ on. inl on)
     (λ never. let off : false ≡ true = never in absurd cc)
-    (λ n is. is ∙ ap (λ m. min m most) (let zero = counts.sends deeds in omega (arith, zero)))
-    (λ n is. is ∙ ap (λ m. min m most) (let zero = counts.hands_out in omega (arith, zero)))
-    (let none = counts.goes in omega (arith, none))
-    (λ off. (off, counts.loses))
+    (λ n is. is ∙ ap (λ m. min m most) (let zero = beside.sends deeds in omega (arith, zero)))
+    (λ n is. is ∙ ap (λ m. min m most) (let zero = beside.hands_out in omega (arith, zero)))
+    (let none = beside.goes in omega (arith, none))
+    (λ off. (off, beside.loses))
+    (λ node on. on)
+    (λ node on. let never : true ≡ false = sym on ∙ beside.leads node in absurd cc)
 
 -- ---- a trace of which nothing is to come
 
@@ -273,17 +305,19 @@ all_announced trace (deed ∷ later) earlier order =
     or_right true b on = refl
     or_right false b on = on
 
-    ended : (client number : ℕ) (other : TraceId) (report : SegmentReport) (b : Bool) → same_trace trace other ≡ b
-        → ((is_open trace (track_after client (later ++ earlier)) || same_trace trace other) ≡ true → ends_next (track_after client (later ++ earlier)) number other ≡ true)
-        → (if b && ends_next (track_after client (later ++ earlier)) number other then report.pages else 0) ≡ (if b then report.pages else 0)
-    ended client number other report true same order =
+    ended : (client number : ℕ) (other : TraceId) (end : PageName) (report : SegmentReport) (b : Bool) → same_trace trace other ≡ b
+        → ((is_open trace (track_after client (later ++ earlier)) || same_trace trace other) ≡ true → ends_next (track_after client (later ++ earlier)) number other end ≡ true)
+        → (if b && ends_next (track_after client (later ++ earlier)) number other end then report.pages else 0) ≡ (if b then report.pages else 0)
+    ended client number other end report true same order =
         ap (λ b. if b then report.pages else 0) (order (or_right (is_open trace (track_after client (later ++ earlier))) (same_trace trace other) same))
-    ended client number other report false same order = refl
+    ended client number other end report false same order = refl
 
     by_deed : (d : Deed) → IsInOrder trace d (later ++ earlier) → announces trace d (later ++ earlier) ≡ sends trace d
-    by_deed (Opens client number other) order = refl
-    by_deed (Closes client number other report) order = ended client number other report (same_trace trace other) refl order
+    by_deed (Opens client number other first) order = refl
+    by_deed (Closes client number other end report) order = ended client number other end report (same_trace trace other) refl order
+    by_deed (Refuses client number other) order = refl
+    by_deed (Leads client number other nodes) order = refl
     by_deed (Loses other loss count) order = refl
-    by_deed (HandsOut other) order = refl
+    by_deed (HandsOut client page other) order = refl
     by_deed Misses order = refl
     by_deed (Drops other) order = refl

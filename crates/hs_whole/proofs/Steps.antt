@@ -1,25 +1,31 @@
 -- What each deed does to what is kept of a trace.
 use Rattle.std.proofs.Common.{◌≡◌, inl, inr, ℕ, zero, suc, ◌+◌, ◌-◌, ◌<◌, ◌≤◌, min, max, eqb-true, Bool, true, false, not, cond, ◌||◌, ◌&&◌, List, [], ◌∷◌, length, take, slice_get, unwrap_or, count_by, set, Option, Some, None, is_some, option_map, refl, sym, ap, subst, arith, ◌∙◌}
-use Rattle.std.specs.Prelude.{nat_lt, ◌==◌, if◌then◌else◌}
+use Rattle.std.specs.Prelude.{nat_lt, nat_le, ◌==◌, if◌then◌else◌}
 use Rattle.std.specs.Option.{option_map_or}
 use Rattle.std.proofs.lemmas.Option.{same_Some}
 use Rattle.lru.specs.LruCache.{last_entry}
 use Rattle.hs_lists.proofs.Bools.{by_answer, first_false, second_false, first_true, second_true}
 use Rattle.hs_lists.proofs.Places.{unwrap_set, unwrap_other}
 use Rattle.hs_base.specs.declared.ids.TraceId.{TraceId}
+use Rattle.hs_base.specs.declared.node_set.NodeSet.{NodeSet}
+use Rattle.hs_base.specs.NodeSets.{has_node, either}
+use Rattle.hs_base.specs.NodeSetLaws.{has-either}
 use Rattle.hs_base.specs.Ids.{same_trace}
 use Rattle.hs_whole.specs.declared.answers.NoteLimits.{NoteLimits}
 use Rattle.hs_whole.specs.declared.answers.SegmentReport.{SegmentReport}
 use Rattle.hs_whole.specs.declared.answers.Loss.{Loss}
+use Rattle.hs_whole.specs.declared.page.PageName.{PageName}
 use Rattle.hs_whole.specs.declared.track.Track.{Track}
 use Rattle.hs_whole.specs.declared.kept.Kept.{Kept}
-use Rattle.hs_whole.specs.Tracks.{no_notes, is_open, begins_next, ends_next, begun, ended}
-use Rattle.hs_whole.specs.Kept.{more, counted, is_settled, fresh, misses, begins, ends, loses, goes_out, reports_loss}
-use Rattle.hs_whole.specs.Notes.{PlainNotes, track_of, kept_of, missed_open, checked, moved_horizon, is_over, has_place, looked, searched, finds_place, remembered, remembered_as, with_kept, opened, closed, after_lost, after_handed_out}
-use Rattle.hs_whole.specs.History.{Deed, Opens, Closes, Loses, HandsOut, Misses, Drops, after, IsOfClient, segments, latest_of, hands_out, announces, lets_go, pages_in, track_after, HasPlace, IsOver}
+use Rattle.hs_whole.specs.Tracks.{no_notes, is_open, begins_next, ends_next, refuses_next, begun, ended, passed, is_heard_of, handed}
+use Rattle.hs_whole.specs.Pages.{is_before, later_page}
+use Rattle.hs_whole.specs.Kept.{more, counted, is_settled, fresh, misses, begins, ends, loses, goes_out, refuses, leads, reports_loss}
+use Rattle.hs_whole.specs.Notes.{PlainNotes, track_of, kept_of, missed_open, checked, moved_horizon, is_over, has_place, looked, searched, finds_place, remembered, remembered_as, with_kept, opened, closed, refused, led, changed, handed_in, after_lost, after_handed_out}
+use Rattle.hs_whole.specs.History.{Deed, Opens, Closes, Refuses, Leads, Loses, HandsOut, Misses, Drops, after, IsOfClient, segments, latest_of, hands_out, announces, lets_go, pages_in, track_after, HasPlace, IsOver}
 use Rattle.hs_whole.proofs.Looking.{found, same-true, same-refl, found-with_same, found-with_other, length-with, found-promoted, length-promoted, IsLast, dropped, length-take_few, there_below}
 use Rattle.hs_whole.proofs.Standings.{most, IsKept, Stands, raised, presented, doubts, freshly, kept_pending, with_deed, aside, over_now}
 use Rattle.hs_whole.proofs.Searching.{reordered_searched}
+use Rattle.hs_whole.proofs.Ends.{open_handed}
 use Rattle.hs_lists.proofs.Counts.{one_if, count_cons}
 use Rattle.hs_whole.specs.declared.answers.TheConstants.{MOST_LOOKS}
 use Rattle.hs_whole.specs.declared.answers.Loss.TheVariants.{EvictedPages, AbandonedPages, EvictedCrumbs, ForgottenCrumbs}
@@ -84,14 +90,14 @@ moved_up s = at (nat_lt (length s.traces) s.limits.traces) (last_entry s.traces)
     at false None = omega arith
     at false (Some e) = omega arith
 
-remembered_own : (s : PlainNotes) (trace : TraceId) (is_missed pending : Bool) (deeds : List Deed) → Stands false false trace deeds s.horizon (kept_of s trace) → (is_missed ≡ false → pending ≡ true)
+remembered_own : (s : PlainNotes) (trace : TraceId) (is_missed pending : Bool) (deeds : List Deed) → Stands false false trace deeds s.horizon (kept_of s trace)
     → Stands true pending trace deeds (remembered s trace is_missed).horizon (kept_of (remembered s trace is_missed) trace)
-remembered_own s trace is_missed pending deeds stands pends = at (kept_of s trace) refl stands
+remembered_own s trace is_missed pending deeds stands = at (kept_of s trace) refl stands
   where
     at : (o : Option Kept) → kept_of s trace ≡ o → Stands false false trace deeds s.horizon o → Stands true pending trace deeds (remembered_as s trace is_missed o).horizon (kept_of (remembered_as s trace is_missed o) trace)
     at None is stands =
         subst (Stands true pending trace deeds (moved_horizon s)) (sym (ap (λ b. cond b (Some (fresh s.heard is_missed)) (found trace (take (s.limits.traces - 1) s.traces))) (same-refl trace)))
-        (freshly pending is_missed trace deeds (moved_horizon s) s.heard (let up = moved_up s in let low = stands.1 in omega (arith, up, low)) stands.2 pends)
+        (freshly pending is_missed trace deeds (moved_horizon s) s.heard (let up = moved_up s in let low = stands.1 in omega (arith, up, low)) stands.2)
     at (Some k) is stands = subst (Stands true pending trace deeds s.horizon) (sym (found-promoted trace trace s.traces ∙ is)) (kept_pending pending trace deeds s.horizon k stands)
 
 moved_behind : (s : PlainNotes) (trace : TraceId) → 0 < s.limits.traces → length s.traces ≤ s.limits.traces → (last : IsLast trace s.traces (s.limits.traces - 1)) → moved_horizon s ≡ max s.horizon last.last.1.latest
@@ -208,6 +214,17 @@ un_not : (b : Bool) → not b ≡ false → b ≡ true
 un_not true off = refl
 un_not false off = absurd cc
 
+-- crumbs that led to these nodes, and to those before
+either_left : (a b : NodeSet) (node : ℕ) → has_node a node ≡ true → has_node (either a b) node ≡ true
+either_left a b node on = has-either a b node ∙ ap (λ x. x || has_node b node) on
+
+either_right : (a b : NodeSet) (node : ℕ) → has_node b node ≡ true → has_node (either a b) node ≡ true
+either_right a b node on = has-either a b node ∙ at (has_node a node)
+  where
+    at : (x : Bool) → (x || has_node b node) ≡ true
+    at true = refl
+    at false = on
+
 -- ---- what a node is like
 
 pub record IsLike (bounds : NoteLimits) (deeds : List Deed) (s : PlainNotes) : Type 0 where
@@ -218,24 +235,43 @@ pub record IsLike (bounds : NoteLimits) (deeds : List Deed) (s : PlainNotes) : T
   pub heard : s.heard ≡ segments deeds
   pub tracks : (client : ℕ) → track_of s client ≡ track_after client deeds
 
--- a client whose segment of another trace began, or whose segment ended, has none of this trace open
-began : (trace other : TraceId) (client number : ℕ) → same_trace other trace ≡ false → (at : ℕ) (deeds : List Deed) → is_open other (track_after at deeds) ≡ false → is_open other (if client == at then begun number trace else track_after at deeds) ≡ false
-began trace other client number apart at deeds none = by (client == at)
+-- a client whose segment of another trace began, or whose segment ended, has none of this trace open; nor does a note of a crumb open one
+began : (trace other : TraceId) (client number : ℕ) (first : PageName) → same_trace other trace ≡ false → (at : ℕ) (deeds : List Deed) → is_open other (track_after at deeds) ≡ false
+    → is_open other (if client == at then begun (track_after at deeds) number trace first else track_after at deeds) ≡ false
+began trace other client number first apart at deeds none = by (client == at)
   where
     turned : (b : Bool) → same_trace other trace ≡ false → same_trace trace other ≡ b → b ≡ false
     turned true off on = let same = flipped trace other on in let never : true ≡ false = sym same ∙ off in absurd cc
     turned false off on = refl
 
-    by : (b : Bool) → is_open other (if b then begun number trace else track_after at deeds) ≡ false
+    by : (b : Bool) → is_open other (if b then begun (track_after at deeds) number trace first else track_after at deeds) ≡ false
     by true = turned (same_trace trace other) apart refl
     by false = none
 
-ended_at : (other : TraceId) (client number at : ℕ) (deeds : List Deed) → is_open other (track_after at deeds) ≡ false → is_open other (if client == at then ended number else track_after at deeds) ≡ false
-ended_at other client number at deeds none = by (client == at)
+ended_at : (trace other : TraceId) (client number : ℕ) (end : PageName) (at : ℕ) (deeds : List Deed) → is_open other (track_after at deeds) ≡ false
+    → is_open other (if client == at then ended (track_after at deeds) number trace end else track_after at deeds) ≡ false
+ended_at trace other client number end at deeds none = by (client == at)
   where
-    by : (b : Bool) → is_open other (if b then ended number else track_after at deeds) ≡ false
+    by : (b : Bool) → is_open other (if b then ended (track_after at deeds) number trace end else track_after at deeds) ≡ false
     by true = refl
     by false = none
+
+passed_at : (other : TraceId) (client number at : ℕ) (deeds : List Deed) → is_open other (track_after at deeds) ≡ false → is_open other (if client == at then passed (track_after at deeds) number else track_after at deeds) ≡ false
+passed_at other client number at deeds none = by (client == at) (refuses_next (track_after at deeds) number)
+  where
+    by : (b n : Bool)
+        → is_open other (if b then (if n then record (track_after at deeds) { next = number + 1 } else record (track_after at deeds) { next = number + 1; current = None; from = None; reached = None }) else track_after at deeds) ≡ false
+    by true true = none
+    by true false = refl
+    by false n = none
+
+-- a page that is handed out opens and closes none
+handed_open : (trace other : TraceId) (client at : ℕ) (page : PageName) (deeds : List Deed) → is_open other (track_after at (HandsOut client page trace ∷ deeds)) ≡ is_open other (track_after at deeds)
+handed_open trace other client at page deeds = by (client == at)
+  where
+    by : (b : Bool) → is_open other (if b then handed trace page (track_after at deeds) else track_after at deeds) ≡ is_open other (track_after at deeds)
+    by true = open_handed other trace page (track_after at deeds)
+    by false = refl
 
 -- ---- a segment begins
 
@@ -243,7 +279,7 @@ module _ (limits : NoteLimits) (deeds : List Deed) (s : PlainNotes) (like : IsLi
   track_is : track_of s client ≡ track_after client deeds
   track_is = like.tracks client
 
-  module _ (trace : TraceId) where
+  module _ (trace : TraceId) (first : PageName) where
     abbrev is_next : Bool
     is_next = begins_next (track_of s client) number
 
@@ -268,9 +304,9 @@ module _ (limits : NoteLimits) (deeds : List Deed) (s : PlainNotes) (like : IsLi
         (λ n. n)
 
     pub opens_own : segments deeds + 1 ≤ most → Stands false false trace deeds s.horizon (kept_of s trace)
-        → Stands false false trace (Opens client number trace ∷ deeds) (opened s client number trace).horizon (kept_of (opened s client number trace) trace)
+        → Stands false false trace (Opens client number trace first ∷ deeds) (opened s client number trace first).horizon (kept_of (opened s client number trace first) trace)
     opens_own bound stands =
-        at (kept_of ready trace) refl (checked_stands kept_one client is_next true true trace deeds heard_still (remembered_own s trace false true deeds stands (λ off. refl)))
+        at (kept_of ready trace) refl (checked_stands kept_one client is_next true true trace deeds heard_still (remembered_own s trace false true deeds stands))
       where
         count : ℕ
         count = more ready.heard 1
@@ -278,41 +314,47 @@ module _ (limits : NoteLimits) (deeds : List Deed) (s : PlainNotes) (like : IsLi
         count_is : count ≡ segments deeds + 1
         count_is = let same : ready.heard ≡ segments deeds = (alike_checked kept_one client is_next).heard ∙ heard_still in omega (arith, same, bound)
 
-        at : (o : Option Kept) → kept_of ready trace ≡ o → Stands true true trace deeds ready.horizon o → Stands false false trace (Opens client number trace ∷ deeds) ready.horizon (found trace (with_kept (begins count) trace ready.traces))
+        at : (o : Option Kept) → kept_of ready trace ≡ o → Stands true true trace deeds ready.horizon o → Stands false false trace (Opens client number trace first ∷ deeds) ready.horizon (found trace (with_kept (begins count) trace ready.traces))
         at None is stands = let never : true ≡ false = stands.0 in absurd cc
         at (Some k) is stands =
-            subst (Stands false false trace (Opens client number trace ∷ deeds) ready.horizon) (sym (found-with_same (begins count) trace ready.traces ∙ ap (option_map (begins count)) is))
-            (with_deed (Opens client number trace) true trace deeds ready.horizon k (begins count k) stands
-            (let own : latest_of trace (Opens client number trace ∷ deeds) ≡ segments deeds + 1 = ap (λ b. if b then segments deeds + 1 else latest_of trace deeds) (same-refl trace) in
+            subst (Stands false false trace (Opens client number trace first ∷ deeds) ready.horizon) (sym (found-with_same (begins count) trace ready.traces ∙ ap (option_map (begins count)) is))
+            (with_deed (Opens client number trace first) true trace deeds ready.horizon k (begins count k) stands
+            (let own : latest_of trace (Opens client number trace first ∷ deeds) ≡ segments deeds + 1 = ap (λ b. if b then segments deeds + 1 else latest_of trace deeds) (same-refl trace) in
             let same = count_is in omega (arith, own, same))
             (λ off. off)
             (opens_in_order trace k is)
+            (λ off. tt)
+            (λ on. inr (same-refl trace))
             (λ on. same-refl trace)
             (λ n is. is ∙ ap (λ m. min m most) (omega arith))
             (λ n is. is ∙ ap (λ m. min m most) (omega arith))
             (omega arith)
-            (λ off. (off, refl)))
+            (λ off. (off, refl))
+            (λ node on. on)
+            (λ node never. let off : false ≡ true = never in absurd cc))
 
     pub opens_other : (other : TraceId) → same_trace other trace ≡ false → (kept_of s trace ≡ None → has_place s ≡ true) → Stands false false other deeds s.horizon (kept_of s other)
-        → Stands false false other (Opens client number trace ∷ deeds) (opened s client number trace).horizon (kept_of (opened s client number trace) other)
+        → Stands false false other (Opens client number trace first ∷ deeds) (opened s client number trace first).horizon (kept_of (opened s client number trace first) other)
     opens_other other apart place stands =
-        subst (Stands false false other (Opens client number trace ∷ deeds) ready.horizon) (sym (found-with_other (begins (more ready.heard 1)) other trace apart ready.traces))
-        (aside other (Opens client number trace) deeds ready.horizon (kept_of ready other) (record {
+        subst (Stands false false other (Opens client number trace first ∷ deeds) ready.horizon) (sym (found-with_other (begins (more ready.heard 1)) other trace apart ready.traces))
+        (aside other (Opens client number trace first) deeds ready.horizon (kept_of ready other) (record {
           opens = apart;
           sends = λ ds. refl;
           hands_out = refl;
+          heard_of = λ ds. tt;
           goes = refl;
           loses = refl;
-          closed = λ at ds none. began trace other client number apart at ds none;
+          leads = λ node. refl;
+          closed = λ at ds none. began trace other client number first apart at ds none;
         })
         (opens_in_order other)
         (checked_stands kept_one client is_next false false other deeds heard_still (remembered_other s other trace false deeds apart like.some like.few like.tracks place stands)))
 
   -- ---- a segment ends
 
-  module _ (trace : TraceId) (report : SegmentReport) where
+  module _ (trace : TraceId) (end : PageName) (report : SegmentReport) where
     abbrev ends_now : Bool
-    ends_now = ends_next (track_of s client) number trace
+    ends_now = ends_next (track_of s client) number trace end
 
     abbrev kept_it : PlainNotes
     kept_it = remembered s trace true
@@ -326,14 +368,14 @@ module _ (limits : NoteLimits) (deeds : List Deed) (s : PlainNotes) (like : IsLi
     heard_same : kept_it.heard ≡ segments deeds
     heard_same = (alike_remembered s trace true).heard ∙ like.heard
 
-    next_after : ends_now ≡ true → ends_next (track_after client deeds) number trace ≡ true
-    next_after on = ap (λ (track : Track). ends_next track number trace) (sym track_is) ∙ on
+    next_after : ends_now ≡ true → ends_next (track_after client deeds) number trace end ≡ true
+    next_after on = ap (λ (track : Track). ends_next track number trace end) (sym track_is) ∙ on
 
     -- its pages count where its end is the next note
-    announced_own : announces trace (Closes client number trace report) deeds ≡ counted report (not ends_now)
+    announced_own : announces trace (Closes client number trace end report) deeds ≡ counted report (not ends_now)
     announced_own =
-        ap (λ b. if b && ends_next (track_after client deeds) number trace then report.pages else 0) (same-refl trace)
-        ∙ ap (λ (track : Track). if ends_next track number trace then report.pages else 0) (sym track_is)
+        ap (λ b. if b && ends_next (track_after client deeds) number trace end then report.pages else 0) (same-refl trace)
+        ∙ ap (λ (track : Track). if ends_next track number trace end then report.pages else 0) (sym track_is)
         ∙ turned_round ends_now
       where
         turned_round : (b : Bool) → (if b then report.pages else 0) ≡ (if not b then 0 else report.pages)
@@ -341,39 +383,45 @@ module _ (limits : NoteLimits) (deeds : List Deed) (s : PlainNotes) (like : IsLi
         turned_round false = refl
 
     pub closes_own : Stands false false trace deeds s.horizon (kept_of s trace)
-        → Stands false false trace (Closes client number trace report ∷ deeds) (closed s client number trace report).horizon (kept_of (closed s client number trace report) trace)
+        → Stands false false trace (Closes client number trace end report ∷ deeds) (closed s client number trace end report).horizon (kept_of (closed s client number trace end report) trace)
     closes_own stands =
         at (kept_of checked_it trace) refl
-        (checked_stands kept_it client ends_now true false trace deeds heard_same (remembered_own s trace true false deeds stands (λ off. let never : true ≡ false = off in absurd cc)))
+        (checked_stands kept_it client ends_now true false trace deeds heard_same (remembered_own s trace true false deeds stands))
       where
         at : (o : Option Kept) → kept_of checked_it trace ≡ o → Stands true false trace deeds checked_it.horizon o
-            → Stands false false trace (Closes client number trace report ∷ deeds) checked_it.horizon (found trace (with_kept (ends report (not ends_now)) trace checked_it.traces))
+            → Stands false false trace (Closes client number trace end report ∷ deeds) checked_it.horizon (found trace (with_kept (ends report (not ends_now)) trace checked_it.traces))
         at None is stands = let never : true ≡ false = stands.0 in absurd cc
         at (Some k) is stands =
-            subst (Stands false false trace (Closes client number trace report ∷ deeds) checked_it.horizon)
+            subst (Stands false false trace (Closes client number trace end report ∷ deeds) checked_it.horizon)
             (sym (found-with_same (ends report (not ends_now)) trace checked_it.traces ∙ ap (option_map (ends report (not ends_now))) is))
-            (with_deed (Closes client number trace report) false trace deeds checked_it.horizon k (ends report (not ends_now) k) stands
+            (with_deed (Closes client number trace end report) false trace deeds checked_it.horizon k (ends report (not ends_now) k) stands
             stands.latest
             (λ off. first_false k.is_missed (not ends_now) off)
             (λ off touches. next_after (un_not ends_now (second_false k.is_missed (not ends_now) off)))
+            (λ off. tt)
+            (λ on. inl on)
             (λ never. let off : false ≡ true = never in absurd cc)
             (λ n is. let own = announced_own in omega (arith, is, own))
             (λ n is. is ∙ ap (λ m. min m most) (omega arith))
             (omega arith)
-            (λ off. (first_false k.is_lost (reports_loss report) off, ap (λ b. b && reports_loss report) (same-refl trace) ∙ second_false k.is_lost (reports_loss report) off)))
+            (λ off. (first_false k.is_lost (reports_loss report) off, ap (λ b. b && reports_loss report) (same-refl trace) ∙ second_false k.is_lost (reports_loss report) off))
+            (either_left k.crumbs report.crumbs)
+            (λ node on. either_right k.crumbs report.crumbs node (second_true (same_trace trace trace) (has_node report.crumbs node) on)))
 
     pub closes_other : (other : TraceId) → same_trace other trace ≡ false → (kept_of s trace ≡ None → has_place s ≡ true) → Stands false false other deeds s.horizon (kept_of s other)
-        → Stands false false other (Closes client number trace report ∷ deeds) (closed s client number trace report).horizon (kept_of (closed s client number trace report) other)
+        → Stands false false other (Closes client number trace end report ∷ deeds) (closed s client number trace end report).horizon (kept_of (closed s client number trace end report) other)
     closes_other other apart place stands =
-        subst (Stands false false other (Closes client number trace report ∷ deeds) checked_it.horizon) (sym (found-with_other (ends report (not ends_now)) other trace apart checked_it.traces))
-        (aside other (Closes client number trace report) deeds checked_it.horizon (kept_of checked_it other)
+        subst (Stands false false other (Closes client number trace end report ∷ deeds) checked_it.horizon) (sym (found-with_other (ends report (not ends_now)) other trace apart checked_it.traces))
+        (aside other (Closes client number trace end report) deeds checked_it.horizon (kept_of checked_it other)
         (record {
           opens = refl;
-          sends = λ ds. ap (λ b. if b && ends_next (track_after client ds) number trace then report.pages else 0) apart;
+          sends = λ ds. ap (λ b. if b && ends_next (track_after client ds) number trace end then report.pages else 0) apart;
           hands_out = refl;
+          heard_of = λ ds. tt;
           goes = refl;
           loses = ap (λ b. b && reports_loss report) apart;
-          closed = λ at ds none. ended_at other client number at ds none;
+          leads = λ node. ap (λ b. b && has_node report.crumbs node) apart;
+          closed = λ at ds none. ended_at trace other client number end at ds none;
         })
         (λ k is off touches.
         let here : is_open other (track_of s client) ≡ true = ap (is_open other) track_is ∙ or_left (is_open other (track_after client deeds)) (same_trace other trace) apart touches in
@@ -384,13 +432,149 @@ module _ (limits : NoteLimits) (deeds : List Deed) (s : PlainNotes) (like : IsLi
         or_left true b off on = refl
         or_left false b off on = let never : true ≡ false = sym on ∙ off in absurd cc
 
+  -- ---- a crumb was refused
+
+  module _ (trace : TraceId) where
+    abbrev follows_on : Bool
+    follows_on = refuses_next (track_of s client) number
+
+    abbrev kept_crumb : PlainNotes
+    kept_crumb = remembered s trace true
+
+    crumb_track : track_of kept_crumb client ≡ track_of s client
+    crumb_track = ap (λ (ts : List Track). unwrap_or (slice_get ts client) no_notes) (alike_remembered s trace true).tracks
+
+    abbrev checked_crumb : PlainNotes
+    checked_crumb = checked kept_crumb client follows_on
+
+    heard_there : kept_crumb.heard ≡ segments deeds
+    heard_there = (alike_remembered s trace true).heard ∙ like.heard
+
+    -- where a segment of this trace is open it is the client's next note, unless one may have been missed
+    crumb_in_order : (other : TraceId) (k : Kept) → kept_of checked_crumb other ≡ Some k → k.is_missed ≡ false → is_open other (track_after client deeds) ≡ true → refuses_next (track_after client deeds) number ≡ true
+    crumb_in_order other k is off opened_there =
+        let here : is_open other (track_of s client) ≡ true = ap (is_open other) track_is ∙ opened_there in
+        ap (λ (track : Track). refuses_next track number) (sym track_is) ∙ is_next_there kept_crumb client other follows_on (ap (is_open other) crumb_track ∙ here) k is off
+
+    pub refuses_own : Stands false false trace deeds s.horizon (kept_of s trace)
+        → Stands false false trace (Refuses client number trace ∷ deeds) (refused s client number trace).horizon (kept_of (refused s client number trace) trace)
+    refuses_own stands =
+        at (kept_of checked_crumb trace) refl
+        (checked_stands kept_crumb client follows_on true false trace deeds heard_there (remembered_own s trace true false deeds stands))
+      where
+        at : (o : Option Kept) → kept_of checked_crumb trace ≡ o → Stands true false trace deeds checked_crumb.horizon o
+            → Stands false false trace (Refuses client number trace ∷ deeds) checked_crumb.horizon (found trace (with_kept refuses trace checked_crumb.traces))
+        at None is stands = let never : true ≡ false = stands.0 in absurd cc
+        at (Some k) is stands =
+            subst (Stands false false trace (Refuses client number trace ∷ deeds) checked_crumb.horizon)
+            (sym (found-with_same refuses trace checked_crumb.traces ∙ ap (option_map refuses) is))
+            (with_deed (Refuses client number trace) false trace deeds checked_crumb.horizon k (refuses k) stands
+            stands.latest
+            (λ off. off)
+            (crumb_in_order trace k is)
+            (λ off. tt)
+            (λ on. inl on)
+            (λ never. let off : false ≡ true = never in absurd cc)
+            (λ n is. is ∙ ap (λ m. min m most) (omega arith))
+            (λ n is. is ∙ ap (λ m. min m most) (omega arith))
+            (omega arith)
+            (λ off. let never : true ≡ false = off in absurd cc)
+            (λ node on. on)
+            (λ node never. let off : false ≡ true = never in absurd cc))
+
+    pub refuses_other : (other : TraceId) → same_trace other trace ≡ false → (kept_of s trace ≡ None → has_place s ≡ true) → Stands false false other deeds s.horizon (kept_of s other)
+        → Stands false false other (Refuses client number trace ∷ deeds) (refused s client number trace).horizon (kept_of (refused s client number trace) other)
+    refuses_other other apart place stands =
+        subst (Stands false false other (Refuses client number trace ∷ deeds) checked_crumb.horizon) (sym (found-with_other refuses other trace apart checked_crumb.traces))
+        (aside other (Refuses client number trace) deeds checked_crumb.horizon (kept_of checked_crumb other)
+        (record {
+          opens = refl;
+          sends = λ ds. refl;
+          hands_out = refl;
+          heard_of = λ ds. tt;
+          goes = refl;
+          loses = apart;
+          leads = λ node. refl;
+          closed = λ at ds none. passed_at other client number at ds none;
+        })
+        (crumb_in_order other)
+        (checked_stands kept_crumb client follows_on false false other deeds heard_there (remembered_other s other trace true deeds apart like.some like.few like.tracks place stands)))
+
+  -- ---- crumbs outside of a segment led on
+
+  module _ (trace : TraceId) (nodes : NodeSet) where
+    abbrev led_next : Bool
+    led_next = refuses_next (track_of s client) number
+
+    abbrev kept_led : PlainNotes
+    kept_led = remembered s trace false
+
+    led_track : track_of kept_led client ≡ track_of s client
+    led_track = ap (λ (ts : List Track). unwrap_or (slice_get ts client) no_notes) (alike_remembered s trace false).tracks
+
+    abbrev checked_led : PlainNotes
+    checked_led = checked kept_led client led_next
+
+    heard_led : kept_led.heard ≡ segments deeds
+    heard_led = (alike_remembered s trace false).heard ∙ like.heard
+
+    -- where a segment of this trace is open it is the client's next note, unless one may have been missed
+    led_in_order : (other : TraceId) (k : Kept) → kept_of checked_led other ≡ Some k → k.is_missed ≡ false → is_open other (track_after client deeds) ≡ true → refuses_next (track_after client deeds) number ≡ true
+    led_in_order other k is off opened_there =
+        let here : is_open other (track_of s client) ≡ true = ap (is_open other) track_is ∙ opened_there in
+        ap (λ (track : Track). refuses_next track number) (sym track_is) ∙ is_next_there kept_led client other led_next (ap (is_open other) led_track ∙ here) k is off
+
+    pub leads_own : Stands false false trace deeds s.horizon (kept_of s trace)
+        → Stands false false trace (Leads client number trace nodes ∷ deeds) (led s client number trace nodes).horizon (kept_of (led s client number trace nodes) trace)
+    leads_own stands =
+        at (kept_of checked_led trace) refl
+        (checked_stands kept_led client led_next true false trace deeds heard_led (remembered_own s trace false false deeds stands))
+      where
+        at : (o : Option Kept) → kept_of checked_led trace ≡ o → Stands true false trace deeds checked_led.horizon o
+            → Stands false false trace (Leads client number trace nodes ∷ deeds) checked_led.horizon (found trace (with_kept (leads nodes) trace checked_led.traces))
+        at None is stands = let never : true ≡ false = stands.0 in absurd cc
+        at (Some k) is stands =
+            subst (Stands false false trace (Leads client number trace nodes ∷ deeds) checked_led.horizon)
+            (sym (found-with_same (leads nodes) trace checked_led.traces ∙ ap (option_map (leads nodes)) is))
+            (with_deed (Leads client number trace nodes) false trace deeds checked_led.horizon k (leads nodes k) stands
+            stands.latest
+            (λ off. off)
+            (led_in_order trace k is)
+            (λ off. tt)
+            (λ on. inl on)
+            (λ never. let off : false ≡ true = never in absurd cc)
+            (λ n is. is ∙ ap (λ m. min m most) (omega arith))
+            (λ n is. is ∙ ap (λ m. min m most) (omega arith))
+            (omega arith)
+            (λ off. (off, refl))
+            (either_left k.crumbs nodes)
+            (λ node on. either_right k.crumbs nodes node (second_true (same_trace trace trace) (has_node nodes node) on)))
+
+    pub leads_other : (other : TraceId) → same_trace other trace ≡ false → (kept_of s trace ≡ None → has_place s ≡ true) → Stands false false other deeds s.horizon (kept_of s other)
+        → Stands false false other (Leads client number trace nodes ∷ deeds) (led s client number trace nodes).horizon (kept_of (led s client number trace nodes) other)
+    leads_other other apart place stands =
+        subst (Stands false false other (Leads client number trace nodes ∷ deeds) checked_led.horizon) (sym (found-with_other (leads nodes) other trace apart checked_led.traces))
+        (aside other (Leads client number trace nodes) deeds checked_led.horizon (kept_of checked_led other)
+        (record {
+          opens = refl;
+          sends = λ ds. refl;
+          hands_out = refl;
+          heard_of = λ ds. tt;
+          goes = refl;
+          loses = refl;
+          leads = λ node. ap (λ b. b && has_node nodes node) apart;
+          closed = λ at ds none. passed_at other client number at ds none;
+        })
+        (led_in_order other)
+        (checked_stands kept_led client led_next false false other deeds heard_led (remembered_other s other trace false deeds apart like.some like.few like.tracks place stands)))
+
 -- ---- what becomes of pages and crumbs
 
 -- where a trace is not kept, what leaves of it leaves less to come
-less_to_come : (trace : TraceId) (deed : Deed) (deeds : List Deed) → announces trace deed deeds ≡ 0 → ((client : ℕ) → track_after client (deed ∷ deeds) ≡ track_after client deeds) → IsOver trace deeds → IsOver trace (deed ∷ deeds)
+less_to_come : (trace : TraceId) (deed : Deed) (deeds : List Deed) → announces trace deed deeds ≡ 0 → ((client : ℕ) → is_open trace (track_after client (deed ∷ deeds)) ≡ is_open trace (track_after client deeds)) → IsOver trace deeds → IsOver trace (deed ∷ deeds)
 less_to_come trace deed deeds none tracks over = record {
   settled = (let was = over.settled in omega (arith, none, was));
-  closed = λ client. ap (is_open trace) (tracks client) ∙ over.closed client;
+  closed = λ client. tracks client ∙ over.closed client;
 }
 
 less_left : (trace : TraceId) (loss : Loss) (count : ℕ) (k : Kept)
@@ -417,28 +601,95 @@ loses_own s deeds trace loss count stands = subst (Stands false false trace (Los
         stands.latest
         (λ off. off)
         (λ off. tt)
+        (λ off. tt)
+        (λ on. inl on)
         (λ never. let off : false ≡ true = never in absurd cc)
         (λ n is. is ∙ ap (λ m. min m most) (omega arith))
         (λ n is. is ∙ ap (λ m. min m most) (omega arith))
         (less_left trace loss count k)
         (λ off. (first_false k.is_lost (not (count == 0)) off, ap (λ b. b && not (count == 0)) (same-refl trace) ∙ second_false k.is_lost (not (count == 0)) off))
+        (λ node on. on)
+        (λ node never. let off : false ≡ true = never in absurd cc)
 
-pub hands_own : (s : PlainNotes) (deeds : List Deed) (trace : TraceId) → Stands false false trace deeds s.horizon (kept_of s trace)
-    → Stands false false trace (HandsOut trace ∷ deeds) s.horizon (kept_of (after_handed_out s trace) trace)
-hands_own s deeds trace stands = subst (Stands false false trace (HandsOut trace ∷ deeds) s.horizon) (sym (found-with_same goes_out trace s.traces)) (at (kept_of s trace) stands)
+-- a client that is not there
+no_track : (tracks : List Track) (client : ℕ) → length tracks ≤ client → unwrap_or (slice_get tracks client) no_notes ≡ no_notes
+no_track [] zero few = refl
+no_track [] (suc client) few = refl
+no_track (track ∷ tracks) zero few = absurd (omega (arith, few))
+no_track (track ∷ tracks) (suc client) few = no_track tracks client (omega (arith, few))
+
+none_heard_of : (trace : TraceId) (page : PageName) → is_heard_of trace page no_notes ≡ false
+none_heard_of trace page = at page.core page.page
   where
-    at : (o : Option Kept) → Stands false false trace deeds s.horizon o → Stands false false trace (HandsOut trace ∷ deeds) s.horizon (option_map goes_out o)
-    at None stands = (stands.0, stands.1, less_to_come trace (HandsOut trace) deeds refl (λ client. refl) stands.2)
-    at (Some k) stands =
-        with_deed (HandsOut trace) false trace deeds s.horizon k (goes_out k) stands
-        stands.latest
-        (λ off. off)
-        (λ off. tt)
-        (λ never. let off : false ≡ true = never in absurd cc)
-        (λ n is. is ∙ ap (λ m. min m most) (omega arith))
-        (λ n is. let own : hands_out trace (HandsOut trace) ≡ 1 = ap (λ b. if b then 1 else 0) (same-refl trace) in omega (arith, is, own))
-        (omega arith)
-        (λ off. (off, refl))
+    at : (core number : ℕ) → is_heard_of trace (record { core = core; page = number }) no_notes ≡ false
+    at core number = grind arith
+
+out_of_range : (n m : ℕ) → nat_le n m ≡ true → n ≤ m
+out_of_range n m is = grind (arith, is)
+
+module _ (limits : NoteLimits) (deeds : List Deed) (s : PlainNotes) (like : IsLike limits deeds s) (client : ℕ) (page : PageName) where
+  -- whether the page is heard of, as the deeds tell
+  heard_as : (trace : TraceId) → is_heard_of trace page (track_of s client) ≡ is_heard_of trace page (track_after client deeds)
+  heard_as trace = ap (is_heard_of trace page) (like.tracks client)
+
+  none_there : (trace : TraceId) → nat_le s.limits.clients client ≡ true → is_heard_of trace page (track_of s client) ≡ false
+  none_there trace beyond =
+      let far = out_of_range s.limits.clients client beyond in
+      let clients = like.clients in
+      ap (is_heard_of trace page) (no_track s.tracks client (omega (arith, far, clients))) ∙ none_heard_of trace page
+
+  hands_as : (trace : TraceId) (h : Bool) → is_heard_of trace page (track_of s client) ≡ h → Stands false false trace deeds s.horizon (kept_of s trace)
+      → Stands false false trace (HandsOut client page trace ∷ deeds) s.horizon (found trace (with_kept (goes_out h) trace s.traces))
+  hands_as trace h hears stands = subst (Stands false false trace (HandsOut client page trace ∷ deeds) s.horizon) (sym (found-with_same (goes_out h) trace s.traces)) (at h hears (kept_of s trace) stands)
+    where
+      at : (b : Bool) → is_heard_of trace page (track_of s client) ≡ b → (o : Option Kept) → Stands false false trace deeds s.horizon o → Stands false false trace (HandsOut client page trace ∷ deeds) s.horizon (option_map (goes_out b) o)
+      at b is None stands = (stands.0, stands.1, less_to_come trace (HandsOut client page trace) deeds refl (λ other. handed_open trace trace client other page deeds) stands.2)
+      at b is (Some k) stands =
+          with_deed (HandsOut client page trace) false trace deeds s.horizon k (goes_out b k) stands
+          stands.latest
+          (λ off. first_false k.is_missed (not b) off)
+          (λ off. tt)
+          (λ off same. sym (heard_as trace) ∙ is ∙ un_not b (second_false k.is_missed (not b) off))
+          (λ on. inl on)
+          (λ never. let off : false ≡ true = never in absurd cc)
+          (λ n was. was ∙ ap (λ m. min m most) (omega arith))
+          (λ n was. let own : hands_out trace (HandsOut client page trace) ≡ 1 = ap (λ b. if b then 1 else 0) (same-refl trace) in omega (arith, was, own))
+          (omega arith)
+          (λ off. (off, refl))
+          (λ node on. on)
+          (λ node never. let off : false ≡ true = never in absurd cc)
+
+  pub hands_own : (trace : TraceId) → Stands false false trace deeds s.horizon (kept_of s trace)
+      → Stands false false trace (HandsOut client page trace ∷ deeds) (after_handed_out s trace client page).horizon (kept_of (after_handed_out s trace client page) trace)
+  hands_own trace stands = at (nat_le s.limits.clients client) refl
+    where
+      at : (b : Bool) → nat_le s.limits.clients client ≡ b
+          → Stands false false trace (HandsOut client page trace ∷ deeds) (if b then changed (goes_out false) trace s else handed_in s trace client page).horizon (kept_of (if b then changed (goes_out false) trace s else handed_in s trace client page) trace)
+      at true beyond = hands_as trace false (none_there trace beyond) stands
+      at false within = hands_as trace (is_heard_of trace page (track_of s client)) refl stands
+
+  pub hands_other : (trace other : TraceId) → same_trace trace other ≡ false → Stands false false trace deeds s.horizon (kept_of s trace)
+      → Stands false false trace (HandsOut client page other ∷ deeds) (after_handed_out s other client page).horizon (kept_of (after_handed_out s other client page) trace)
+  hands_other trace other apart stands = at (nat_le s.limits.clients client)
+    where
+      still : (f : Kept → Kept) → Stands false false trace (HandsOut client page other ∷ deeds) s.horizon (found trace (with_kept f other s.traces))
+      still f = subst (Stands false false trace (HandsOut client page other ∷ deeds) s.horizon) (sym (found-with_other f trace other apart s.traces))
+          (aside trace (HandsOut client page other) deeds s.horizon (kept_of s trace)
+          (record {
+            opens = refl;
+            sends = λ ds. refl;
+            hands_out = ap (λ b. if b then 1 else 0) apart;
+            heard_of = λ ds same. let never : false ≡ true = sym apart ∙ same in absurd cc;
+            goes = refl;
+            loses = refl;
+            leads = λ node. refl;
+            closed = λ at ds none. handed_open other trace client at page ds ∙ none;
+          })
+          (λ k is off. tt) stands)
+
+      at : (b : Bool) → Stands false false trace (HandsOut client page other ∷ deeds) (if b then changed (goes_out false) other s else handed_in s other client page).horizon (kept_of (if b then changed (goes_out false) other s else handed_in s other client page) trace)
+      at true = still (goes_out false)
+      at false = still (goes_out (is_heard_of other page (track_of s client)))
 
 -- ---- a place is looked for
 
@@ -481,20 +732,34 @@ moved_to trace other deeds s same stands = subst (λ (x : TraceId). Stands false
 
 pub any_deed : (limits : NoteLimits) (deeds : List Deed) (s : PlainNotes) (like : IsLike limits deeds s) (deed : Deed) (trace : TraceId) → IsOfClient s.limits.clients deed → HasPlace s deed → segments deeds + 1 ≤ most
     → Stands false false trace deeds s.horizon (kept_of s trace) → Stands false false trace (deed ∷ deeds) (after s deed).horizon (kept_of (after s deed) trace)
-any_deed limits deeds s like (Opens client number other) trace low place bound stands =
+any_deed limits deeds s like (Opens client number other first) trace low place bound stands =
     let found_like = like_searched limits deeds s other like in
     let there : client < (searched s other).limits.clients = subst (λ (l : NoteLimits). client < l.clients) (sym (reordered_searched s other).limits) low in
     let found_stands = stands_searched trace other deeds s stands in
     by_answer (same_trace trace other)
-    (λ y. reopened (Opens client number other) trace other deeds s y (opens_own limits deeds (searched s other) found_like client number there other bound (moved_to trace other deeds (searched s other) y found_stands)))
-    (λ n. opens_other limits deeds (searched s other) found_like client number there other trace n (place_there s other place) found_stands)
-any_deed limits deeds s like (Closes client number other report) trace low place bound stands =
+    (λ y. reopened (Opens client number other first) trace other deeds s y (opens_own limits deeds (searched s other) found_like client number there other first bound (moved_to trace other deeds (searched s other) y found_stands)))
+    (λ n. opens_other limits deeds (searched s other) found_like client number there other first trace n (place_there s other place) found_stands)
+any_deed limits deeds s like (Closes client number other end report) trace low place bound stands =
     let found_like = like_searched limits deeds s other like in
     let there : client < (searched s other).limits.clients = subst (λ (l : NoteLimits). client < l.clients) (sym (reordered_searched s other).limits) low in
     let found_stands = stands_searched trace other deeds s stands in
     by_answer (same_trace trace other)
-    (λ y. reopened (Closes client number other report) trace other deeds s y (closes_own limits deeds (searched s other) found_like client number there other report (moved_to trace other deeds (searched s other) y found_stands)))
-    (λ n. closes_other limits deeds (searched s other) found_like client number there other report trace n (place_there s other place) found_stands)
+    (λ y. reopened (Closes client number other end report) trace other deeds s y (closes_own limits deeds (searched s other) found_like client number there other end report (moved_to trace other deeds (searched s other) y found_stands)))
+    (λ n. closes_other limits deeds (searched s other) found_like client number there other end report trace n (place_there s other place) found_stands)
+any_deed limits deeds s like (Refuses client number other) trace low place bound stands =
+    let found_like = like_searched limits deeds s other like in
+    let there : client < (searched s other).limits.clients = subst (λ (l : NoteLimits). client < l.clients) (sym (reordered_searched s other).limits) low in
+    let found_stands = stands_searched trace other deeds s stands in
+    by_answer (same_trace trace other)
+    (λ y. reopened (Refuses client number other) trace other deeds s y (refuses_own limits deeds (searched s other) found_like client number there other (moved_to trace other deeds (searched s other) y found_stands)))
+    (λ n. refuses_other limits deeds (searched s other) found_like client number there other trace n (place_there s other place) found_stands)
+any_deed limits deeds s like (Leads client number other nodes) trace low place bound stands =
+    let found_like = like_searched limits deeds s other like in
+    let there : client < (searched s other).limits.clients = subst (λ (l : NoteLimits). client < l.clients) (sym (reordered_searched s other).limits) low in
+    let found_stands = stands_searched trace other deeds s stands in
+    by_answer (same_trace trace other)
+    (λ y. reopened (Leads client number other nodes) trace other deeds s y (leads_own limits deeds (searched s other) found_like client number there other nodes (moved_to trace other deeds (searched s other) y found_stands)))
+    (λ n. leads_other limits deeds (searched s other) found_like client number there other nodes trace n (place_there s other place) found_stands)
 any_deed limits deeds s like (Loses other loss count) trace low place bound stands =
     by_answer (same_trace trace other)
     (λ y. reopened (Loses other loss count) trace other deeds s y (loses_own s deeds other loss count (moved_to trace other deeds s y stands)))
@@ -504,26 +769,25 @@ any_deed limits deeds s like (Loses other loss count) trace low place bound stan
       opens = refl;
       sends = λ ds. refl;
       hands_out = refl;
+      heard_of = λ ds. tt;
       goes = ap (λ b. if b then pages_in loss count else 0) n;
       loses = ap (λ b. b && not (count == 0)) n;
+      leads = λ node. refl;
       closed = λ client ds none. none;
     })
     (λ k is off. tt) stands))
-any_deed limits deeds s like (HandsOut other) trace low place bound stands =
+any_deed limits deeds s like (HandsOut client page other) trace low place bound stands =
     by_answer (same_trace trace other)
-    (λ y. reopened (HandsOut other) trace other deeds s y (hands_own s deeds other (moved_to trace other deeds s y stands)))
-    (λ n. subst (Stands false false trace (HandsOut other ∷ deeds) s.horizon) (sym (found-with_other goes_out trace other n s.traces))
-    (aside trace (HandsOut other) deeds s.horizon (kept_of s trace)
-    (record { opens = refl; sends = λ ds. refl; hands_out = ap (λ b. if b then 1 else 0) n; goes = refl; loses = refl; closed = λ client ds none. none })
-    (λ k is off. tt) stands))
+    (λ y. reopened (HandsOut client page other) trace other deeds s y (hands_own limits deeds s like client page other (moved_to trace other deeds s y stands)))
+    (λ n. hands_other limits deeds s like client page trace other n stands)
 any_deed limits deeds s like Misses trace low place bound stands =
-    aside trace Misses deeds s.heard (kept_of s trace) (record { opens = refl; sends = λ ds. refl; hands_out = refl; goes = refl; loses = refl; closed = λ client ds none. none }) (λ k is off. tt)
+    aside trace Misses deeds s.heard (kept_of s trace) (record { opens = refl; sends = λ ds. refl; hands_out = refl; heard_of = λ ds. tt; goes = refl; loses = refl; leads = λ node. refl; closed = λ client ds none. none }) (λ k is off. tt)
     (subst (λ n. Stands false false trace deeds n (kept_of s trace)) (sym like.heard) (presented false false trace deeds s.horizon (kept_of s trace) stands))
 any_deed limits deeds s like (Drops other) trace low place bound stands =
     let there = searched s other in
     let found = like_searched limits deeds s other like in
     aside trace (Drops other) deeds there.heard (kept_of there trace)
-    (record { opens = refl; sends = λ ds. refl; hands_out = refl; goes = refl; loses = refl; closed = λ client ds none. none }) (λ k is off. tt)
+    (record { opens = refl; sends = λ ds. refl; hands_out = refl; heard_of = λ ds. tt; goes = refl; loses = refl; leads = λ node. refl; closed = λ client ds none. none }) (λ k is off. tt)
     (subst (λ n. Stands false false trace deeds n (kept_of there trace)) (sym found.heard)
     (presented false false trace deeds there.horizon (kept_of there trace) (stands_searched trace other deeds s stands)))
 
@@ -543,51 +807,128 @@ length-set_any [] place track = refl
 length-set_any (x ∷ tracks) zero track = refl
 length-set_any (x ∷ tracks) (suc place) track = ap suc (length-set_any tracks place track)
 
-like_opened : (limits : NoteLimits) (deeds : List Deed) (s : PlainNotes) → IsLike limits deeds s → (client number : ℕ) (trace : TraceId) → client < s.limits.clients → segments deeds + 1 ≤ most
-    → IsLike limits (Opens client number trace ∷ deeds) (opened s client number trace)
-like_opened limits deeds s like client number trace low bound =
-    let ready = checked (remembered s trace false) client (begins_next (track_of s client) number) in
-    let alike = alike_both s trace false client (begins_next (track_of s client) number) in
-    let cap : ready.limits.traces ≡ s.limits.traces = ap (λ (l : NoteLimits). l.traces) alike.limits in
-    let clients : ready.limits.clients ≡ s.limits.clients = ap (λ (l : NoteLimits). l.clients) alike.limits in
-    let long : length ready.tracks ≡ s.limits.clients = ap length alike.tracks ∙ like.clients in
-    record {
-      limits = alike.limits ∙ like.limits;
-      some = (let some = like.some in omega (arith, cap, some));
-      few = (let few = alike.few like.few like.some in let same = length-with (begins (more ready.heard 1)) trace ready.traces in omega (arith, cap, few, same));
-      clients = length-set_any ready.tracks client (begun number trace) ∙ long ∙ sym clients;
-      heard = (let same : ready.heard ≡ segments deeds = alike.heard ∙ like.heard in omega (arith, same, bound));
-      tracks = λ other.
-          tracks_set ready.tracks client other (begun number trace) (client == other) refl (omega (arith, low, long))
-          ∙ ap (λ (track : Track). if client == other then begun number trace else track) (ap (λ (ts : List Track). unwrap_or (slice_get ts other) no_notes) alike.tracks ∙ like.tracks other);
-    }
+-- a client's track is set to what a note makes of it
+module _ (limits : NoteLimits) (deeds : List Deed) (s : PlainNotes) (like : IsLike limits deeds s) (client : ℕ) (low : client < s.limits.clients) (trace : TraceId) (is_missed is_next : Bool) where
+  abbrev readied : PlainNotes
+  readied = checked (remembered s trace is_missed) client is_next
 
-like_closed : (limits : NoteLimits) (deeds : List Deed) (s : PlainNotes) → IsLike limits deeds s → (client number : ℕ) (trace : TraceId) (report : SegmentReport) → client < s.limits.clients
-    → IsLike limits (Closes client number trace report ∷ deeds) (closed s client number trace report)
-like_closed limits deeds s like client number trace report low =
-    let is_next = ends_next (track_of s client) number trace in
+  like_set : (heard : ℕ) (change : Track → Track) (f : Kept → Kept) (deed : Deed) → heard ≡ segments (deed ∷ deeds)
+      → ((other : ℕ) → track_after other (deed ∷ deeds) ≡ (if client == other then change (track_after other deeds) else track_after other deeds))
+      → IsLike limits (deed ∷ deeds) (record readied { heard = heard; tracks = set readied.tracks client (change (track_of readied client)); traces = with_kept f trace readied.traces })
+  like_set heard change f deed counted tracked =
+      let alike = alike_both s trace is_missed client is_next in
+      let cap : readied.limits.traces ≡ s.limits.traces = ap (λ (l : NoteLimits). l.traces) alike.limits in
+      let clients : readied.limits.clients ≡ s.limits.clients = ap (λ (l : NoteLimits). l.clients) alike.limits in
+      let long : length readied.tracks ≡ s.limits.clients = ap length alike.tracks ∙ like.clients in
+      record {
+        limits = alike.limits ∙ like.limits;
+        some = (let some = like.some in omega (arith, cap, some));
+        few = (let few = alike.few like.few like.some in let same = length-with f trace readied.traces in omega (arith, cap, few, same));
+        clients = length-set_any readied.tracks client (change (track_of readied client)) ∙ long ∙ sym clients;
+        heard = counted;
+        tracks = λ other.
+            tracks_set readied.tracks client other (change (track_of readied client)) (client == other) refl (omega (arith, low, long))
+            ∙ same_there other (client == other) refl
+            ∙ sym (tracked other);
+      }
+    where
+      there : (other : ℕ) → track_of readied other ≡ track_after other deeds
+      there other = ap (λ (ts : List Track). unwrap_or (slice_get ts other) no_notes) (alike_both s trace is_missed client is_next).tracks ∙ like.tracks other
+
+      same_there : (other : ℕ) (b : Bool) → (client == other) ≡ b → (if b then change (track_of readied client) else track_of readied other) ≡ (if b then change (track_after other deeds) else track_after other deeds)
+      same_there other true here = ap (λ n. change (track_of readied n)) (eqb-true client other here) ∙ ap change (there other)
+      same_there other false here = there other
+
+like_opened : (limits : NoteLimits) (deeds : List Deed) (s : PlainNotes) → IsLike limits deeds s → (client number : ℕ) (trace : TraceId) (first : PageName) → client < s.limits.clients → segments deeds + 1 ≤ most
+    → IsLike limits (Opens client number trace first ∷ deeds) (opened s client number trace first)
+like_opened limits deeds s like client number trace first low bound =
+    let is_next = begins_next (track_of s client) number in
+    let ready = checked (remembered s trace false) client is_next in
+    like_set limits deeds s like client low trace false is_next (more ready.heard 1) (λ track. begun track number trace first) (begins (more ready.heard 1)) (Opens client number trace first)
+    (let same : ready.heard ≡ segments deeds = (alike_both s trace false client is_next).heard ∙ like.heard in omega (arith, same, bound))
+    (λ other. refl)
+
+like_closed : (limits : NoteLimits) (deeds : List Deed) (s : PlainNotes) → IsLike limits deeds s → (client number : ℕ) (trace : TraceId) (end : PageName) (report : SegmentReport) → client < s.limits.clients
+    → IsLike limits (Closes client number trace end report ∷ deeds) (closed s client number trace end report)
+like_closed limits deeds s like client number trace end report low =
+    let is_next = ends_next (track_of s client) number trace end in
     let ready = checked (remembered s trace true) client is_next in
-    let alike = alike_both s trace true client is_next in
-    let cap : ready.limits.traces ≡ s.limits.traces = ap (λ (l : NoteLimits). l.traces) alike.limits in
-    let clients : ready.limits.clients ≡ s.limits.clients = ap (λ (l : NoteLimits). l.clients) alike.limits in
-    let long : length ready.tracks ≡ s.limits.clients = ap length alike.tracks ∙ like.clients in
-    record {
-      limits = alike.limits ∙ like.limits;
-      some = (let some = like.some in omega (arith, cap, some));
-      few = (let few = alike.few like.few like.some in let same = length-with (ends report (not is_next)) trace ready.traces in omega (arith, cap, few, same));
-      clients = length-set_any ready.tracks client (ended number) ∙ long ∙ sym clients;
-      heard = (let same : ready.heard ≡ segments deeds = alike.heard ∙ like.heard in omega (arith, same));
+    like_set limits deeds s like client low trace true is_next ready.heard (λ track. ended track number trace end) (ends report (not is_next)) (Closes client number trace end report)
+    (let same : ready.heard ≡ segments deeds = (alike_both s trace true client is_next).heard ∙ like.heard in omega (arith, same))
+    (λ other. refl)
+
+like_refused : (limits : NoteLimits) (deeds : List Deed) (s : PlainNotes) → IsLike limits deeds s → (client number : ℕ) (trace : TraceId) → client < s.limits.clients
+    → IsLike limits (Refuses client number trace ∷ deeds) (refused s client number trace)
+like_refused limits deeds s like client number trace low =
+    let is_next = refuses_next (track_of s client) number in
+    let ready = checked (remembered s trace true) client is_next in
+    like_set limits deeds s like client low trace true is_next ready.heard (λ track. passed track number) refuses (Refuses client number trace)
+    (let same : ready.heard ≡ segments deeds = (alike_both s trace true client is_next).heard ∙ like.heard in omega (arith, same))
+    (λ other. refl)
+
+like_led : (limits : NoteLimits) (deeds : List Deed) (s : PlainNotes) → IsLike limits deeds s → (client number : ℕ) (trace : TraceId) (nodes : NodeSet) → client < s.limits.clients
+    → IsLike limits (Leads client number trace nodes ∷ deeds) (led s client number trace nodes)
+like_led limits deeds s like client number trace nodes low =
+    let is_next = refuses_next (track_of s client) number in
+    let ready = checked (remembered s trace false) client is_next in
+    like_set limits deeds s like client low trace false is_next ready.heard (λ track. passed track number) (leads nodes) (Leads client number trace nodes)
+    (let same : ready.heard ≡ segments deeds = (alike_both s trace false client is_next).heard ∙ like.heard in omega (arith, same))
+    (λ other. refl)
+
+like_handed : (limits : NoteLimits) (deeds : List Deed) (s : PlainNotes) → IsLike limits deeds s → (client : ℕ) (page : PageName) (trace : TraceId)
+    → IsLike limits (HandsOut client page trace ∷ deeds) (after_handed_out s trace client page)
+like_handed limits deeds s like client page trace = at (nat_le s.limits.clients client) refl
+  where
+    same_track : (other : ℕ) → track_of s other ≡ track_after other deeds
+    same_track other = like.tracks other
+
+    beyond_still : nat_le s.limits.clients client ≡ true → (other : ℕ) (b : Bool) → (client == other) ≡ b → track_of s other ≡ (if b then handed trace page (track_after other deeds) else track_after other deeds)
+    beyond_still beyond other true here =
+        let none = ap (λ n. is_heard_of trace page (track_of s n)) (sym (eqb-true client other here)) ∙ none_there limits deeds s like client page trace beyond in
+        same_track other
+        ∙ sym (ap (λ b. if b && not (is_before page (track_after other deeds).end) then record (track_after other deeds) { reached = Some (later_page (track_after other deeds).reached page) } else track_after other deeds)
+        (ap (is_heard_of trace page) (sym (same_track other)) ∙ none))
+    beyond_still beyond other false here = same_track other
+
+    within_set : (other : ℕ) (b : Bool) → (client == other) ≡ b → (if b then handed trace page (track_of s client) else track_of s other) ≡ (if b then handed trace page (track_after other deeds) else track_after other deeds)
+    within_set other true here = ap (λ n. handed trace page (track_of s n)) (eqb-true client other here) ∙ ap (handed trace page) (same_track other)
+    within_set other false here = same_track other
+
+    in_range : (n m : ℕ) → nat_le n m ≡ false → m < n
+    in_range n m is = grind (arith, is)
+
+    at : (b : Bool) → nat_le s.limits.clients client ≡ b → IsLike limits (HandsOut client page trace ∷ deeds) (if b then changed (goes_out false) trace s else handed_in s trace client page)
+    at true beyond = record {
+      limits = like.limits;
+      some = like.some;
+      few = (let few = like.few in let same = length-with (goes_out false) trace s.traces in omega (arith, few, same));
+      clients = like.clients;
+      heard = (let same = like.heard in omega (arith, same));
+      tracks = λ other. beyond_still beyond other (client == other) refl;
+    }
+    at false within = record {
+      limits = like.limits;
+      some = like.some;
+      few = (let few = like.few in let same = length-with (goes_out (is_heard_of trace page (track_of s client))) trace s.traces in omega (arith, few, same));
+      clients = length-set_any s.tracks client (handed trace page (track_of s client)) ∙ like.clients;
+      heard = (let same = like.heard in omega (arith, same));
       tracks = λ other.
-          tracks_set ready.tracks client other (ended number) (client == other) refl (omega (arith, low, long))
-          ∙ ap (λ (track : Track). if client == other then ended number else track) (ap (λ (ts : List Track). unwrap_or (slice_get ts other) no_notes) alike.tracks ∙ like.tracks other);
+          tracks_set s.tracks client other (handed trace page (track_of s client)) (client == other) refl (let low = in_range s.limits.clients client within in let clients = like.clients in omega (arith, low, clients))
+          ∙ within_set other (client == other) refl;
     }
 
 pub like_after : (limits : NoteLimits) (deeds : List Deed) (s : PlainNotes) → IsLike limits deeds s → (deed : Deed) → IsOfClient s.limits.clients deed → segments deeds + 1 ≤ most → IsLike limits (deed ∷ deeds) (after s deed)
-like_after limits deeds s like (Opens client number trace) low bound =
-    like_opened limits deeds (searched s trace) (like_searched limits deeds s trace like) client number trace
+like_after limits deeds s like (Opens client number trace first) low bound =
+    like_opened limits deeds (searched s trace) (like_searched limits deeds s trace like) client number trace first
     (subst (λ (l : NoteLimits). client < l.clients) (sym (reordered_searched s trace).limits) low) bound
-like_after limits deeds s like (Closes client number trace report) low bound =
-    like_closed limits deeds (searched s trace) (like_searched limits deeds s trace like) client number trace report
+like_after limits deeds s like (Closes client number trace end report) low bound =
+    like_closed limits deeds (searched s trace) (like_searched limits deeds s trace like) client number trace end report
+    (subst (λ (l : NoteLimits). client < l.clients) (sym (reordered_searched s trace).limits) low)
+like_after limits deeds s like (Refuses client number trace) low bound =
+    like_refused limits deeds (searched s trace) (like_searched limits deeds s trace like) client number trace
+    (subst (λ (l : NoteLimits). client < l.clients) (sym (reordered_searched s trace).limits) low)
+like_after limits deeds s like (Leads client number trace nodes) low bound =
+    like_led limits deeds (searched s trace) (like_searched limits deeds s trace like) client number trace nodes
     (subst (λ (l : NoteLimits). client < l.clients) (sym (reordered_searched s trace).limits) low)
 like_after limits deeds s like (Drops trace) low bound =
     let found = like_searched limits deeds s trace like in
@@ -600,14 +941,7 @@ like_after limits deeds s like (Loses trace loss count) low bound = record {
   heard = (let same = like.heard in omega (arith, same));
   tracks = like.tracks;
 }
-like_after limits deeds s like (HandsOut trace) low bound = record {
-  limits = like.limits;
-  some = like.some;
-  few = (let few = like.few in let same = length-with goes_out trace s.traces in omega (arith, few, same));
-  clients = like.clients;
-  heard = (let same = like.heard in omega (arith, same));
-  tracks = like.tracks;
-}
+like_after limits deeds s like (HandsOut client page trace) low bound = like_handed limits deeds s like client page trace
 like_after limits deeds s like Misses low bound = record {
   limits = like.limits;
   some = like.some;

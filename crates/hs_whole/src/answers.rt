@@ -1,5 +1,6 @@
 //! What the calls take and answer.
 
+use hs_base::NodeSet;
 use thiserror::Error;
 
 /// The most clients of a node.
@@ -40,7 +41,8 @@ pub enum Noted {
     Full,
 }
 
-/// What a client says of a segment at its end: the pages that it sent, and what it refused or wrote to no buffer, by cause.
+/// What a client says of a segment at its end: the pages that it sent, what it refused or wrote to no buffer, by cause, and the nodes to which
+/// its crumbs led.
 #[derive(Clone, Copy, Debug, PartialEq, Eq)]
 pub struct SegmentReport {
     /// Pages that were sent.
@@ -57,6 +59,8 @@ pub struct SegmentReport {
     pub spent_points: u32,
     /// Crumbs that could not be sent.
     pub refused_crumbs: u32,
+    /// The nodes to which its crumbs led that could be sent.
+    pub crumbs: NodeSet,
 }
 
 /// What an agent lost of a trace.

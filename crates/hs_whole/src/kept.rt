@@ -1,22 +1,25 @@
 //! One trace, as far as the node knows it.
 
 ghost use Rattle.std.specs.Prelude.{◌≡◌};
-ghost use Rattle.hs_whole.specs.Kept.{no_losses, fresh, reports_loss, with_report, with_loss, misses, begins, ends, loses, goes_out, wholeness, is_settled, counted};
+ghost use Rattle.hs_whole.specs.Kept.{no_losses, fresh, reports_loss, with_report, with_loss, misses, begins, ends, loses, goes_out, refuses, leads, wholeness, is_settled, counted};
 
 use crate::answers::{Loss, SegmentReport};
+use hs_base::NodeSet;
 use hs_wire::{Losses, Wholeness};
 
 /// A trace: how many segments had been heard when its latest one was, pages sent in segments whose end was the next note, pages
-/// handed out, whether a note of it may have been missed, whether something of it was lost, and what was lost by cause. A count stays at the
-/// greatest number of its type once it is there.
+/// handed out, whether a segment of it began, whether a note of it may have been missed, whether something of it was lost, what was lost by cause,
+/// and the nodes to which crumbs of it led. A count stays at the greatest number of its type once it is there.
 #[derive(Clone, Copy, Debug, PartialEq, Eq)]
 pub struct Kept {
     pub latest: u64,
     pub sent: u64,
     pub handed_out: u64,
+    pub is_heard: bool,
     pub is_missed: bool,
     pub is_lost: bool,
     pub losses: Losses,
+    pub crumbs: NodeSet,
 }
 
 /// Nothing lost.
@@ -116,9 +119,11 @@ impl Kept {
             latest,
             sent: 0,
             handed_out: 0,
+            is_heard: false,
             is_missed,
             is_lost: false,
             losses: no_losses(),
+            crumbs: NodeSet::none(),
         }
     }
 
@@ -134,6 +139,7 @@ impl Kept {
         ensures { self.new ≡ begins heard self.old }
     {
         self.latest = heard;
+        self.is_heard = true;
     }
 
     /// A segment ends, and a note of it may have been missed or not.
@@ -144,6 +150,7 @@ impl Kept {
         self.is_missed = self.is_missed || is_missed;
         self.is_lost = self.is_lost || reports_loss(report);
         self.losses = with_report(self.losses, report);
+        self.crumbs = self.crumbs.union(report.crumbs);
     }
 
     /// So much of it was lost.
@@ -154,11 +161,27 @@ impl Kept {
         self.losses = with_loss(self.losses, loss, count);
     }
 
-    /// A page of it is handed out.
-    pub(crate) fn hand_out(&mut self)
-        ensures { self.new ≡ goes_out self.old }
+    /// A page of it is handed out. Where it was not heard of, a note of the trace may have been missed.
+    pub(crate) fn hand_out(&mut self, is_heard: bool)
+        ensures { self.new ≡ goes_out is_heard self.old }
     {
         self.handed_out = self.handed_out.saturating_add(1);
+        self.is_missed = self.is_missed || !is_heard;
+    }
+
+    /// A crumb of it was refused.
+    pub(crate) fn refuse(&mut self)
+        ensures { self.new ≡ refuses self.old }
+    {
+        self.is_lost = true;
+        self.losses.refused_crumbs = self.losses.refused_crumbs.saturating_add(1);
+    }
+
+    /// Crumbs of it led to these nodes.
+    pub(crate) fn lead(&mut self, nodes: NodeSet)
+        ensures { self.new ≡ leads nodes self.old }
+    {
+        self.crumbs = self.crumbs.union(nodes);
     }
 
     /// Whether as many pages left as its segments sent: they were handed out, evicted or abandoned. A full count says nothing.
@@ -184,6 +207,9 @@ impl Kept {
         }
         if self.is_missed || self.sent != self.handed_out {
             return Wholeness::Unknown;
+        }
+        if !self.is_heard {
+            return Wholeness::UnheardSince;
         }
         Wholeness::WholeSince
     }

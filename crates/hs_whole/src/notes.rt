@@ -1,14 +1,16 @@
 //! All that a node heard of its segments.
 
-ghost use Rattle.std.specs.Prelude.{◌≡◌, ◌<◌, ◌≤◌, ◌↔◌, length, Ok, Err, Some, None, IfOk, OnOk, OnErr, option_copied, count_by};
+ghost use Rattle.std.specs.Prelude.{◌≡◌, not, ◌<◌, ◌≤◌, ◌↔◌, length, Ok, Err, Some, None, IfOk, OnOk, OnErr, option_copied, count_by};
 ghost use Rattle.std.specs.NonZero.{non_zero_usize_get};
-ghost use Rattle.hs_whole.specs.Tracks.{is_open, begins_next, ends_next};
-ghost use Rattle.hs_whole.specs.Notes.{PlainNotes, AreOut, no_notes_in, kept_of, missed, missed_open, doubted, moved_horizon, with_new, remembered, checked, begun_in, ended_in, is_over, has_place, turned, looked, searched, finds_place, answer_of, opened, closed, after_opened, after_closed, after_lost, after_handed_out, standing_of};
+ghost use Rattle.hs_whole.specs.Kept.{ends, goes_out};
+ghost use Rattle.hs_whole.specs.Tracks.{is_open, begins_next, ends_next, refuses_next};
+ghost use Rattle.hs_whole.specs.Notes.{PlainNotes, AreOut, no_notes_in, kept_of, changed, tracked, missed, missed_open, doubted, moved_horizon, with_new, remembered, checked, begun_in, ended_in, refused_in, led_in, is_over, has_place, turned, looked, searched, finds_place, answer_of, opened, closed, refused, led, after_opened, after_closed, after_refused, after_led, after_lost, handed_in, after_handed_out, standing_of, crumbs_of};
 
 use crate::answers::{Loss, MOST_CLIENTS, MOST_LOOKS, MakeFault, NoteLimits, Noted, SegmentReport};
 use crate::kept::{Kept, no_losses};
+use crate::page::PageName;
 use crate::track::Track;
-use hs_base::{GroupId, Memory, TraceId};
+use hs_base::{GroupId, Memory, NodeSet, TraceId};
 use hs_wire::{Standing, Wholeness};
 use lru::LruCache;
 use std::alloc::Global;
@@ -201,13 +203,41 @@ impl SegmentNotes {
         self.miss_segment(current);
     }
 
-    /// A segment of a kept trace begins.
-    fn begin(&mut self, client: u16, number: u64, trace: TraceId)
+    /// What is known of a client changes.
+    fn track(&mut self, client: u16, track: Track)
         requires { client < self.old.limits.clients }
-        ensures { self.new ≡ begun_in self.old client number trace }
+        ensures { self.new ≡ tracked client track self.old }
+    {
+        self.tracks[client as usize] = track;
+    }
+
+    /// What is kept of a trace has the end of a segment.
+    fn end_kept(&mut self, trace: TraceId, report: &SegmentReport, is_missed: bool)
+        ensures { self.new ≡ changed (ends report.now is_missed) trace self.old }
+    {
+        let Some(kept) = self.traces.peek_mut(&trace) else {
+            return;
+        };
+        kept.end(report, is_missed);
+    }
+
+    /// What is kept of a trace has a page that was handed out.
+    fn hand_out_kept(&mut self, trace: TraceId, is_heard: bool)
+        ensures { self.new ≡ changed (goes_out is_heard) trace self.old }
+    {
+        if let Some(kept) = self.traces.peek_mut(&trace) {
+            kept.hand_out(is_heard);
+        }
+    }
+
+    /// A segment of a kept trace begins.
+    fn begin(&mut self, client: u16, number: u64, trace: TraceId, first: PageName)
+        requires { client < self.old.limits.clients }
+        ensures { self.new ≡ begun_in self.old client number trace first }
     {
         self.heard = self.heard.saturating_add(1);
-        self.tracks[client as usize] = Track::begun(number, trace);
+        let track = self.tracks[client as usize];
+        self.tracks[client as usize] = track.begun(number, trace, first);
         if let Some(kept) = self.traces.peek_mut(&trace) {
             kept.begin(self.heard);
         }
@@ -219,28 +249,58 @@ impl SegmentNotes {
         client: u16,
         number: u64,
         trace: TraceId,
+        end: PageName,
         report: &SegmentReport,
         is_next: bool,
     )
         requires { client < self.old.limits.clients }
-        ensures { self.new ≡ ended_in self.old client number trace report.now is_next }
+        ensures { self.new ≡ ended_in self.old client number trace end report.now is_next }
     {
-        self.tracks[client as usize] = Track::ended(number);
+        let track = self.tracks[client as usize].ended(number, trace, end);
+        self.track(client, track);
+        self.end_kept(trace, report, !is_next);
+    }
+
+    /// A crumb of a kept trace was refused.
+    fn refuse(&mut self, client: u16, number: u64, trace: TraceId)
+        requires { client < self.old.limits.clients }
+        ensures { self.new ≡ refused_in self.old client number trace }
+    {
+        let track = self.tracks[client as usize];
+        self.tracks[client as usize] = track.passed(number);
         if let Some(kept) = self.traces.peek_mut(&trace) {
-            kept.end(report, !is_next);
+            kept.refuse();
+        }
+    }
+
+    /// Crumbs of a kept trace led to these nodes.
+    fn lead(&mut self, client: u16, number: u64, trace: TraceId, nodes: NodeSet)
+        requires { client < self.old.limits.clients }
+        ensures { self.new ≡ led_in self.old client number trace nodes }
+    {
+        let track = self.tracks[client as usize];
+        self.tracks[client as usize] = track.passed(number);
+        if let Some(kept) = self.traces.peek_mut(&trace) {
+            kept.lead(nodes);
         }
     }
 
     /// Hears that a client that is there begins a segment.
-    fn open_segment(&mut self, client: u16, number: u64, trace: TraceId) -> Result<(), Memory>
+    fn open_segment(
+        &mut self,
+        client: u16,
+        number: u64,
+        trace: TraceId,
+        first: PageName,
+    ) -> Result<(), Memory>
         requires { client < self.old.limits.clients }
-        ensures after { OnOk result (self.new ≡ opened self.old client number trace) }
+        ensures after { OnOk result (self.new ≡ opened self.old client number trace first) }
         ensures memory { OnErr result (self.new ≡ self.old) }
     {
         let is_next = self.tracks[client as usize].begins_next(number);
         self.remember(trace, false)?;
         self.check(client, is_next);
-        self.begin(client, number, trace);
+        self.begin(client, number, trace, first);
         Ok(())
     }
 
@@ -250,25 +310,64 @@ impl SegmentNotes {
         client: u16,
         number: u64,
         trace: TraceId,
+        end: PageName,
         report: &SegmentReport,
     ) -> Result<(), Memory>
         requires { client < self.old.limits.clients }
-        ensures after { OnOk result (self.new ≡ closed self.old client number trace report.now) }
+        ensures after { OnOk result (self.new ≡ closed self.old client number trace end report.now) }
         ensures memory { OnErr result (self.new ≡ self.old) }
     {
-        let is_next = self.tracks[client as usize].ends_next(number, trace);
+        let is_next = self.tracks[client as usize].ends_next(number, trace, end);
         self.remember(trace, true)?;
         self.check(client, is_next);
-        self.end(client, number, trace, report, is_next);
+        self.end(client, number, trace, end, report, is_next);
         Ok(())
     }
 
-    /// Hears that a client begins a segment of a trace, by a note of this number. After `Refused`, after
-    /// `Full`, and after `Memory`, the horizon has moved to the count of all segments that were heard; after the last two traces may
-    /// stand in another order. Nothing else changed.
-    pub fn opened(&mut self, client: u16, number: u64, trace: TraceId) -> Result<Noted, Memory>
+    /// Hears that a client that is there refused a crumb.
+    fn refuse_crumb(&mut self, client: u16, number: u64, trace: TraceId) -> Result<(), Memory>
+        requires { client < self.old.limits.clients }
+        ensures after { OnOk result (self.new ≡ refused self.old client number trace) }
+        ensures memory { OnErr result (self.new ≡ self.old) }
+    {
+        let is_next = self.tracks[client as usize].refuses_next(number);
+        self.remember(trace, true)?;
+        self.check(client, is_next);
+        self.refuse(client, number, trace);
+        Ok(())
+    }
+
+    /// Hears that crumbs of a client that is there led to these nodes.
+    fn lead_on(
+        &mut self,
+        client: u16,
+        number: u64,
+        trace: TraceId,
+        nodes: NodeSet,
+    ) -> Result<(), Memory>
+        requires { client < self.old.limits.clients }
+        ensures after { OnOk result (self.new ≡ led self.old client number trace nodes) }
+        ensures memory { OnErr result (self.new ≡ self.old) }
+    {
+        let is_next = self.tracks[client as usize].refuses_next(number);
+        self.remember(trace, false)?;
+        self.check(client, is_next);
+        self.lead(client, number, trace, nodes);
+        Ok(())
+    }
+
+    /// Hears that a client begins a segment of a trace, by a note of this number, and the first page that it may have. After `Refused`,
+    /// after `Full`, and after `Memory`, the horizon has moved to the count of all segments that were heard; after the last two traces
+    /// may stand in another order. Nothing else changed.
+    pub fn opened(
+        &mut self,
+        client: u16,
+        number: u64,
+        trace: TraceId,
+        first: PageName,
+    ) -> Result<Noted, Memory>
         ensures answer { IfOk result (λ noted. noted ≡ answer_of self.old client trace) }
-        ensures after { OnOk result (self.new ≡ after_opened self.old client number trace) }
+        ensures after { OnOk result (self.new ≡ after_opened self.old client number trace first) }
         ensures memory { OnErr result (self.new ≡ missed (searched self.old trace)) }
     {
         if client >= self.limits.clients {
@@ -279,7 +378,7 @@ impl SegmentNotes {
             self.miss();
             return Ok(Noted::Full);
         }
-        match self.open_segment(client, number, trace) {
+        match self.open_segment(client, number, trace, first) {
             Ok(()) => Ok(Noted::Kept),
             Err(_) => {
                 self.miss();
@@ -288,7 +387,7 @@ impl SegmentNotes {
         }
     }
 
-    /// Hears that a client ends a segment of a trace, by a note of this number, and what it says of it. After `Refused`,
+    /// Hears that a client ends a segment of a trace, by a note of this number, the page behind its last, and what it says of it. After `Refused`,
     /// after `Full`, and after `Memory`, the horizon has moved to the count of all segments that were heard; after the last two traces
     /// may stand in another order. Nothing else changed.
     pub fn closed(
@@ -296,10 +395,11 @@ impl SegmentNotes {
         client: u16,
         number: u64,
         trace: TraceId,
+        end: PageName,
         report: &SegmentReport,
     ) -> Result<Noted, Memory>
         ensures answer { IfOk result (λ noted. noted ≡ answer_of self.old client trace) }
-        ensures after { OnOk result (self.new ≡ after_closed self.old client number trace report.now) }
+        ensures after { OnOk result (self.new ≡ after_closed self.old client number trace end report.now) }
         ensures memory { OnErr result (self.new ≡ missed (searched self.old trace)) }
     {
         if client >= self.limits.clients {
@@ -310,7 +410,63 @@ impl SegmentNotes {
             self.miss();
             return Ok(Noted::Full);
         }
-        match self.close_segment(client, number, trace, report) {
+        match self.close_segment(client, number, trace, end, report) {
+            Ok(()) => Ok(Noted::Kept),
+            Err(_) => {
+                self.miss();
+                Err(Memory)
+            }
+        }
+    }
+
+    /// Hears that a client refused a crumb of a trace that need not be open, by a note of this number. After `Refused`, after `Full`, and
+    /// after `Memory`, the horizon has moved to the count of all segments that were heard; after the last two traces may stand in another
+    /// order. Nothing else changed.
+    pub fn refused(&mut self, client: u16, number: u64, trace: TraceId) -> Result<Noted, Memory>
+        ensures answer { IfOk result (λ noted. noted ≡ answer_of self.old client trace) }
+        ensures after { OnOk result (self.new ≡ after_refused self.old client number trace) }
+        ensures memory { OnErr result (self.new ≡ missed (searched self.old trace)) }
+    {
+        if client >= self.limits.clients {
+            self.miss();
+            return Ok(Noted::Refused);
+        }
+        if !self.search(trace) {
+            self.miss();
+            return Ok(Noted::Full);
+        }
+        match self.refuse_crumb(client, number, trace) {
+            Ok(()) => Ok(Noted::Kept),
+            Err(_) => {
+                self.miss();
+                Err(Memory)
+            }
+        }
+    }
+
+    /// Hears that crumbs of a trace that need not be open led to these nodes, by a note of a client with this number. Where the trace is not
+    /// kept, it is kept from then on, as one of which no segment was heard. After `Refused`, after `Full`, and after `Memory`, the horizon has
+    /// moved to the count of all segments that were heard; after the last two traces may stand in another order. Nothing else changed.
+    pub fn led(
+        &mut self,
+        client: u16,
+        number: u64,
+        trace: TraceId,
+        nodes: NodeSet,
+    ) -> Result<Noted, Memory>
+        ensures answer { IfOk result (λ noted. noted ≡ answer_of self.old client trace) }
+        ensures after { OnOk result (self.new ≡ after_led self.old client number trace nodes) }
+        ensures memory { OnErr result (self.new ≡ missed (searched self.old trace)) }
+    {
+        if client >= self.limits.clients {
+            self.miss();
+            return Ok(Noted::Refused);
+        }
+        if !self.search(trace) {
+            self.miss();
+            return Ok(Noted::Full);
+        }
+        match self.lead_on(client, number, trace, nodes) {
             Ok(()) => Ok(Noted::Kept),
             Err(_) => {
                 self.miss();
@@ -328,13 +484,26 @@ impl SegmentNotes {
         }
     }
 
-    /// Hears that a page of a trace is handed out. Where the trace is not kept nothing changes. Takes no memory.
-    pub fn handed_out(&mut self, trace: TraceId)
-        ensures { self.new ≡ after_handed_out self.old trace }
+    /// A page of a trace is handed out, of a client that is there.
+    fn hand_out(&mut self, trace: TraceId, client: u16, page: PageName)
+        requires { client < self.old.limits.clients }
+        ensures { self.new ≡ handed_in self.old trace client page }
     {
-        if let Some(kept) = self.traces.peek_mut(&trace) {
-            kept.hand_out();
+        let track = self.tracks[client as usize];
+        self.track(client, track.handed(trace, page));
+        self.hand_out_kept(trace, track.is_heard_of(trace, page));
+    }
+
+    /// Hears that a page of a trace is handed out, which its client wrote under this name. Where it was not heard of, a note of the trace may
+    /// have been missed. A trace that is not kept stays so. Takes no memory.
+    pub fn handed_out(&mut self, trace: TraceId, client: u16, page: PageName)
+        ensures { self.new ≡ after_handed_out self.old trace client page }
+    {
+        if client >= self.limits.clients {
+            self.hand_out_kept(trace, false);
+            return;
         }
+        self.hand_out(trace, client, page);
     }
 
     /// How many segments of a trace are open.
@@ -365,6 +534,16 @@ impl SegmentNotes {
             horizon: self.horizon,
             pages,
             losses,
+        }
+    }
+
+    /// The nodes to which crumbs of a trace led, as far as notes of it were heard while it was kept.
+    pub fn crumbs(&self, trace: TraceId) -> NodeSet
+        ensures { result ≡ crumbs_of self.now trace }
+    {
+        match self.traces.peek(&trace) {
+            Some(kept) => kept.crumbs,
+            None => NodeSet::none(),
         }
     }
 
