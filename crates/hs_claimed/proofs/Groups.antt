@@ -102,7 +102,7 @@ stands_here groups group place one distinct there named =
 pub none_distinct : AreDistinct []
 none_distinct place other a b first second same = let never : None ≡ Some a = first in absurd cc
 
-not_at : (groups : List Claimant) (group : GroupId) (place : ℕ) (one : Claimant) → list_any (is_the group) groups ≡ false → slice_get groups place ≡ Some one → is_the group one ≡ false
+pub not_at : (groups : List Claimant) (group : GroupId) (place : ℕ) (one : Claimant) → list_any (is_the group) groups ≡ false → slice_get groups place ≡ Some one → is_the group one ≡ false
 not_at [] group place one none at = let never : None ≡ Some one = at in absurd cc
 not_at (y ∷ groups) group zero one none at = ap (is_the group) (sym (same_Some y one at)) ∙ first_false (is_the group y) (list_any (is_the group) groups) none
 not_at (y ∷ groups) group (suc place) one none at = not_at groups group place one (second_false (is_the group y) (list_any (is_the group) groups) none) at

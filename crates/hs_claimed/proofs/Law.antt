@@ -13,13 +13,14 @@ use Rattle.hs_lists.proofs.Parts.{map_append, map_drop, drop_front}
 use Rattle.hs_base.specs.declared.ids.TraceId.{TraceId}
 use Rattle.hs_base.specs.declared.ids.GroupId.{GroupId}
 use Rattle.hs_base.specs.declared.told.Group.{Group}
+use Rattle.hs_base.specs.declared.node_set.NodeSet.{NodeSet}
 use Rattle.hs_base.specs.Ids.{same_trace}
 use Rattle.hs_wire.specs.declared.message.Standing.{Standing}
 use Rattle.hs_claimed.specs.declared.answers.Claim.{Claim}
 use Rattle.hs_claimed.specs.declared.answers.Claimant.{Claimant}
-use Rattle.hs_claimed.specs.Claims.{PlainClaims, no_claims, same_group, is_the, with_other, traces_of, claim_of, claimant, is_known, is_full_for, with_claims, after_claim, with_number, noted_at, after_spoke, is_about, is_news_of, is_news_in, with_said, after_said, without_oldest, after_forget}
+use Rattle.hs_claimed.specs.Claims.{PlainClaims, no_claims, same_group, is_the, with_other, traces_of, claim_of, claimant, is_known, is_full_for, with_claims, after_claim, with_number, after_spoke, with_name, after_named, is_about, is_news_of, is_news_in, with_said, after_said, without_oldest, after_forget}
 use Rattle.hs_claimed.proofs.Groups.{group_refl, group_same, trace_refl, trace_same, get_both, get_drop, get_same, positioned, or_first, or_second}
-use Rattle.hs_claimed.specs.Lives.{Deed, Claims, Speaks, Says, LooksOn, Forgets, after, claims_after, news_by, latest_news, same_claim, AreKept}
+use Rattle.hs_claimed.specs.Lives.{Deed, Claims, Speaks, Names, Says, LooksOn, Forgets, after, claims_after, news_by, latest_news, same_claim, AreKept}
 
 -- ---- claims stand group by group
 
@@ -217,21 +218,27 @@ claims_any word s group laterals hold = at (is_known s group.id) (is_full_for s 
 
 -- ---- a message speaks of a group
 
-spoken_ids : (number : ℕ) (groups : List Claimant) (place : ℕ) (one : Claimant) → slice_get groups place ≡ Some one → flat_map ids_of (set groups place (with_number number one)) ≡ flat_map ids_of groups
-spoken_ids number [] place one at = refl
-spoken_ids number (first ∷ groups) zero one at = ap (λ (c : Claimant). ids_of c ++ flat_map ids_of groups) (sym (same_Some first one at))
-spoken_ids number (first ∷ groups) (suc place) one at = ap (λ (ids : List GroupId). ids_of first ++ ids) (spoken_ids number groups place one at)
+-- a group that changes, and keeps its number and its count of traces
+changed_ids : (f : Claimant → Claimant) → ((one : Claimant) → ids_of (f one) ≡ ids_of one) → (groups : List Claimant) (place : ℕ) (one : Claimant) → slice_get groups place ≡ Some one
+    → flat_map ids_of (set groups place (f one)) ≡ flat_map ids_of groups
+changed_ids f keeps [] place one at = refl
+changed_ids f keeps (first ∷ groups) zero one at = ap (λ (ids : List GroupId). ids ++ flat_map ids_of groups) (keeps one ∙ ap ids_of (sym (same_Some first one at)))
+changed_ids f keeps (first ∷ groups) (suc place) one at = ap (λ (ids : List GroupId). ids_of first ++ ids) (changed_ids f keeps groups place one at)
 
-same_ids : (number : ℕ) (groups : List Claimant) (o : Option ℕ) → flat_map ids_of (option_map_or (noted_at number groups) o groups) ≡ flat_map ids_of groups
-same_ids number groups None = refl
-same_ids number groups (Some place) = at (slice_get groups place) refl
+same_ids : (f : Claimant → Claimant) → ((one : Claimant) → ids_of (f one) ≡ ids_of one) → (groups : List Claimant) (o : Option ℕ)
+    → flat_map ids_of (option_map_or (λ place. option_map_or (λ one. set groups place (f one)) (slice_get groups place) groups) o groups) ≡ flat_map ids_of groups
+same_ids f keeps groups None = refl
+same_ids f keeps groups (Some place) = at (slice_get groups place) refl
   where
-    at : (o : Option Claimant) → slice_get groups place ≡ o → flat_map ids_of (option_map_or (λ one. set groups place (with_number number one)) o groups) ≡ flat_map ids_of groups
+    at : (o : Option Claimant) → slice_get groups place ≡ o → flat_map ids_of (option_map_or (λ one. set groups place (f one)) o groups) ≡ flat_map ids_of groups
     at None is = refl
-    at (Some one) is = spoken_ids number groups place one is
+    at (Some one) is = changed_ids f keeps groups place one is
 
 together_spoke : (s : PlainClaims) (group : GroupId) (number : ℕ) → AreTogether s → AreTogether (after_spoke s group number)
-together_spoke s group number together = together ∙ sym (same_ids number s.groups (position (is_the group) s.groups))
+together_spoke s group number together = together ∙ sym (same_ids (with_number number) (λ one. refl) s.groups (position (is_the group) s.groups))
+
+together_named : (s : PlainClaims) (group : GroupId) (nodes : NodeSet) (number : ℕ) → AreTogether s → AreTogether (after_named s group nodes number)
+together_named s group nodes number together = together ∙ sym (same_ids (with_name nodes number) (λ one. refl) s.groups (position (is_the group) s.groups))
 
 -- ---- a standing is said of the claim that is looked at
 
@@ -347,6 +354,7 @@ none_hold most = record {
 by_deed : (word : GroupId → TraceId → Option Standing) (s : PlainClaims) (deed : Deed) → Hold word s → Hold (λ group trace. news_by s group trace deed (word group trace)) (after s deed)
 by_deed word s (Claims group laterals) hold = claims_any word s group laterals hold
 by_deed word s (Speaks group number) hold = record { together = together_spoke s group number hold.together; once = hold.once; said = hold.said }
+by_deed word s (Names group nodes number) hold = record { together = together_named s group nodes number hold.together; once = hold.once; said = hold.said }
 by_deed word s (Says standing number) hold = says_any word s standing number hold
 by_deed word s LooksOn hold = record { together = hold.together; once = hold.once; said = hold.said }
 by_deed word s Forgets hold = forgets_any word s hold

@@ -1,4 +1,5 @@
 mod Groups
 mod Steps
 mod Law
+mod Told
 mod Round

@@ -1,11 +1,13 @@
 -- The traces that groups claim at a node, the oldest claim first, with what was said of each last; and the groups, each with the
--- greatest number of a message that speaks of it. One claim is looked at at a time.
+-- greatest number of a message that speaks of it, and the nodes that such messages named. One claim is looked at at a time.
 use Rattle.std.specs.Prelude.{◌≡◌, ℕ, ◌+◌, ◌-◌, max, Bool, true, false, ◌&&◌, ◌||◌, ◌==◌, List, [], ◌∷◌, ◌++◌, length, map, fold, drop, position, slice_get, slice_set, nat_lt, nat_le, Option, Some, None, is_some, if◌then◌else◌, refl}
 use Rattle.std.specs.List.{list_any}
 use Rattle.std.specs.Option.{option_map_or}
 use Rattle.hs_base.specs.declared.ids.TraceId.{TraceId}
 use Rattle.hs_base.specs.declared.ids.GroupId.{GroupId}
 use Rattle.hs_base.specs.declared.told.Group.{Group}
+use Rattle.hs_base.specs.declared.node_set.NodeSet.{NodeSet}
+use Rattle.hs_base.specs.NodeSets.{no_nodes, either}
 use Rattle.hs_base.specs.Ids.{same_trace}
 use Rattle.hs_base.specs.Samples.{t}
 use Rattle.hs_wire.specs.declared.message.Standing.{Standing}
@@ -57,7 +59,7 @@ claim_of group trace = record { group = group; trace = trace; said = None }
 
 -- a group with so many traces, of which no message speaks
 abbrev pub claimant : Group → ℕ → Claimant
-claimant group traces = record { group = group; traces = traces; last = None }
+claimant group traces = record { group = group; traces = traces; last = None; told = no_nodes }
 
 abbrev pub is_known : PlainClaims → GroupId → Bool
 is_known s group = is_some (position (is_the group) s.groups)
@@ -89,6 +91,35 @@ noted_at number groups place = option_map_or (λ one. slice_set groups place (wi
 
 abbrev pub after_spoke : PlainClaims → GroupId → ℕ → PlainClaims
 after_spoke s group number = record s { groups = option_map_or (noted_at number s.groups) (place_of s group) s.groups }
+
+-- ---- a message names nodes for a group
+
+abbrev pub with_name : NodeSet → ℕ → Claimant → Claimant
+with_name nodes number one = record (with_number number one) { told = either one.told nodes }
+
+abbrev pub named_at : NodeSet → ℕ → List Claimant → ℕ → List Claimant
+named_at nodes number groups place = option_map_or (λ one. slice_set groups place (with_name nodes number one)) (slice_get groups place) groups
+
+abbrev pub after_named : PlainClaims → GroupId → NodeSet → ℕ → PlainClaims
+after_named s group nodes number = record s { groups = option_map_or (named_at nodes number s.groups) (place_of s group) s.groups }
+
+-- the nodes that messages named which speak of a group, if it is known
+abbrev pub told_at : List Claimant → ℕ → NodeSet
+told_at groups place = option_map_or (λ (one : Claimant). one.told) (slice_get groups place) no_nodes
+
+abbrev pub told_by : PlainClaims → GroupId → NodeSet
+told_by s group = option_map_or (told_at s.groups) (place_of s group) no_nodes
+
+-- these nodes, and those that messages named for a claim of the trace
+abbrev pub with_told : PlainClaims → TraceId → NodeSet → Claim → NodeSet
+with_told s trace nodes claim = if same_trace trace claim.trace then either nodes (told_by s claim.group) else nodes
+
+-- the nodes that messages named which speak of a group that claims the trace
+abbrev pub told_in : PlainClaims → TraceId → List Claim → NodeSet
+told_in s trace claims = fold (with_told s trace) no_nodes claims
+
+abbrev pub told_for : PlainClaims → TraceId → NodeSet
+told_for s trace = told_in s trace s.claims
 
 -- ---- the claim that is looked at
 
@@ -159,7 +190,7 @@ all_or_none :
     × (answer_to_claim seven (led 5 9) (traces_of (t 9) []) ≡ Claimed)
 all_or_none = (refl, refl, refl, refl)
 
-abbrev both : PlainClaims
+abbrev pub both : PlainClaims
 both = after_claim seven (led 5 9) (traces_of (t 9) [])
 
 -- message 4 says that trace 9 is unheard of at this node, for group 7; saying it again, with another horizon, is nothing new
@@ -172,6 +203,14 @@ says_it_once = (refl, refl, refl, refl)
 -- the greatest number counts
 last_message : (oldest said_9 ≡ Some (record (claimant (led 7 9) 3) { last = Some 4 })) × (oldest (after_spoke (after_spoke said_9 (g 7) 6) (g 7) 5) ≡ Some (record (claimant (led 7 9) 3) { last = Some 6 })) × (oldest both ≡ Some (claimant (led 7 9) 3))
 last_message = (refl, refl, refl)
+
+-- messages named nodes 0 and 2 for group 7, and node 1 for group 5: trace 9 is claimed by both, and trace 8 by group 7 alone
+abbrev named : PlainClaims
+named = after_named (after_named (after_named both (g 7) (record { 0 = 1 }) 3) (g 7) (record { 0 = 4 }) 4) (g 5) (record { 0 = 2 }) 5
+
+told_of_both : (told_for named (t 9) ≡ record { 0 = 7 }) × (told_for named (t 8) ≡ record { 0 = 5 }) × (told_for named (t 1) ≡ no_nodes) × (told_for (after_forget named) (t 9) ≡ record { 0 = 2 })
+    × (oldest named ≡ Some (record (claimant (led 7 9) 3) { last = Some 4; told = record { 0 = 5 } }))
+told_of_both = (refl, refl, refl, refl, refl)
 
 -- four claims are looked at, one after the other
 comes_round : ((advanced (advanced (advanced both))).place ≡ 3) × (advanced (advanced (advanced (advanced both))) ≡ both)

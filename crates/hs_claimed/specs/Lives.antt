@@ -3,17 +3,21 @@ use Rattle.std.specs.Prelude.{◌≡◌, ℕ, zero, suc, ◌<◌, Bool, true, no
 use Rattle.hs_base.specs.declared.ids.TraceId.{TraceId}
 use Rattle.hs_base.specs.declared.ids.GroupId.{GroupId}
 use Rattle.hs_base.specs.declared.told.Group.{Group}
+use Rattle.hs_base.specs.declared.node_set.NodeSet.{NodeSet}
+use Rattle.hs_base.specs.NodeSets.{no_nodes, either}
 use Rattle.hs_base.specs.Ids.{same_trace}
 use Rattle.hs_base.specs.Samples.{t}
 use Rattle.hs_wire.specs.declared.message.Standing.{Standing}
 use Rattle.hs_wire.specs.declared.message.Wholeness.TheVariants.{WholeSince, UnheardSince}
 use Rattle.hs_claimed.specs.declared.answers.Claim.{Claim}
+use Rattle.hs_claimed.specs.declared.answers.Claimant.{Claimant}
 use Rattle.hs_claimed.specs.News.{word}
-use Rattle.hs_claimed.specs.Claims.{PlainClaims, no_claims, same_group, traces_of, is_known, after_claim, after_spoke, is_news_in, after_said, advanced, after_forget, g, led}
+use Rattle.hs_claimed.specs.Claims.{PlainClaims, no_claims, same_group, traces_of, is_known, after_claim, after_spoke, after_named, is_news_in, after_said, advanced, after_forget, g, led}
 
 pub data Deed : Type 0 where
   Claims : (group : Group) → (laterals : List TraceId) → Deed
   Speaks : (group : GroupId) → (number : ℕ) → Deed
+  Names : (group : GroupId) → (nodes : NodeSet) → (number : ℕ) → Deed
   Says : (standing : Standing) → (number : ℕ) → Deed
   LooksOn : Deed
   Forgets : Deed
@@ -21,6 +25,7 @@ pub data Deed : Type 0 where
 abbrev pub after : PlainClaims → Deed → PlainClaims
 after s (Claims group laterals) = after_claim s group (traces_of group.lead laterals)
 after s (Speaks group number) = after_spoke s group number
+after s (Names group nodes number) = after_named s group nodes number
 after s (Says standing number) = after_said s standing number
 after s LooksOn = advanced s
 after s Forgets = after_forget s
@@ -34,6 +39,7 @@ claims_after most (deed ∷ deeds) = after (claims_after most deeds) deed
 abbrev pub news_by : PlainClaims → GroupId → TraceId → Deed → Option Standing → Option Standing
 news_by s group trace (Claims other laterals) before = if same_group group other.id && not (is_known s other.id) then None else before
 news_by s group trace (Speaks other number) before = before
+news_by s group trace (Names other nodes number) before = before
 news_by s group trace (Says standing number) before = if is_news_in s standing && (same_group standing.group group && same_trace standing.trace trace) then Some standing else before
 news_by s group trace LooksOn before = before
 news_by s group trace Forgets before = before
@@ -42,6 +48,20 @@ news_by s group trace Forgets before = before
 abbrev pub latest_news : ℕ → GroupId → TraceId → List Deed → Option Standing
 latest_news most group trace [] = None
 latest_news most group trace (deed ∷ deeds) = news_by (claims_after most deeds) group trace deed (latest_news most group trace deeds)
+
+-- the nodes that messages named for a group behind a deed, where these were before it: none behind its new claim
+abbrev pub names_by : PlainClaims → GroupId → Deed → NodeSet → NodeSet
+names_by s group (Claims other laterals) before = if same_group other.id group && not (is_known s other.id) then no_nodes else before
+names_by s group (Speaks other number) before = before
+names_by s group (Names other nodes number) before = if same_group other group then either before nodes else before
+names_by s group (Says standing number) before = before
+names_by s group LooksOn before = before
+names_by s group Forgets before = before
+
+-- the nodes that messages named for a group since it claimed
+abbrev pub named_since : ℕ → GroupId → List Deed → NodeSet
+named_since most group [] = no_nodes
+named_since most group (deed ∷ deeds) = names_by (claims_after most deeds) group deed (named_since most group deeds)
 
 -- whether two claims are of one group and trace
 abbrev pub same_claim : Claim → Claim → Bool
@@ -55,6 +75,10 @@ pub record AreKept (most : ℕ) (deeds : List Deed) : Type 0 where
   pub once : (place other : ℕ) (a b : Claim) → slice_get (claims_after most deeds).claims place ≡ Some a → slice_get (claims_after most deeds).claims other ≡ Some b → same_claim a b ≡ true → place ≡ other
   -- the group of each is known, so it is forgotten with its claims
   pub known : (place : ℕ) (claim : Claim) → slice_get (claims_after most deeds).claims place ≡ Some claim → is_known (claims_after most deeds) claim.group ≡ true
+
+-- What is kept of each group of what messages named is all that they named since it claimed.
+abbrev pub AreTold : ℕ → List Deed → Type 0
+AreTold most deeds = (place : ℕ) (one : Claimant) → slice_get (claims_after most deeds).groups place ≡ Some one → one.told ≡ named_since most one.group.id deeds
 
 -- so many steps on
 abbrev pub steps_on : ℕ → PlainClaims → PlainClaims
@@ -75,6 +99,13 @@ life = Says (word WholeSince 6 1) 5 ∷ Says (word UnheardSince 2 0) 4 ∷ Says 
 -- the second word was no news
 latest : (latest_news 4 (g 7) (t 9) life ≡ Some (word WholeSince 6 1)) × (latest_news 4 (g 7) (t 8) life ≡ None)
 latest = (refl, refl)
+
+-- messages named node 0 and node 2 for group 7, and none since it claimed anew
+abbrev names : List Deed
+names = Names (g 7) (record { 0 = 4 }) 7 ∷ Names (g 5) (record { 0 = 2 }) 6 ∷ Names (g 7) (record { 0 = 1 }) 5 ∷ Claims (led 7 9) [] ∷ []
+
+since_it_claimed : (named_since 4 (g 7) names ≡ record { 0 = 5 }) × (named_since 4 (g 7) (Claims (led 7 9) [] ∷ Forgets ∷ names) ≡ no_nodes) × (named_since 4 (g 7) (Claims (led 7 9) [] ∷ names) ≡ record { 0 = 5 })
+since_it_claimed = (refl, refl, refl)
 
 -- nothing was said of it since it was claimed anew
 anew : latest_news 4 (g 7) (t 9) (Claims (led 7 9) [] ∷ Forgets ∷ life) ≡ None

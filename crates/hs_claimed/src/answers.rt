@@ -1,6 +1,6 @@
 //! What the calls take and answer.
 
-use hs_base::{Group, GroupId, TraceId};
+use hs_base::{Group, GroupId, NodeSet, TraceId};
 use hs_wire::Standing;
 
 /// A trace that a group claims, with the standing that was said of it last, if one was.
@@ -11,12 +11,14 @@ pub struct Claim {
     pub said: Option<Standing>,
 }
 
-/// A group that claims traces: how many, and the greatest number of a message that speaks of it, if one does.
+/// A group that claims traces: how many, the greatest number of a message that speaks of it, if one does, and the nodes that such messages
+/// named to the hub.
 #[derive(Clone, Copy, Debug, PartialEq, Eq)]
 pub struct Claimant {
     pub group: Group,
     pub traces: u32,
     pub last: Option<u64>,
+    pub told: NodeSet,
 }
 
 /// What became of a group that claims traces.

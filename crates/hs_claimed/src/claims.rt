@@ -8,18 +8,18 @@ ghost use Rattle.std.specs.VecDeque.{deque_len, deque_capacity};
 ghost use Rattle.hs_base.specs.Ids.{same_trace};
 ghost use Rattle.hs_base.specs.declared.ids.TraceId.{TraceId};
 ghost use Rattle.hs_claimed.specs.declared.answers.Claim.{Claim};
-ghost use Rattle.hs_claimed.specs.Claims.{PlainClaims, no_claims, is_of, is_the, with_other, others, traces_of, claim_of, is_known, is_full_for, answer_to_claim, with_claims, after_claim, place_of, with_number, noted_at, after_spoke, current, is_about, is_news_of, is_news_in, with_said, after_said, advanced, oldest, is_above, claimant, without_oldest, after_forget};
+ghost use Rattle.hs_claimed.specs.Claims.{PlainClaims, no_claims, is_of, is_the, with_other, others, traces_of, claim_of, is_known, is_full_for, answer_to_claim, with_claims, after_claim, place_of, with_number, noted_at, after_spoke, with_name, named_at, after_named, told_by, with_told, told_in, told_for, current, is_about, is_news_of, is_news_in, with_said, after_said, advanced, oldest, is_above, claimant, without_oldest, after_forget};
 
 use crate::answers::{Claim, Claimant, Claiming};
 use crate::news::is_news;
-use hs_base::{Group, GroupId, Laterals, Memory, TraceId};
+use hs_base::{Group, GroupId, Laterals, Memory, NodeSet, TraceId};
 use hs_wire::Standing;
 use std::alloc::Global;
 use std::collections::VecDeque;
 use std::marker::Model;
 
 /// The traces that groups claim at a node, the oldest claim first, each with what was said of it last; and the groups, each with the
-/// greatest number of a message that speaks of it. At most so many are kept, in memory that is taken at first.
+/// greatest number of a message that speaks of it, and the nodes that messages named. At most so many are kept, in memory that is taken at first.
 #[derive(Drop)]
 pub struct ClaimedTraces {
     most: u32,
@@ -241,6 +241,53 @@ impl ClaimedTraces {
         }
     }
 
+    /// Notes the number of a message that speaks of a group and names these nodes, and answers whether the group is known. Otherwise nothing
+    /// changes.
+    pub fn named(&mut self, group: GroupId, nodes: NodeSet, number: u64) -> bool
+        ensures answer { result ≡ is_known self.old group }
+        ensures after { self.new ≡ after_named self.old group nodes number }
+    {
+        match self.find(group) {
+            Some(place) => {
+                self.groups[place].name(nodes, number);
+                true
+            }
+            None => false,
+        }
+    }
+
+    /// The nodes that messages named which speak of a group, if it is known.
+    pub fn told_by(&self, group: GroupId) -> NodeSet
+        ensures { result ≡ told_by self.now group }
+    {
+        match self.find(group) {
+            Some(place) => self.groups[place].told,
+            None => NodeSet::none(),
+        }
+    }
+
+    /// The nodes with those that messages named for a claim, where it is of the trace.
+    fn with_told(&self, trace: TraceId, nodes: NodeSet, claim: &Claim) -> NodeSet
+        ensures { result ≡ with_told self.now trace nodes claim.now }
+    {
+        if trace == claim.trace {
+            nodes.union(self.told_by(claim.group))
+        } else {
+            nodes
+        }
+    }
+
+    /// The nodes that messages named which speak of a group that claims the trace.
+    pub fn told_for(&self, trace: TraceId) -> NodeSet
+        ensures { result ≡ told_for self.now trace }
+    {
+        let mut nodes = NodeSet::none();
+        for place in 0..self.claims.len() {
+            nodes = self.with_told(trace, nodes, &self.claims[place]);
+        }
+        nodes
+    }
+
     /// The claim that is looked at, if there is one.
     pub fn current(&self) -> Option<&Claim>
         ensures { option_copied result ≡ current self.now }
@@ -339,6 +386,7 @@ impl Claimant {
             group,
             traces,
             last: None,
+            told: NodeSet::none(),
         }
     }
 
@@ -351,5 +399,13 @@ impl Claimant {
             None => number,
         };
         self.last = Some(last);
+    }
+
+    /// Notes the number of a message that names these nodes.
+    fn name(&mut self, nodes: NodeSet, number: u64)
+        ensures { self.new ≡ with_name nodes number self.old }
+    {
+        self.hear(number);
+        self.told = self.told.union(nodes);
     }
 }

@@ -10,5 +10,6 @@ pub use answers::{Claim, Claimant, Claiming};
 pub use claims::ClaimedTraces;
 pub use laws::{
     a_horizon_alone_is_no_news, each_claim_is_looked_at, what_was_said_last_is_the_latest_news,
+    what_was_told_was_named,
 };
 pub use news::is_news;

@@ -81,7 +81,7 @@ one_roomy s deed none = (λ yes. (let never : true ≡ false = sym yes ∙ none 
 
 note_roomy : (s : PlainClaims) (number : ℕ) (said : Said) → HaveRoom s (option_to_list (note_of number said))
 note_roomy s number (SaysHello hello) = tt
-note_roomy s number (SaysTold told) = one_roomy s (claimed.Speaks told.group.id number) refl
+note_roomy s number (SaysTold told) = one_roomy s (claimed.Names told.group.id told.crumbs number) refl
 note_roomy s number (SaysAsk ask) = tt
 note_roomy s number (SaysReported reported) = one_roomy s (claimed.Speaks reported.group.id number) refl
 note_roomy s number (SaysStanding standing) = one_roomy s (claimed.Says standing number) refl

@@ -2,8 +2,8 @@
 use Rattle.std.specs.Prelude.{◌≡◌, ℕ, true, false, [], ◌∷◌, ◌++◌, filter_map, Some, None, refl}
 use Rattle.hs_base.specs.declared.told.Told.{Told}
 use Rattle.hs_base.specs.declared.told.Why.TheVariants.{Fired, Late}
-use Rattle.hs_claimed.specs.Claims.{PlainClaims, after_spoke}
-use Rattle.hs_claimed.specs.Lives.{Claims, Speaks, Says}
+use Rattle.hs_claimed.specs.Claims.{PlainClaims, after_named}
+use Rattle.hs_claimed.specs.Lives.{Claims, Speaks, Names, Says}
 use Rattle.hs_wire.specs.Messages.{PlainReported, SaysTold, SaysReported, SaysStanding}
 use Rattle.hs_wire.specs.declared.message.Standing.{Standing}
 use Rattle.hs_base.specs.declared.told.Trigger.{Trigger}
@@ -29,8 +29,8 @@ use Rattle.hs_intake.specs.Handing.{first_page, was_offered}
 two_are_received : (a b : Incoming ℕ Key) → Receives 1 (7 ∷ 8 ∷ []) (a ∷ b ∷ []) (a ∷ record b { received = b.received ++ 7 ∷ 8 ∷ [] } ∷ [])
 two_are_received a b = record { before = b; later = record b { received = b.received ++ 7 ∷ 8 ∷ [] }; at = refl; new_is = refl; same = (refl, refl, refl); received = refl }
 
--- A message that has a place is said, and noted with its number; one that has none waits.
-has_a_place : (m : Letters) (s : PlainClaims) (told : Told) → SaysIt m s (Some told) (after m (says told)) (after_spoke s told.group.id m.fresh) None
+-- A message that has a place is said, and noted with its number and its nodes; one that has none waits.
+has_a_place : (m : Letters) (s : PlainClaims) (told : Told) → SaysIt m s (Some told) (after m (says told)) (after_named s told.group.id told.crumbs m.fresh) None
 has_a_place m s told = record { said = told ∷ []; mail = refl; all = refl; noted = refl }
 
 has_no_place : (m : Letters) (s : PlainClaims) (told : Told) → SaysIt m s (Some told) m s (Some told)
@@ -40,9 +40,9 @@ has_no_place m s told = record { said = []; mail = refl; all = refl; noted = ref
 one_claims : (told : Told) → filter_map claim_by (record told { why = Fired } ∷ record told { why = Late } ∷ []) ≡ Claims told.group told.laterals ∷ []
 one_claims told = refl
 
--- Of three messages from number 7 on each is noted with its number.
+-- Of three messages from number 7 on each is noted with its number, and what is told with the nodes that it names.
 noted : (told : Told) (page : PlainReported) (standing : Standing)
-    → notes_from 7 (SaysTold told ∷ SaysReported page ∷ SaysStanding standing ∷ []) ≡ Speaks told.group.id 7 ∷ Speaks page.group.id 8 ∷ Says standing 9 ∷ []
+    → notes_from 7 (SaysTold told ∷ SaysReported page ∷ SaysStanding standing ∷ []) ≡ Names told.group.id told.crumbs 7 ∷ Speaks page.group.id 8 ∷ Says standing 9 ∷ []
 noted told page standing = refl
 
 -- A chunk at the front is taken by one act, which tells nothing, nor does a turn.

@@ -1,6 +1,5 @@
 -- The hand of an intake: which chunk is first, what is said of it at its first offer, and what becomes of its buffer.
 use Rattle.std.specs.Prelude.{◌≡◌, ℕ, suc, Bool, true, false, [], Option, Some, None, option_and_then, slice_get, Result, Ok, Err, IsSome}
-use Rattle.hs_base.specs.declared.ids.TraceId.{TraceId}
 use Rattle.hs_base.specs.declared.told.Group.{Group}
 use Rattle.hs_words.specs.Pages.{Sheet, page_bytes}
 use Rattle.hs_words.specs.Chunks.{with_page}
@@ -16,7 +15,6 @@ use Rattle.hs_mail.specs.declared.mail.Unposted.TheVariants.{Full, TooLong, NoSp
 use Rattle.hs_law_agent.specs.Standings.{ChunkStanding, Indexed, Pinned, Reported, Evicted, Abandoned, Taken}
 use Rattle.hs_law_agent.specs.Stepping.{Answered}
 use Rattle.hs_law_agent.specs.Stepping as model
-use Rattle.hs_agent.specs.declared.hand.Left.{Left}
 use Rattle.hs_agent.specs.Leaving.{standing_of, came_back}
 use Rattle.hs_agent.specs.Runs.{Run, state_of, first_place, offered_next, IsSpent}
 use Rattle.hs_intake.specs.declared.took.Parted.{Parted}
@@ -56,12 +54,17 @@ first_page run =
 
 -- ---- what is said of it
 
--- So it left.
+-- So it left: by what its page says of itself, and its core has the number with which its lease was drawn.
 pub record IsParted (run : Run Leased) (parted : Parted) : Type 0 where
   pub taken : Taken
   pub first : first_taken run ≡ Some taken
   pub trace : parted.trace ≡ taken.sheet.header.trace
+  pub client : parted.client ≡ taken.sheet.header.client.number
+  pub page : parted.page ≡ taken.sheet.header.page
   pub left : taken.standing ≡ standing_of parted.left
+  pub buffer : Buffer Leased
+  pub next : offered_next run ≡ Some buffer
+  pub core : parted.core ≡ buffer.lease.mark
 
 -- whether what was not posted may be posted later
 abbrev pub may_wait : Unposted → Bool
@@ -99,12 +102,12 @@ pub record Waits (run : Run Leased) (mail : Letters) (fault : Unposted) : Type 0
   pub unposted : Posts mail (SaysReported page) (Err fault) mail
 
 -- what is said where the page of a reported chunk was posted or not
-abbrev pub say_by : TraceId → Left → Result ℕ Unposted → Say
-say_by trace left (Ok number) = says.Parted (record { trace = trace; left = left; unposted = None })
-say_by trace left (Err Full) = says.Waits Full
-say_by trace left (Err TooLong) = says.Parted (record { trace = trace; left = left; unposted = Some TooLong })
-say_by trace left (Err NoSpelling) = says.Parted (record { trace = trace; left = left; unposted = Some NoSpelling })
-say_by trace left (Err Ended) = says.Waits Ended
+abbrev pub say_by : Parted → Result ℕ Unposted → Say
+say_by parted (Ok number) = says.Parted parted
+say_by parted (Err Full) = says.Waits Full
+say_by parted (Err TooLong) = says.Parted (record parted { unposted = Some TooLong })
+say_by parted (Err NoSpelling) = says.Parted (record parted { unposted = Some NoSpelling })
+say_by parted (Err Ended) = says.Waits Ended
 
 abbrev pub SaysFirst : Run Leased → Word → Say → Word → Type 0
 SaysFirst run old says.Nothing new = (new ≡ old) × ((state_of run).hand ≡ [])

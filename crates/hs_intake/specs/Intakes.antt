@@ -63,7 +63,7 @@ pub data Act : Type 0 where
   TakesTrigger : (client : ℕ) (trigger : Trigger) → Act
   TakesAsk : (ask : Ask) → Act
   Turns : Act
-  -- the first of the hand is offered to the pool, which answers so; and what comes back, if it does
+  -- the pool answers so to the chunk in front, and gives it back where it did not take it
   LetsGo : (answer : Answered) (back : Option (Buffer Leased)) → Act
   -- a group is forgotten
   Forgets : (group : Group) → Act
@@ -172,10 +172,10 @@ claim_for Late told = None
 abbrev pub claim_by : Told → Option claimed.Deed
 claim_by told = claim_for told.why told
 
--- what is noted of a message with this number: that it speaks of its group
+-- what is noted of a message with this number: that it speaks of its group, and which nodes it names
 abbrev pub note_of : ℕ → Said → Option claimed.Deed
 note_of number (SaysHello hello) = None
-note_of number (SaysTold told) = Some (claimed.Speaks told.group.id number)
+note_of number (SaysTold told) = Some (claimed.Names told.group.id told.crumbs number)
 note_of number (SaysAsk ask) = None
 note_of number (SaysReported reported) = Some (claimed.Speaks reported.group.id number)
 note_of number (SaysStanding standing) = Some (claimed.Says standing number)
@@ -188,6 +188,7 @@ notes_from number (said ∷ later) = option_to_list (note_of number said) ++ not
 abbrev pub is_claim : claimed.Deed → Bool
 is_claim (claimed.Claims group laterals) = true
 is_claim (claimed.Speaks group number) = false
+is_claim (claimed.Names group nodes number) = false
 is_claim (claimed.Says standing number) = false
 is_claim claimed.LooksOn = false
 is_claim claimed.Forgets = false
@@ -195,6 +196,7 @@ is_claim claimed.Forgets = false
 abbrev pub is_note : claimed.Deed → Bool
 is_note (claimed.Claims group laterals) = false
 is_note (claimed.Speaks group number) = true
+is_note (claimed.Names group nodes number) = true
 is_note (claimed.Says standing number) = true
 is_note claimed.LooksOn = false
 is_note claimed.Forgets = false

@@ -332,13 +332,13 @@ impl Intake {
     }
 }
 
-/// Says what waits to be said, if anything does, and notes its number. What finds no place waits on.
+/// Says what waits to be said, if anything does, and notes its number, and the nodes that it names. What finds no place waits on.
 fn say(mail: &mut Mail, claims: &mut ClaimedTraces, unsaid: &mut Option<Told>)
     ensures { SaysIt mail.old claims.old unsaid.old mail.new claims.new unsaid.new }
 {
     if let Some(told) = unsaid {
         if let Ok(number) = mail.told(*told) {
-            claims.spoke(told.group.id, number);
+            claims.named(told.group.id, told.crumbs, number);
             *unsaid = None;
         }
     }

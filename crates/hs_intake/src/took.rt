@@ -80,11 +80,14 @@ pub enum Turned {
     Spent,
 }
 
-/// A chunk that is first in the hand, at its first offer: its trace, and why it left. Where it was reported, its page was posted, or this
-/// says why it cannot be.
+/// A chunk that is first in the hand, at its first offer: the trace of its page, the client that wrote it, the numbers of the core and of
+/// the page, and why it left. Where it was reported, its page was posted, or this says why it cannot be.
 #[derive(Clone, Copy, Debug, PartialEq, Eq)]
 pub struct Parted {
     pub trace: TraceId,
+    pub client: u16,
+    pub core: u64,
+    pub page: u32,
     pub left: Left,
     pub unposted: Option<Unposted>,
 }

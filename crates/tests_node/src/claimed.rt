@@ -1,7 +1,7 @@
 //! The claims of a node with four places: groups that claim all their traces or none, what is said of each, and which group is forgotten.
 
 use crate::rows::row;
-use hs_base::{Group, GroupId, Laterals, Memory, TraceId, TriggerId};
+use hs_base::{Group, GroupId, Laterals, Memory, NodeSet, TraceId, TriggerId};
 use hs_claimed::{Claimant, ClaimedTraces, Claiming};
 use hs_wire::{Losses, Standing, Wholeness};
 use std::alloc::Global;
@@ -121,6 +121,7 @@ fn is_oldest(claims: &ClaimedTraces, group: GroupId, traces: u32, last: Option<u
             group: led(group, SEVEN),
             traces,
             last,
+            told: NodeSet(0),
         })
 }
 
@@ -132,6 +133,32 @@ fn last_message(alloc: Global) -> Result<bool, Memory> {
     claims.said(&standing(ONE, SEVEN, 0, 1), 5);
     let stranger = claims.spoke(TWO, 6);
     Ok(none && !stranger && is_oldest(&claims, ONE, 3, Some(u64::MAX - 1)))
+}
+
+/// Messages named the nodes 0 and 2 for group 1, and node 1 for group 2. Both claim trace 7, and group 1 alone trace 8.
+fn named(alloc: Global) -> Result<ClaimedTraces, Memory> {
+    let mut claims = three(alloc)?;
+    claims.claim(led(TWO, SEVEN), &Laterals::none());
+    claims.named(ONE, NodeSet(1), 3);
+    claims.named(ONE, NodeSet(4), 4);
+    claims.named(TWO, NodeSet(2), 5);
+    Ok(claims)
+}
+
+fn told(alloc: Global) -> Result<bool, Memory> {
+    let mut claims = named(alloc)?;
+    let both = claims.told_for(SEVEN);
+    let one = claims.told_for(EIGHT);
+    let none = claims.told_for(TraceId(1));
+    claims.forget_oldest();
+    let left = claims.told_for(SEVEN);
+    Ok(
+        both == NodeSet(7)
+            && one == NodeSet(5)
+            && none == NodeSet(0)
+            && left == NodeSet(2)
+            && !claims.named(ONE, NodeSet(8), 6),
+    )
 }
 
 /// The group that claimed first goes with its three traces. The claim that is looked at stays, and then the first one is looked at.
@@ -182,6 +209,7 @@ fn claims(rt: HostRuntime) {
     row(&rt, "a round", a_round(rt.alloc()));
     row(&rt, "said once", said_once(rt.alloc()));
     row(&rt, "last message", last_message(rt.alloc()));
+    row(&rt, "told", told(rt.alloc()));
     row(&rt, "forgotten", forgotten(rt.alloc()));
     row(&rt, "at limits", at_limits(rt.alloc()));
 }

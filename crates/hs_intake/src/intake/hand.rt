@@ -12,7 +12,7 @@ ghost use Rattle.hs_intake.specs.Handing.{page_of, say_by, handed_by, is_given, 
 use super::Intake;
 use crate::took::{Handed, Parted, Say};
 use hs_agent::{Agent, Left};
-use hs_base::{Group, TraceId};
+use hs_base::Group;
 use hs_claimed::ClaimedTraces;
 use hs_mail::{Mail, Unposted};
 use hs_ring::Lease;
@@ -96,20 +96,18 @@ fn post(
 }
 
 /// What is said of a reported chunk, where its page was posted or not.
-fn say_by(trace: TraceId, left: Left, posted: Result<u64, Unposted>) -> Say
-    ensures { result ≡ say_by trace left posted }
+fn say_by(parted: Parted, posted: Result<u64, Unposted>) -> Say
+    ensures { result ≡ say_by parted posted }
 {
-    let unposted = match posted {
-        Ok(_) => None,
-        Err(Unposted::Full) => return Say::Waits(Unposted::Full),
-        Err(Unposted::Ended) => return Say::Waits(Unposted::Ended),
-        Err(fault) => Some(fault),
-    };
-    Say::Parted(Parted {
-        trace,
-        left,
-        unposted,
-    })
+    match posted {
+        Ok(_) => Say::Parted(parted),
+        Err(Unposted::Full) => Say::Waits(Unposted::Full),
+        Err(Unposted::Ended) => Say::Waits(Unposted::Ended),
+        Err(fault) => Say::Parted(Parted {
+            unposted: Some(fault),
+            ..parted
+        }),
+    }
 }
 
 /// Says why the first of the hand left, unless it was said before.
@@ -127,15 +125,19 @@ fn say_first(agent: &Agent<Lease>, mail: &mut Mail, claims: &mut ClaimedTraces) 
     let Some(header) = first.chunk.header() else {
         unreachable!()
     };
+    let parted = Parted {
+        trace: header.trace,
+        client: header.client.number,
+        core: first.lease.mark(),
+        page: header.page,
+        left: first.left,
+        unposted: None,
+    };
     match first.left {
         Left::Reported(group) => {
-            let posted = post(mail, claims, group, first.chunk, first.lease.mark());
-            say_by(header.trace, first.left, posted)
+            let posted = post(mail, claims, group, first.chunk, parted.core);
+            say_by(parted, posted)
         }
-        Left::Evicted { .. } | Left::Abandoned(_) => Say::Parted(Parted {
-            trace: header.trace,
-            left: first.left,
-            unposted: None,
-        }),
+        Left::Evicted { .. } | Left::Abandoned(_) => Say::Parted(parted),
     }
 }
