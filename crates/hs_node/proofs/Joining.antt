@@ -1,8 +1,8 @@
 -- How a node goes on by one part after another.
 use Rattle.std.proofs.Common.{◌≡◌, ℕ, List, [], ◌∷◌, ◌++◌, map, Option, refl, sym, ap, subst, ◌∙◌, append_assoc, append-nil}
-use Rattle.std.specs.Prelude.{filter, filter_map, fold}
+use Rattle.std.specs.Prelude.{filter_map, fold}
 use Rattle.std.specs.Option.{option_to_list}
-use Rattle.std.proofs.lemmas.List.Elements.{filter-append, filter_map-append}
+use Rattle.std.proofs.lemmas.List.Elements.{filter_map-append}
 use Rattle.std.proofs.lemmas.List.Sums.{fold-append}
 use Rattle.hs_base.specs.declared.told.Told.{Told}
 use Rattle.hs_ring.specs.Parts.{Leased}
@@ -20,7 +20,7 @@ use Rattle.hs_intake.specs.declared.took.Parted.{Parted}
 use Rattle.hs_intake.specs.Intakes.{PlainIntake, Act, after_act, life, told_in, says, Stands, Tells}
 use Rattle.hs_intake.proofs.Claiming.{map_append, mail_append}
 use Rattle.hs_intake.proofs.Acts.{life_append, told_append}
-use Rattle.hs_node.specs.Nodes.{PlainNode, told_of, page_of, Part, part_at, parts_in, posted_of, AreParted, AreNotes, Came, is_note, is_part, deed_for, GoesOn}
+use Rattle.hs_node.specs.Nodes.{PlainNode, told_of, page_of, Part, part_at, parts_in, posted_of, AreParted, Came, Heard, Note, Gone, deed_in, note_in, parted_in, AreHeard, deed_for, GoesOn}
 
 -- ---- lists
 
@@ -34,23 +34,19 @@ parted_append : (xs ys : List Part) (ps qs : List Parted) (pages more : List Pla
 parted_append [] ys [] qs pages more none second = subst (λ (l : List PlainReported). AreParted ys qs (l ++ more)) (sym none) second
 parted_append [] ys (p ∷ ps) qs pages more none second = absurd none
 parted_append (x ∷ xs) ys [] qs pages more none second = absurd none
-parted_append (x ∷ xs) ys (p ∷ ps) qs pages more (trace, (standing, (rest, is, others))) second = (
-  trace,
+parted_append (x ∷ xs) ys (p ∷ ps) qs pages more (is, (rest, first, others)) second = (
+  is,
   (
-    standing,
-    (
-      rest ++ more,
-      ap (λ (l : List PlainReported). l ++ more) is ∙ append_assoc (posted_of x p.unposted) rest more,
-      parted_append xs ys ps qs rest more others second,
-    ),
+    rest ++ more,
+    ap (λ (l : List PlainReported). l ++ more) first ∙ append_assoc (posted_of x p.unposted) rest more,
+    parted_append xs ys ps qs rest more others second,
   ),
 )
 
-notes_append : (xs ys : List (ℕ × Segment)) (ds es : List Deed) → AreNotes xs ds → AreNotes ys es → AreNotes (xs ++ ys) (ds ++ es)
-notes_append [] ys [] es none second = second
-notes_append [] ys (d ∷ ds) es none second = absurd none
-notes_append (x ∷ xs) ys [] es none second = absurd none
-notes_append (x ∷ xs) ys (d ∷ ds) es (first, others) second = (first, notes_append xs ys ds es others second)
+heard_append : (xs ys : List Heard) (s : PlainNotes) → AreHeard s xs → AreHeard (fold after s (map deed_in xs)) ys → AreHeard s (xs ++ ys)
+heard_append [] ys s first second = second
+heard_append (Note client segment deed ∷ xs) ys s (first, others) second = (first, heard_append xs ys (after s deed) others second)
+heard_append (Gone parted ∷ xs) ys s first second = heard_append xs ys (after s (deed_for parted)) first second
 
 came_append : (xs ys : List (ℕ × Segment)) (a b c : List (Incoming Segment SegmentKey)) → Came xs a b → Came ys b c → Came (xs ++ ys) a c
 came_append [] ys a b c same second = subst (λ (l : List (Incoming Segment SegmentKey)). Came ys l c) same second
@@ -90,21 +86,19 @@ on_more run a b c one next =
           ∙ ap (λ (l : List Told). filter_map told_of one.said ++ l) two.told
           ∙ sym (append_assoc (filter_map told_of one.said) (filter_map told_of two.said) (option_to_list c.intake.unsaid))
           ∙ ap (λ (l : List Told). l ++ option_to_list c.intake.unsaid) (sym (filter_map-append told_of one.said two.said));
-      parted = one.parted ++ two.parted;
-      parts =
-          subst (λ (l : List Part). AreParted l (one.parted ++ two.parted) (filter_map page_of (one.said ++ two.said))) (sym (parts_append one.acts two.acts run))
-          (subst (λ (l : List PlainReported). AreParted (parts_in run one.acts ++ parts_in later two.acts) (one.parted ++ two.parted) l) (sym (filter_map-append page_of one.said two.said))
-          (parted_append (parts_in run one.acts) (parts_in later two.acts) one.parted two.parted (filter_map page_of one.said) (filter_map page_of two.said) one.parts two.parts));
-      came = one.came ++ two.came;
-      ends = came_append one.came two.came a.segments b.segments c.segments one.ends two.ends;
       heard = one.heard ++ two.heard;
-      notes = two.notes ∙ ap (λ (n : PlainNotes). fold after n two.heard) one.notes ∙ sym (fold-append after a.notes one.heard two.heard);
-      noted =
-          subst (λ (l : List Deed). AreNotes (one.came ++ two.came) l) (sym (filter-append is_note one.heard two.heard))
-          (notes_append one.came two.came (filter is_note one.heard) (filter is_note two.heard) one.noted two.noted);
-      gone =
-          filter-append is_part one.heard two.heard ∙ ap (λ (l : List Deed). l ++ filter is_part two.heard) one.gone ∙ ap (λ (l : List Deed). map deed_for one.parted ++ l) two.gone
-          ∙ sym (map_append deed_for one.parted two.parted);
+      notes =
+          two.notes ∙ ap (λ (n : PlainNotes). fold after n (map deed_in two.heard)) one.notes
+          ∙ sym (ap (λ (ds : List Deed). fold after a.notes ds) (map_append deed_in one.heard two.heard) ∙ fold-append after a.notes (map deed_in one.heard) (map deed_in two.heard));
+      ends =
+          subst (λ (l : List (ℕ × Segment)). Came l a.segments c.segments) (sym (filter_map-append note_in one.heard two.heard))
+          (came_append (filter_map note_in one.heard) (filter_map note_in two.heard) a.segments b.segments c.segments one.ends two.ends);
+      noted = heard_append one.heard two.heard a.notes one.noted (subst (λ (n : PlainNotes). AreHeard n two.heard) one.notes two.noted);
+      parts =
+          subst (λ (l : List Part). AreParted l (filter_map parted_in (one.heard ++ two.heard)) (filter_map page_of (one.said ++ two.said))) (sym (parts_append one.acts two.acts run))
+          (subst (λ (l : List PlainReported). AreParted (parts_in run one.acts ++ parts_in later two.acts) (filter_map parted_in (one.heard ++ two.heard)) l) (sym (filter_map-append page_of one.said two.said))
+          (subst (λ (l : List Parted). AreParted (parts_in run one.acts ++ parts_in later two.acts) l (filter_map page_of one.said ++ filter_map page_of two.said)) (sym (filter_map-append parted_in one.heard two.heard))
+          (parted_append (parts_in run one.acts) (parts_in later two.acts) (filter_map parted_in one.heard) (filter_map parted_in two.heard) (filter_map page_of one.said) (filter_map page_of two.said) one.parts two.parts)));
     }
 
 -- nothing happened but what contracts of parts do not tell
@@ -116,14 +110,11 @@ on_same run old intake stands mail unsaid =
       said = [];
       mail = mail;
       told = append-nil (option_to_list old.intake.unsaid) ∙ ap (λ (o : Option Told). option_to_list o) (sym unsaid);
-      parted = [];
-      parts = refl;
-      came = [];
-      ends = refl;
       heard = [];
       notes = refl;
+      ends = refl;
       noted = tt;
-      gone = refl;
+      parts = refl;
     }
 
 pub on_nothing : (run : Run Leased) (old : PlainNode) → Stands run old.intake → GoesOn run old old
@@ -139,13 +130,9 @@ on_tells run acts old intake stands tells none =
       said = map SaysTold tells.said;
       mail = tells.mail ∙ ap (λ (ds : List letters.Deed). mail.life old.intake.mail ds) (sym (all_say tells.said));
       told = tells.all ∙ ap (λ (l : List Told). l ++ option_to_list intake.unsaid) (sym (tolds tells.said));
-      parted = [];
-      parts =
-          subst (λ (l : List Part). AreParted l [] (filter_map page_of (map SaysTold tells.said))) (sym none) (no_pages tells.said);
-      came = [];
-      ends = refl;
       heard = [];
       notes = refl;
+      ends = refl;
       noted = tt;
-      gone = refl;
+      parts = subst (λ (l : List Part). AreParted l [] (filter_map page_of (map SaysTold tells.said))) (sym none) (no_pages tells.said);
     }

@@ -1,3 +1,4 @@
 pub mod Joining
 pub mod Steps
 pub mod Repeating
+pub mod Told

@@ -1,5 +1,5 @@
 -- Parts that are made one after another.
-use Rattle.std.proofs.Common.{◌≡◌, ℕ, suc, ◌+◌, ◌≤◌, true, false, inl, inr, Option, Some, refl, ap, subst, arith}
+use Rattle.std.proofs.Common.{◌≡◌, ℕ, suc, ◌+◌, ◌≤◌, true, false, inl, inr, Some, refl, ap, subst, arith}
 use Rattle.std.specs.Prelude.{Bool}
 use Rattle.hs_ring.specs.Parts.{Leased}
 use Rattle.hs_agent.specs.Runs.{Run}
@@ -7,7 +7,7 @@ use Rattle.hs_intake.specs.Intakes.{PlainIntake, Stands}
 use Rattle.hs_node.specs.Nodes.{PlainNode}
 use Rattle.hs_claimed.specs.declared.answers.Claim.{Claim}
 use Rattle.hs_claimed.specs.Claims.{current}
-use Rattle.hs_whole.specs.Notes.{standing_of}
+use Rattle.hs_node.specs.Told.{node_standing}
 use Rattle.hs_intake.specs.declared.took.Stated.{Stated}
 use Rattle.hs_intake.specs.declared.took.Stated.TheVariants as stated
 use Rattle.hs_intake.specs.Taking.{StatesIt}
@@ -28,7 +28,7 @@ until_full part most run count old new full does = record { count = count; few =
 
 -- a standing of the claim that is looked at is said, is no news, or waits
 pub stated_next : (run : Run Leased) (old : PlainNode) (claim : Claim) (did : Stated) (intake : PlainIntake) → current old.intake.claims ≡ Some claim
-    → StatesIt old.intake (standing_of old.notes claim.trace claim.group) did intake → StatesNext (is_stated did) run old (record old { intake = intake })
+    → StatesIt old.intake (node_standing old.notes old.intake.claims claim) did intake → StatesNext (is_stated did) run old (record old { intake = intake })
 stated_next run old claim stated.Said intake at states = (claim, stated.Said, refl, at, states, refl)
 stated_next run old claim stated.Known intake at states = (claim, stated.Known, refl, at, states, refl)
 stated_next run old claim (stated.Waits fault) intake at states =

@@ -1,7 +1,8 @@
 -- How a node goes on by each part of a pass.
 use Rattle.std.proofs.Common.{◌≡◌, ℕ, Bool, true, false, if◌then◌else◌, inl, inr, List, [], ◌∷◌, ◌++◌, map, Option, Some, None, refl, sym, ap, subst, ◌∙◌, append-nil}
-use Rattle.std.specs.Prelude.{Result, Ok, Err, OnOk, OnErr, filter, filter_map, fold, option_map, nat_le}
-use Rattle.std.specs.Option.{option_to_list}
+use Rattle.std.specs.Prelude.{Result, Ok, Err, OnOk, OnErr, filter_map, fold, option_map, nat_le}
+use Rattle.std.specs.Option.{option_to_list, option_map_or}
+use Rattle.hs_words.specs.Buffers.{Buffer}
 use Rattle.hs_base.specs.declared.told.Told.{Told}
 use Rattle.hs_ring.specs.Parts.{Leased}
 use Rattle.hs_agent.specs.Runs.{Run}
@@ -9,7 +10,7 @@ use Rattle.hs_claimed.specs.Claims.{PlainClaims, advanced, after_said}
 use Rattle.hs_link.specs.Contents.{Incoming}
 use Rattle.hs_live.specs.Live.{ReceivesAt}
 use Rattle.hs_law_agent.specs.Standings.{Taken}
-use Rattle.hs_mail.specs.Letters.{Letters, Says, Posts}
+use Rattle.hs_mail.specs.Letters.{Letters, Says}
 use Rattle.hs_mail.specs.Letters as letters
 use Rattle.hs_mail.specs.Lives as mail
 use Rattle.hs_mail.specs.declared.mail.Unposted.{Unposted}
@@ -18,13 +19,11 @@ use Rattle.hs_wire.specs.declared.message.Standing.{Standing}
 use Rattle.hs_node_client.specs.declared.segment.Segment.{Segment}
 use Rattle.hs_node_client.specs.declared.segment.SegmentKey.{SegmentKey}
 use Rattle.hs_node_client.specs.declared.segment.SegmentState.{SegmentState}
-use Rattle.hs_node_client.specs.declared.segment.SegmentState.TheVariants.{Opened, Closed}
-use Rattle.hs_agent.specs.declared.hand.Left.{Left}
-use Rattle.hs_agent.specs.declared.hand.Left.TheVariants.{Reported, Evicted, Abandoned}
-use Rattle.hs_base.specs.declared.ids.TraceId.{TraceId}
+use Rattle.hs_node_client.specs.declared.segment.SegmentState.TheVariants.{Opened, Closed, Refused, Led}
 use Rattle.hs_node_client.specs.declared.segment.SegmentCounts.{SegmentCounts}
-use Rattle.hs_whole.specs.Notes.{PlainNotes, missed, searched, finds_place, opened, closed, after_opened, after_closed}
-use Rattle.hs_whole.specs.History.{Deed, Opens, Closes, Misses, Drops, after}
+use Rattle.hs_base.specs.declared.node_set.NodeSet.{NodeSet}
+use Rattle.hs_whole.specs.Notes.{PlainNotes, missed, searched, finds_place, after_opened, after_closed, after_refused, after_led}
+use Rattle.hs_whole.specs.History.{Deed, Misses, Drops, after}
 use Rattle.hs_intake.specs.declared.took.Took.{Took}
 use Rattle.hs_intake.specs.declared.took.TookTriggers.{TookTriggers}
 use Rattle.hs_intake.specs.declared.took.Turned.{Turned}
@@ -37,7 +36,7 @@ use Rattle.hs_intake.specs.Intakes.{PlainIntake, Waiting, Chunk, Crumbs, Trigger
 use Rattle.hs_intake.specs.Taking.{TakesLine, TakesTriggers, TakesAsks, TakesBack, MakesTurn, ForgetsOldest, StatesIt}
 use Rattle.hs_intake.specs.Handing.{first_taken, first_page, was_offered, word_of, PostsPage, HandsOut}
 use Rattle.hs_intake.proofs.Acts.{said_since}
-use Rattle.hs_node.specs.Nodes.{PlainNode, told_of, page_of, Part, part_of, part_at, parts_in, AreParted, posted_of, report_of, note_if, IsNoteOf, NotesIt, AreNotes, Receives, is_note, is_part, deed_if, deed_for, GoesOn, GoesOnIf, is_unspent}
+use Rattle.hs_node.specs.Nodes.{PlainNode, told_of, page_of, Part, part_of, part_at, parts_in, IsPart, AreParted, posted_of, report_of, place_of, note_if, note_of, HearsIf, NotesIt, Receives, Note, Gone, deed_for, GoesOn, GoesOnIf, is_unspent}
 use Rattle.hs_node.proofs.Joining.{on_same, on_nothing, on_tells, tolds, no_pages, all_say}
 
 -- ---- what the agent takes
@@ -77,14 +76,11 @@ counted run old intake limited on =
       said = on.said;
       mail = on.mail;
       told = on.told;
-      parted = on.parted;
-      parts = on.parts;
-      came = on.came;
-      ends = on.ends;
       heard = on.heard;
       notes = on.notes;
+      ends = on.ends;
       noted = on.noted;
-      gone = on.gone;
+      parts = on.parts;
     }
 
 pub triggers_on : (run : Run Leased) (client : ℕ) (old : PlainNode) (took : TookTriggers) (intake : PlainIntake) (limited : ℕ) → Stands run old.intake → TakesTriggers run client old.intake took intake
@@ -129,14 +125,11 @@ say_on run old m claims unsaid stands says_it =
       said = map SaysTold says_it.said;
       mail = says_it.mail ∙ ap (λ (ds : List letters.Deed). mail.life old.intake.mail ds) (sym (all_say says_it.said));
       told = append-nil (option_to_list old.intake.unsaid) ∙ says_it.all ∙ ap (λ (l : List Told). l ++ option_to_list unsaid) (sym (tolds says_it.said));
-      parted = [];
-      parts = no_pages says_it.said;
-      came = [];
-      ends = refl;
       heard = [];
       notes = refl;
+      ends = refl;
       noted = tt;
-      gone = refl;
+      parts = no_pages says_it.said;
     }
 
 pub state_on : (run : Run Leased) (old : PlainNode) (standing : Standing) (did : Stated) (intake : PlainIntake) → Stands run old.intake → StatesIt old.intake standing did intake
@@ -149,14 +142,11 @@ state_on run old standing stated.Said intake stands (news, (number, posts, only)
       said = SaysStanding standing ∷ [];
       mail = posts.done;
       told = append-nil (option_to_list old.intake.unsaid) ∙ ap (λ (d : PlainIntake). option_to_list d.unsaid) (sym only);
-      parted = [];
-      parts = refl;
-      came = [];
-      ends = refl;
       heard = [];
       notes = refl;
+      ends = refl;
       noted = tt;
-      gone = refl;
+      parts = refl;
     }
 state_on run old standing stated.Known intake stands (news, same) = subst (λ (d : PlainIntake). GoesOn run old (record old { intake = d })) (sym same) (on_nothing run old stands)
 state_on run old standing (stated.Waits fault) intake stands (news, (same, posts)) = subst (λ (d : PlainIntake). GoesOn run old (record old { intake = d })) (sym same) (on_nothing run old stands)
@@ -174,25 +164,15 @@ forget_on run old true intake stands (one, oldest, due, only, later) =
       said = [];
       mail = ap (λ (d : PlainIntake). d.mail) only;
       told = append-nil (option_to_list old.intake.unsaid) ∙ ap (λ (d : PlainIntake). option_to_list d.unsaid) (sym only);
-      parted = [];
-      parts = refl;
-      came = [];
-      ends = refl;
       heard = [];
       notes = refl;
+      ends = refl;
       noted = tt;
-      gone = refl;
+      parts = refl;
     }
 forget_on run old false intake stands (same, not_due) = subst (λ (d : PlainIntake). GoesOn run old (record old { intake = d })) (sym same) (on_nothing run old stands)
 
 -- ---- the hand
-
--- what is heard of a chunk that left is no note
-no_note : (trace : TraceId) (left : Left) (unposted : Option Unposted) → (filter is_note (deed_if trace left unposted ∷ []) ≡ []) × (filter is_part (deed_if trace left unposted ∷ []) ≡ deed_if trace left unposted ∷ [])
-no_note trace (Reported group) None = (refl, refl)
-no_note trace (Reported group) (Some fault) = (refl, refl)
-no_note trace (Evicted chunks traces) unposted = (refl, refl)
-no_note trace (Abandoned group) unposted = (refl, refl)
 
 -- the messages by which the first of the hand is said, and its pages
 record Spoken (old : Letters) (part : Part) (unposted : Option Unposted) (new : Letters) : Type 0 where
@@ -228,19 +208,17 @@ offered_on run old None was_given intake notes (only, ((again, same), offers)) h
       said = [];
       mail = ap (λ w. w.mail) same;
       told = append-nil (option_to_list old.intake.unsaid) ∙ ap (λ (d : PlainIntake). option_to_list d.unsaid) (sym only);
-      parted = [];
-      parts = subst (λ (l : List Part). AreParted (l ++ []) [] []) (sym (no_part run (was_offered run) (first_taken run) again)) refl;
-      came = [];
-      ends = refl;
       heard = [];
       notes = heard;
+      ends = refl;
       noted = tt;
-      gone = refl;
+      parts = subst (λ (l : List Part). AreParted (l ++ []) [] []) (sym (no_part run (was_offered run) (first_taken run) again)) refl;
     }
 offered_on run old (Some parted) was_given intake notes (only, ((fresh, (is_parted, posts)), offers)) heard =
     let taken = is_parted.taken in
     let word = spoken run old.intake intake taken (first_page run) parted.unposted refl posts in
-    let deeds = no_note parted.trace parted.left parted.unposted in
+    let core = is_parted.core ∙ sym (ap (λ (o : Option (Buffer Leased)). option_map_or (λ (buffer : Buffer Leased). buffer.lease.mark) o 0) is_parted.next) in
+    let is_it : IsPart (part_of run taken) parted = (is_parted.trace, (is_parted.client, (core, (is_parted.page, is_parted.left)))) in
     record {
       acts = LetsGo offers.answer offers.back ∷ [];
       stands = offers.stands;
@@ -249,16 +227,13 @@ offered_on run old (Some parted) was_given intake notes (only, ((fresh, (is_part
       told =
           append-nil (option_to_list old.intake.unsaid) ∙ ap (λ (d : PlainIntake). option_to_list d.unsaid) (sym only)
           ∙ ap (λ (l : List Told). l ++ option_to_list intake.unsaid) (sym word.told);
-      parted = parted ∷ [];
+      heard = Gone parted ∷ [];
+      notes = heard;
+      ends = refl;
+      noted = tt;
       parts =
           subst (λ (l : List Part). AreParted (l ++ []) (parted ∷ []) (filter_map page_of word.said)) (sym (fresh_part run taken (was_offered run) (first_taken run) fresh is_parted.first))
-          (is_parted.trace, (is_parted.left, ([], word.pages ∙ sym (append-nil (posted_of (part_of run taken) parted.unposted)), refl)));
-      came = [];
-      ends = refl;
-      heard = deed_for parted ∷ [];
-      notes = heard;
-      noted = subst (λ (l : List Deed). AreNotes [] l) (sym deeds.0) tt;
-      gone = deeds.1;
+          (is_it, ([], word.pages ∙ sym (append-nil (posted_of (part_of run taken) parted.unposted)), refl));
     }
 
 pub stopped_on : (run : Run Leased) (old : PlainNode) (intake : PlainIntake) → Stands run old.intake → intake ≡ old.intake → GoesOn run old (record old { intake = intake })
@@ -266,37 +241,23 @@ stopped_on run old intake stands same = subst (λ (d : PlainIntake). GoesOn run 
 
 -- ---- notes of segments
 
-note_alone : (client : ℕ) (segment : Segment) (state : SegmentState) → (filter is_note (note_if client segment state ∷ []) ≡ note_if client segment state ∷ []) × (filter is_part (note_if client segment state ∷ []) ≡ [])
-note_alone client segment Opened = (refl, refl)
-note_alone client segment (Closed counts) = (refl, refl)
-
-one_note : (client : ℕ) (segment : Segment) (deed : Deed) → IsNoteOf (client, segment) deed → (filter is_note (deed ∷ []) ≡ deed ∷ []) × (filter is_part (deed ∷ []) ≡ [])
-one_note client segment deed (inl is) =
-    subst (λ (d : Deed). (filter is_note (d ∷ []) ≡ d ∷ []) × (filter is_part (d ∷ []) ≡ [])) (sym is) (note_alone client segment segment.state)
-one_note client segment deed (inr (inl is)) = subst (λ (d : Deed). (filter is_note (d ∷ []) ≡ d ∷ []) × (filter is_part (d ∷ []) ≡ [])) (sym is) (refl, refl)
-one_note client segment deed (inr (inr is)) = subst (λ (d : Deed). (filter is_note (d ∷ []) ≡ d ∷ []) × (filter is_part (d ∷ []) ≡ [])) (sym is) (refl, refl)
-
 pub came_one : (client : ℕ) (segment : Segment) (old new : List (Incoming Segment SegmentKey)) → ReceivesAt client old (Some segment) new → Receives client segment old new
 came_one client segment old new (r, s, at, is, same, received, begins) = record { before = r; later = s; at = at; new_is = is; same = same; received = received }
 
 pub hear_on : (run : Run Leased) (old : PlainNode) (client : ℕ) (segment : Segment) (ends : List (Incoming Segment SegmentKey)) (notes : PlainNotes) → Stands run old.intake
     → ReceivesAt client old.segments (Some segment) ends → NotesIt old.notes client segment notes → GoesOn run old (record old { segments = ends; notes = notes })
 hear_on run old client segment ends notes stands receives (deed, is, heard) =
-    let alone = one_note client segment deed is in
     record {
       acts = [];
       stands = stands;
       said = [];
       mail = refl;
       told = append-nil (option_to_list old.intake.unsaid);
-      parted = [];
-      parts = refl;
-      came = (client, segment) ∷ [];
-      ends = (ends, came_one client segment old.segments ends receives, refl);
-      heard = deed ∷ [];
+      heard = Note client segment deed ∷ [];
       notes = heard;
-      noted = subst (λ (l : List Deed). AreNotes ((client, segment) ∷ []) l) (sym alone.0) (is, tt);
-      gone = alone.1;
+      ends = (ends, came_one client segment old.segments ends receives, refl);
+      noted = (is, tt);
+      parts = refl;
     }
 
 pub no_note_on : (run : Run Leased) (old : PlainNode) (client : ℕ) (ends : List (Incoming Segment SegmentKey)) → Stands run old.intake → ReceivesAt client old.segments None ends
@@ -304,25 +265,43 @@ pub no_note_on : (run : Run Leased) (old : PlainNode) (client : ℕ) (ends : Lis
 no_note_on run old client ends stands (r, at, same, all) =
     subst (λ (es : List (Incoming Segment SegmentKey)). GoesOn run old (record old { segments = es })) (sym same) (on_nothing run old stands)
 
-opened_if : (old new : PlainNotes) (client : ℕ) (segment : Segment) (gone found : Bool) → segment.state ≡ Opened
-    → new ≡ (if gone then missed old else if found then opened (searched old segment.trace) client segment.number segment.trace else missed (searched old segment.trace)) → NotesIt old client segment new
-opened_if old new client segment true found is heard = (Misses, inr (inl refl), heard)
-opened_if old new client segment false true is heard = (Opens client segment.number segment.trace, inl (ap (λ (s : SegmentState). note_if client segment s) (sym is)), heard)
-opened_if old new client segment false false is heard = (Drops segment.trace, inr (inr refl), heard)
+-- a note that is heard, or for which memory is wanting
+heard_if : (old new : PlainNotes) (client : ℕ) (segment : Segment) (gone found : Bool)
+    → new ≡ (if gone then missed old else if found then after old (note_of client segment) else missed (searched old segment.trace))
+    → (deed : Deed) × HearsIf gone found client segment deed × (new ≡ after old deed)
+heard_if old new client segment true found heard = (Misses, inl refl, heard)
+heard_if old new client segment false true heard = (note_of client segment, inl refl, heard)
+heard_if old new client segment false false heard = (Drops segment.trace, refl, heard)
 
-pub opened_so : {A E : Type 0} (old new : PlainNotes) (client : ℕ) (segment : Segment) (result : Result A E) → segment.state ≡ Opened → OnOk result (new ≡ after_opened old client segment.number segment.trace)
+dropped_if : (old new : PlainNotes) (client : ℕ) (segment : Segment) (gone found : Bool) → new ≡ missed (searched old segment.trace)
+    → (deed : Deed) × HearsIf gone found client segment deed × (new ≡ after old deed)
+dropped_if old new client segment true found heard = (Drops segment.trace, inr refl, heard)
+dropped_if old new client segment false true heard = (Drops segment.trace, inr refl, heard)
+dropped_if old new client segment false false heard = (Drops segment.trace, refl, heard)
+
+heard_so : {A E : Type 0} (old new : PlainNotes) (client : ℕ) (segment : Segment) (result : Result A E)
+    → OnOk result (new ≡ (if nat_le old.limits.clients client then missed old else if finds_place old segment.trace then after old (note_of client segment) else missed (searched old segment.trace)))
     → OnErr result (new ≡ missed (searched old segment.trace)) → NotesIt old client segment new
-opened_so old new client segment (Ok x) is done failed = opened_if old new client segment (nat_le old.limits.clients client) (finds_place old segment.trace) is done
-opened_so old new client segment (Err x) is done failed = (Drops segment.trace, inr (inr refl), failed)
+heard_so old new client segment (Ok x) done failed = heard_if old new client segment (nat_le old.limits.clients client) (finds_place old segment.trace) done
+heard_so old new client segment (Err x) done failed = dropped_if old new client segment (nat_le old.limits.clients client) (finds_place old segment.trace) failed
 
-closed_if : (old new : PlainNotes) (client : ℕ) (segment : Segment) (counts : SegmentCounts) (gone found : Bool) → segment.state ≡ Closed counts
-    → new ≡ (if gone then missed old else if found then closed (searched old segment.trace) client segment.number segment.trace (report_of counts) else missed (searched old segment.trace)) → NotesIt old client segment new
-closed_if old new client segment counts true found is heard = (Misses, inr (inl refl), heard)
-closed_if old new client segment counts false true is heard =
-    (Closes client segment.number segment.trace (report_of counts), inl (ap (λ (s : SegmentState). note_if client segment s) (sym is)), heard)
-closed_if old new client segment counts false false is heard = (Drops segment.trace, inr (inr refl), heard)
+-- what is heard in each state of the segment
+abbrev Comes : {A E : Type 0} → Result A E → PlainNotes → ℕ → Segment → SegmentState → PlainNotes → Type 0
+Comes result old client segment state new =
+    OnOk result (new ≡ (if nat_le old.limits.clients client then missed old else if finds_place old segment.trace then after old (note_if client segment state) else missed (searched old segment.trace)))
+
+pub opened_so : {A E : Type 0} (old new : PlainNotes) (client : ℕ) (segment : Segment) (result : Result A E) → segment.state ≡ Opened → OnOk result (new ≡ after_opened old client segment.number segment.trace (place_of segment))
+    → OnErr result (new ≡ missed (searched old segment.trace)) → NotesIt old client segment new
+opened_so old new client segment result is done failed = heard_so old new client segment result (subst (λ (s : SegmentState). Comes result old client segment s new) (sym is) done) failed
 
 pub closed_so : {A E : Type 0} (old new : PlainNotes) (client : ℕ) (segment : Segment) (counts : SegmentCounts) (result : Result A E) → segment.state ≡ Closed counts
-    → OnOk result (new ≡ after_closed old client segment.number segment.trace (report_of counts)) → OnErr result (new ≡ missed (searched old segment.trace)) → NotesIt old client segment new
-closed_so old new client segment counts (Ok x) is done failed = closed_if old new client segment counts (nat_le old.limits.clients client) (finds_place old segment.trace) is done
-closed_so old new client segment counts (Err x) is done failed = (Drops segment.trace, inr (inr refl), failed)
+    → OnOk result (new ≡ after_closed old client segment.number segment.trace (place_of segment) (report_of counts)) → OnErr result (new ≡ missed (searched old segment.trace)) → NotesIt old client segment new
+closed_so old new client segment counts result is done failed = heard_so old new client segment result (subst (λ (s : SegmentState). Comes result old client segment s new) (sym is) done) failed
+
+pub refused_so : {A E : Type 0} (old new : PlainNotes) (client : ℕ) (segment : Segment) (result : Result A E) → segment.state ≡ Refused → OnOk result (new ≡ after_refused old client segment.number segment.trace)
+    → OnErr result (new ≡ missed (searched old segment.trace)) → NotesIt old client segment new
+refused_so old new client segment result is done failed = heard_so old new client segment result (subst (λ (s : SegmentState). Comes result old client segment s new) (sym is) done) failed
+
+pub led_so : {A E : Type 0} (old new : PlainNotes) (client : ℕ) (segment : Segment) (nodes : NodeSet) (result : Result A E) → segment.state ≡ Led nodes → OnOk result (new ≡ after_led old client segment.number segment.trace nodes)
+    → OnErr result (new ≡ missed (searched old segment.trace)) → NotesIt old client segment new
+led_so old new client segment nodes result is done failed = heard_so old new client segment result (subst (λ (s : SegmentState). Comes result old client segment s new) (sym is) done) failed

@@ -1,4 +1,5 @@
 pub mod Nodes
+pub mod Told
 pub mod Passing
 pub mod NodeLayout
 pub mod Made

@@ -1,7 +1,7 @@
 -- What contracts see of a node, and how it goes on: by acts of its agent's model, by messages that are said, and by what it hears of its
 -- segments.
-use Rattle.std.specs.Prelude.{◌≡◌, ℕ, ◌⊎◌, Bool, true, false, List, [], ◌∷◌, ◌++◌, map, fold, filter, filter_map, option_map, slice_set, Option, Some, None, if◌then◌else◌}
-use Rattle.std.specs.Option.{option_to_list}
+use Rattle.std.specs.Prelude.{◌≡◌, ℕ, ◌⊎◌, Bool, true, false, List, [], ◌∷◌, ◌++◌, map, fold, filter_map, option_map, slice_set, nat_le, Option, Some, None, if◌then◌else◌}
+use Rattle.std.specs.Option.{option_to_list, option_map_or}
 use Rattle.hs_base.specs.declared.ids.TraceId.{TraceId}
 use Rattle.hs_base.specs.declared.told.Told.{Told}
 use Rattle.hs_wire.specs.Messages.{Said, PlainReported, SaysHello, SaysTold, SaysAsk, SaysReported, SaysStanding}
@@ -14,16 +14,18 @@ use Rattle.hs_law_agent.specs.Standings.{ChunkStanding, Taken}
 use Rattle.hs_agent.specs.declared.hand.Left.{Left}
 use Rattle.hs_agent.specs.declared.hand.Left.TheVariants.{Reported, Evicted, Abandoned}
 use Rattle.hs_agent.specs.Leaving.{standing_of}
-use Rattle.hs_agent.specs.Runs.{Run, IsSpent}
+use Rattle.hs_agent.specs.Runs.{Run, offered_next, IsSpent}
+use Rattle.hs_words.specs.Buffers.{Buffer}
 use Rattle.hs_node_client.specs.declared.segment.Segment.{Segment}
 use Rattle.hs_node_client.specs.declared.segment.SegmentCounts.{SegmentCounts}
 use Rattle.hs_node_client.specs.declared.segment.SegmentKey.{SegmentKey}
 use Rattle.hs_node_client.specs.declared.segment.SegmentState.{SegmentState}
-use Rattle.hs_node_client.specs.declared.segment.SegmentState.TheVariants.{Opened, Closed}
+use Rattle.hs_node_client.specs.declared.segment.SegmentState.TheVariants.{Opened, Closed, Refused, Led}
 use Rattle.hs_whole.specs.declared.answers.SegmentReport.{SegmentReport}
+use Rattle.hs_whole.specs.declared.page.PageName.{PageName}
 use Rattle.hs_whole.specs.declared.answers.Loss.TheVariants.{EvictedPages, AbandonedPages}
-use Rattle.hs_whole.specs.Notes.{PlainNotes}
-use Rattle.hs_whole.specs.History.{Deed, Opens, Closes, Loses, HandsOut, Misses, Drops, after}
+use Rattle.hs_whole.specs.Notes.{PlainNotes, finds_place}
+use Rattle.hs_whole.specs.History.{Deed, Opens, Closes, Refuses, Leads, Loses, HandsOut, Misses, Drops, after}
 use Rattle.hs_mail.specs.declared.mail.Unposted.{Unposted}
 use Rattle.hs_intake.specs.declared.took.Parted.{Parted}
 use Rattle.hs_intake.specs.Intakes.{PlainIntake, Act, TakesChunk, TakesCrumb, TakesTrigger, TakesAsk, Turns, LetsGo, Forgets, after_act, life, told_in, Stands}
@@ -68,14 +70,30 @@ page_of (SaysStanding standing) = None
 
 -- ---- what leaves the hand
 
--- a chunk that is first in the hand, at its first offer: how it stands, and its page, if it was reported
+-- a chunk that is first in the hand, at its first offer: the trace of its page, the client that wrote it, the numbers of the core and of
+-- the page, how it stands, and its page, if it was reported
 pub record Part : Type 0 where
   pub trace : TraceId
+  pub client : ℕ
+  pub core : ℕ
+  pub number : ℕ
   pub standing : ChunkStanding
   pub page : Option PlainReported
 
+-- the number of the core that wrote what is offered next
+abbrev pub core_of : Run Leased → ℕ
+core_of run = option_map_or (λ (buffer : Buffer Leased). buffer.lease.mark) (offered_next run) 0
+
 abbrev pub part_of : Run Leased → Taken → Part
-part_of run taken = record { trace = taken.sheet.header.trace; standing = taken.standing; page = first_page run }
+part_of run taken =
+    record {
+      trace = taken.sheet.header.trace;
+      client = taken.sheet.header.client.number;
+      core = core_of run;
+      number = taken.sheet.header.page;
+      standing = taken.standing;
+      page = first_page run;
+    }
 
 -- what leaves at an act
 abbrev pub part_at : Run Leased → Act → Option Part
@@ -97,14 +115,18 @@ abbrev pub posted_of : Part → Option Unposted → List PlainReported
 posted_of part None = option_to_list part.page
 posted_of part (Some fault) = []
 
+-- so a part left
+abbrev pub IsPart : Part → Parted → Type 0
+IsPart part parted =
+    (parted.trace ≡ part.trace) × ((parted.client ≡ part.client) × ((parted.core ≡ part.core) × ((parted.page ≡ part.number) × (part.standing ≡ standing_of parted.left))))
+
 -- So these parts left, and these pages of them were posted.
 abbrev pub AreParted : List Part → List Parted → List PlainReported → Type 0
 AreParted [] [] pages = pages ≡ []
 AreParted [] (parted ∷ others) pages = ⊥
 AreParted (part ∷ parts) [] pages = ⊥
 AreParted (part ∷ parts) (parted ∷ others) pages =
-    (parted.trace ≡ part.trace) × ((part.standing ≡ standing_of parted.left)
-    × ((rest : List PlainReported) × (pages ≡ posted_of part parted.unposted ++ rest) × AreParted parts others rest))
+    IsPart part parted × ((rest : List PlainReported) × (pages ≡ posted_of part parted.unposted ++ rest) × AreParted parts others rest)
 
 -- ---- what is heard
 
@@ -119,56 +141,72 @@ report_of c =
       long_points = c.long_points;
       spent_points = c.spent_points;
       refused_crumbs = c.refused_crumbs;
+      crumbs = c.crumbs;
     }
+
+-- where the pages of a segment begin, or behind which it ends
+abbrev pub place_of : Segment → PageName
+place_of segment = record { core = segment.core; page = segment.page }
 
 -- what a node hears by a note of a client
 abbrev pub note_if : ℕ → Segment → SegmentState → Deed
-note_if client segment Opened = Opens client segment.number segment.trace
-note_if client segment (Closed counts) = Closes client segment.number segment.trace (report_of counts)
+note_if client segment Opened = Opens client segment.number segment.trace (place_of segment)
+note_if client segment (Closed counts) = Closes client segment.number segment.trace (place_of segment) (report_of counts)
+note_if client segment Refused = Refuses client segment.number segment.trace
+note_if client segment (Led nodes) = Leads client segment.number segment.trace nodes
 
 abbrev pub note_of : ℕ → Segment → Deed
 note_of client segment = note_if client segment segment.state
 
--- It is heard, or missed, or dropped.
-abbrev pub IsNoteOf : ℕ × Segment → Deed → Type 0
-IsNoteOf came deed = (deed ≡ note_of came.0 came.1) ⊎ ((deed ≡ Misses) ⊎ (deed ≡ Drops came.1.trace))
+-- What becomes of it, where its client is there or not, and a place is found for its trace or not: it is heard, or dropped where no place
+-- is found or memory is wanting. Of a client that is not there it is missed, or dropped.
+abbrev pub HearsIf : (gone found : Bool) → ℕ → Segment → Deed → Type 0
+HearsIf true found client segment deed = (deed ≡ Misses) ⊎ (deed ≡ Drops segment.trace)
+HearsIf false true client segment deed = (deed ≡ note_of client segment) ⊎ (deed ≡ Drops segment.trace)
+HearsIf false false client segment deed = deed ≡ Drops segment.trace
+
+abbrev pub HearsAs : PlainNotes → ℕ → Segment → Deed → Type 0
+HearsAs s client segment deed = HearsIf (nat_le s.limits.clients client) (finds_place s segment.trace) client segment deed
 
 abbrev pub NotesIt : PlainNotes → ℕ → Segment → PlainNotes → Type 0
-NotesIt old client segment new = (deed : Deed) × IsNoteOf (client, segment) deed × (new ≡ after old deed)
-
--- Each of these notes of clients is heard, or missed, or dropped.
-abbrev pub AreNotes : List (ℕ × Segment) → List Deed → Type 0
-AreNotes [] [] = Unit {0}
-AreNotes [] (deed ∷ deeds) = ⊥
-AreNotes (came ∷ others) [] = ⊥
-AreNotes (came ∷ others) (deed ∷ deeds) = IsNoteOf came deed × AreNotes others deeds
+NotesIt old client segment new = (deed : Deed) × HearsAs old client segment deed × (new ≡ after old deed)
 
 -- what a node hears of a chunk that left: its page was posted, or is lost, by its cause
-abbrev pub deed_if : TraceId → Left → Option Unposted → Deed
-deed_if trace (Reported group) None = HandsOut trace
-deed_if trace (Reported group) (Some fault) = Loses trace AbandonedPages 1
-deed_if trace (Evicted chunks traces) unposted = Loses trace EvictedPages 1
-deed_if trace (Abandoned group) unposted = Loses trace AbandonedPages 1
+abbrev pub page_named : Parted → PageName
+page_named parted = record { core = parted.core; page = parted.page }
+
+abbrev pub deed_if : Parted → Left → Option Unposted → Deed
+deed_if parted (Reported group) None = HandsOut parted.client (page_named parted) parted.trace
+deed_if parted (Reported group) (Some fault) = Loses parted.trace AbandonedPages 1
+deed_if parted (Evicted chunks traces) unposted = Loses parted.trace EvictedPages 1
+deed_if parted (Abandoned group) unposted = Loses parted.trace AbandonedPages 1
 
 abbrev pub deed_for : Parted → Deed
-deed_for parted = deed_if parted.trace parted.left parted.unposted
+deed_for parted = deed_if parted parted.left parted.unposted
 
--- whether a deed is of a note, or of a chunk that left
-abbrev pub is_note : Deed → Bool
-is_note (Opens client number trace) = true
-is_note (Closes client number trace report) = true
-is_note (Loses trace loss count) = false
-is_note (HandsOut trace) = false
-is_note Misses = true
-is_note (Drops trace) = true
+-- what is heard: a note of a client, by this deed, or what became of a chunk that left
+pub data Heard : Type 0 where
+  Note : (client : ℕ) (segment : Segment) (deed : Deed) → Heard
+  Gone : (parted : Parted) → Heard
 
-abbrev pub is_part : Deed → Bool
-is_part (Opens client number trace) = false
-is_part (Closes client number trace report) = false
-is_part (Loses trace loss count) = true
-is_part (HandsOut trace) = true
-is_part Misses = false
-is_part (Drops trace) = false
+abbrev pub deed_in : Heard → Deed
+deed_in (Note client segment deed) = deed
+deed_in (Gone parted) = deed_for parted
+
+-- the notes among it, and the chunks that left
+abbrev pub note_in : Heard → Option (ℕ × Segment)
+note_in (Note client segment deed) = Some (client, segment)
+note_in (Gone parted) = None
+
+abbrev pub parted_in : Heard → Option Parted
+parted_in (Note client segment deed) = None
+parted_in (Gone parted) = Some parted
+
+-- Each note is heard as it is where all before it was heard.
+abbrev pub AreHeard : PlainNotes → List Heard → Type 0
+AreHeard s [] = Unit {0}
+AreHeard s (Note client segment deed ∷ others) = HearsAs s client segment deed × AreHeard (after s deed) others
+AreHeard s (Gone parted ∷ others) = AreHeard (after s (deed_for parted)) others
 
 -- The end of the client with this number received this note, and all other ends are as they were.
 pub record Receives (client : ℕ) (segment : Segment) (old new : List (Incoming Segment SegmentKey)) : Type 0 where
@@ -195,17 +233,14 @@ pub record GoesOn (run : Run Leased) (old new : PlainNode) : Type 0 where
   pub mail : new.intake.mail ≡ mail.life old.intake.mail (map Says said)
   -- among them what the agent told, but for the last of it, which may find no place
   pub told : option_to_list old.intake.unsaid ++ told_in run acts ≡ filter_map told_of said ++ option_to_list new.intake.unsaid
-  -- and the page of each chunk that was reported, at its first offer, unless it has no spelling or is too long
-  pub parted : List Parted
-  pub parts : AreParted (parts_in run acts) parted (filter_map page_of said)
-  -- these notes of clients came
-  pub came : List (ℕ × Segment)
-  pub ends : Came came old.segments new.segments
-  -- what is heard: each note, or that it was missed or dropped, and what became of each chunk that left
-  pub heard : List Deed
-  pub notes : new.notes ≡ fold after old.notes heard
-  pub noted : AreNotes came (filter is_note heard)
-  pub gone : filter is_part heard ≡ map deed_for parted
+  -- this is heard, one after another
+  pub heard : List Heard
+  pub notes : new.notes ≡ fold after old.notes (map deed_in heard)
+  -- of each note that came of a client
+  pub ends : Came (filter_map note_in heard) old.segments new.segments
+  pub noted : AreHeard old.notes heard
+  -- and of each chunk that left. Its page is said at its first offer, if it was reported, unless the page has no spelling or is too long
+  pub parts : AreParted (parts_in run acts) (filter_map parted_in heard) (filter_map page_of said)
 
 abbrev pub is_unspent : Turned → Bool
 is_unspent turned.Done = true

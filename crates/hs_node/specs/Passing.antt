@@ -1,5 +1,5 @@
 -- What a pass of a node does, part by part, and what each part comes to.
-use Rattle.std.specs.Prelude.{◌≡◌, ◌⊎◌, ℕ, zero, suc, ◌<◌, ◌≤◌, Bool, true, false, List, [], map, fold, length, Option, Some, None}
+use Rattle.std.specs.Prelude.{◌≡◌, ◌⊎◌, ℕ, zero, suc, ◌<◌, ◌≤◌, Bool, true, false, [], map, fold, length, Option, Some, None}
 use Rattle.std.specs.Option.{option_to_list}
 use Rattle.hs_base.specs.declared.limits.TheConstants.{MAX_TAKEN}
 use Rattle.hs_node.specs.declared.pass.TheConstants.{MOST_NOTES, MOST_OFFERS}
@@ -13,7 +13,7 @@ use Rattle.hs_mail.specs.declared.mail.Unposted.{Unposted}
 use Rattle.hs_node_client.specs.declared.segment.Segment.{Segment}
 use Rattle.hs_node_client.specs.declared.segment.SegmentKey.{SegmentKey}
 use Rattle.hs_whole.specs.Kept.{more}
-use Rattle.hs_whole.specs.Notes.{standing_of}
+use Rattle.hs_node.specs.Told.{node_standing}
 use Rattle.hs_whole.specs.History.{after}
 use Rattle.hs_intake.specs.declared.took.Took.{Took}
 use Rattle.hs_intake.specs.declared.took.TookTriggers.{TookTriggers}
@@ -64,6 +64,13 @@ Hears client true run old new =
 Hears client false run old new =
     (new ≡ old) × ((old.clients ≤ client) ⊎ ((r : Incoming Segment SegmentKey) × IsEnd client old.segments r × IsBeginning r.told r.received))
 
+-- all that have come
+abbrev pub HearsFrom : ℕ → Doing
+HearsFrom client = Until (Hears client) MOST_NOTES
+
+abbrev pub HearsAll : Doing
+HearsAll run old new = Each HearsFrom old.clients run old new
+
 abbrev pub TakesChunks : ℕ → Doing
 TakesChunks client run old new = (took : Took) × TakesLine run chunk_line client old.intake took new.intake × (new ≡ record old { intake = new.intake })
 
@@ -79,7 +86,7 @@ TakesTriggersOf client run old new =
 
 -- a client's notes, and then its chunks, crumbs, late crumbs and triggers
 abbrev pub TakesFrom : ℕ → Doing
-TakesFrom client = Then (Until (Hears client) MOST_NOTES) (Then (TakesChunks client) (Then (TakesCrumbs client) (Then (TakesLates client) (TakesTriggersOf client))))
+TakesFrom client = Then (HearsFrom client) (Then (TakesChunks client) (Then (TakesCrumbs client) (Then (TakesLates client) (TakesTriggersOf client))))
 
 abbrev pub TakesAll : Doing
 TakesAll run old new = Each TakesFrom old.clients run old new
@@ -95,8 +102,9 @@ SaysFirst run old new =
 abbrev pub TakesFront : Doing
 TakesFront run old new = (did : Bool) × TakesBack run old.intake did new.intake × (new ≡ record old { intake = new.intake })
 
+-- and at last the notes that came meanwhile
 abbrev pub Takes : Doing
-Takes = Then SaysFirst (Then TakesFront (Then TakesAll TakesAsked))
+Takes = Then SaysFirst (Then TakesFront (Then TakesAll (Then TakesAsked HearsAll)))
 
 -- ---- a turn, and the hand
 
@@ -129,11 +137,11 @@ is_stated (stated.Waits fault) = false
 -- A standing of the claim that is looked at is said, or is no news; or there is none, or it waits.
 abbrev pub StatesNext : Bool → Doing
 StatesNext true run old new =
-    (claim : Claim) × (did : Stated) × (is_stated did ≡ true) × (current old.intake.claims ≡ Some claim) × StatesIt old.intake (standing_of old.notes claim.trace claim.group) did new.intake
+    (claim : Claim) × (did : Stated) × (is_stated did ≡ true) × (current old.intake.claims ≡ Some claim) × StatesIt old.intake (node_standing old.notes old.intake.claims claim) did new.intake
     × (new ≡ record old { intake = new.intake })
 StatesNext false run old new =
     (new ≡ old) × ((current old.intake.claims ≡ None)
-    ⊎ ((claim : Claim) × (fault : Unposted) × (current old.intake.claims ≡ Some claim) × StatesIt old.intake (standing_of old.notes claim.trace claim.group) (stated.Waits fault) new.intake))
+    ⊎ ((claim : Claim) × (fault : Unposted) × (current old.intake.claims ≡ Some claim) × StatesIt old.intake (node_standing old.notes old.intake.claims claim) (stated.Waits fault) new.intake))
 
 abbrev pub LooksOn : Doing
 LooksOn run old new = new ≡ record old { intake = record old.intake { claims = advanced old.intake.claims } }

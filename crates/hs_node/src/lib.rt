@@ -3,10 +3,13 @@
 
 mod calls;
 mod hearing;
+mod laws;
 mod making;
 mod node;
 mod pass;
+mod standing;
 
+pub use laws::whole_is_said_where_crumbs_were_told;
 pub use making::{
     ASKS, CALLS, CLAIMS_MORE, MadeNode, NodeFault, PAGE_MORE, WORD_BYTES, WORDS, make_node,
 };

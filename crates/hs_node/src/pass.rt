@@ -4,16 +4,19 @@ ghost use Rattle.std.specs.Prelude.{◌≡◌, true, false};
 ghost use Rattle.hs_ring.specs.Parts.{Leased};
 ghost use Rattle.hs_agent.specs.Runs.{Run, IsSpent};
 ghost use Rattle.hs_intake.specs.Intakes.{Stands};
-ghost use Rattle.hs_node.specs.declared.pass.TheConstants.{MOST_NOTES};
 ghost use Rattle.hs_node.specs.Nodes.{GoesOn, GoesOnIf, OffersAs, PassesAs, is_unspent};
-ghost use Rattle.hs_node.specs.Passing.{Until, Hears, TakesChunks, TakesCrumbs, TakesLates, TakesTriggersOf, TakesFrom, TakesAll, TakesAsked, SaysFirst, TakesFront, Takes, Turns, OffersBy, OffersAll, StatesNext, LooksOn, StatesAll, ForgetsOne, ForgetsAll, Passes, is_stated};
+ghost use Rattle.hs_node.specs.Told.{is_told, node_standing};
+ghost use Rattle.hs_node.specs.Passing.{Hears, HearsFrom, HearsAll, TakesChunks, TakesCrumbs, TakesLates, TakesTriggersOf, TakesFrom, TakesAll, TakesAsked, SaysFirst, TakesFront, Takes, Turns, OffersBy, OffersAll, StatesNext, LooksOn, StatesAll, ForgetsOne, ForgetsAll, Passes, is_stated};
 
 use crate::hearing::{note, part};
 use crate::node::Node;
+use crate::standing::{are_told, told_standing};
 use hs_base::limits::MAX_TAKEN;
+use hs_claimed::Claim;
 use hs_intake::{Handed, Stated, Turned, receive_at};
+use hs_wire::{Standing, Wholeness};
 
-/// The most notes of a client that a pass hears. A link holds no more, so that an agent hears of a segment before it takes its pages.
+/// The most notes of a client that a pass hears at once. A link holds no more.
 pub const MOST_NOTES: u32 = 131_072;
 
 /// The most offers that a pass makes. A chunk that the pool does not take is offered again, until the numbers that found it empty are used up.
@@ -75,12 +78,22 @@ impl Node {
     /// Hears the notes of a client that have come.
     fn hear_all(&mut self, client: u16)
         ensures on { (run : Run Leased) → Stands run self.old.intake → GoesOn run self.old self.new }
-        ensures does { (run : Run Leased) → Stands run self.old.intake → Until (Hears client) MOST_NOTES run self.old self.new }
+        ensures does { (run : Run Leased) → Stands run self.old.intake → HearsFrom client run self.old self.new }
     {
         for _ in 0..MOST_NOTES {
             if !self.hear(client) {
                 return;
             }
+        }
+    }
+
+    /// Hears the notes of all clients that have come, one client after another.
+    fn hear_each(&mut self)
+        ensures on { (run : Run Leased) → Stands run self.old.intake → GoesOn run self.old self.new }
+        ensures does { (run : Run Leased) → Stands run self.old.intake → HearsAll run self.old self.new }
+    {
+        for client in 0..self.clients {
+            self.hear_all(client);
         }
     }
 
@@ -203,6 +216,31 @@ impl Node {
         true
     }
 
+    /// Whether each node to which a crumb of a claim's trace led, as far as the notes tell, was named by a message for its group, or for a group
+    /// that claims the trace. Mostly its own group's messages name them all.
+    fn is_told(&self, claim: &Claim) -> bool
+        ensures { result ≡ is_told self.now.notes self.now.intake.claims claim.now }
+    {
+        let crumbs = self.notes.crumbs(claim.trace);
+        if are_told(crumbs, self.intake.claims().told_by(claim.group)) {
+            return true;
+        }
+        are_told(crumbs, self.intake.claims().told_for(claim.trace))
+    }
+
+    /// How the node stands to a claim. It is whole or unheard only where each crumb was told.
+    fn standing(&self, claim: &Claim) -> Standing
+        ensures { result ≡ node_standing self.now.notes self.now.intake.claims claim.now }
+    {
+        let standing = self.notes.standing(claim.trace, claim.group);
+        match standing.wholeness {
+            Wholeness::WholeSince | Wholeness::UnheardSince => {
+                told_standing(self.is_told(claim), standing)
+            }
+            Wholeness::Lost | Wholeness::Unknown | Wholeness::Open => standing,
+        }
+    }
+
     /// Says how the node stands to the claim that is looked at, if that is news. Answers whether the next one may be looked at.
     fn state(&mut self) -> bool
         ensures on { (run : Run Leased) → Stands run self.old.intake → GoesOn run self.old self.new }
@@ -211,7 +249,7 @@ impl Node {
         let Some(claim) = self.intake.claims().current().copied() else {
             return false;
         };
-        let standing = self.notes.standing(claim.trace, claim.group);
+        let standing = self.standing(&claim);
         let stated = self.intake.state(&standing);
         is_stated(stated)
     }
@@ -263,7 +301,8 @@ impl Node {
         }
     }
 
-    /// Takes what waits at the front, then what the clients sent and what the hub asks.
+    /// Takes what waits at the front, then what the clients sent and what the hub asks. At last the notes are heard that came meanwhile, so
+    /// that of a page that a turn reports its segment was heard.
     fn take(&mut self)
         ensures on { (run : Run Leased) → Stands run self.old.intake → GoesOn run self.old self.new }
         ensures does { (run : Run Leased) → Stands run self.old.intake → Takes run self.old self.new }
@@ -272,10 +311,11 @@ impl Node {
         self.take_back();
         self.take_all();
         self.take_asks();
+        self.hear_each();
     }
 
-    /// Makes a pass: takes what waits at the front, of each client its notes, chunks, crumbs and triggers, and what the hub asks; makes a
-    /// turn; offers the hand to the pool; says what is news of claims; forgets settled groups.
+    /// Makes a pass: takes what waits at the front, of each client its notes, chunks, crumbs and triggers, and what the hub asks; hears the
+    /// notes that came meanwhile; makes a turn; offers the hand to the pool; says what is news of claims; forgets settled groups.
     pub fn pass(&mut self) -> Passed
         ensures on { (run : Run Leased) → Stands run self.old.intake → PassesAs run result self.old self.new }
         ensures does { (run : Run Leased) → Stands run self.old.intake → result ≡ Passed.Done → Passes run self.old self.new }

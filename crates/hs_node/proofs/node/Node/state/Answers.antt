@@ -2,6 +2,7 @@ use Rattle.hs_wire.specs.declared.message.Standing.{Standing}
 use Rattle.hs_claimed.specs.Claims.{PlainClaims, current}
 use Rattle.hs_intake.specs.Taking.{StatesIt}
 use Rattle.hs_node.specs.Passing.{StatesNext}
+use Rattle.hs_node.specs.Told.{node_standing}
 use Rattle.hs_node.proofs.Repeating.{stated_next}
 use Rattle.std.proofs.Common.{Bool, sym, subst, ◌≡◌, Some, ap, ◌∙◌}
 use Rattle.hs_intake.specs.Intakes.{Stands}
@@ -28,6 +29,7 @@ returns-clause-does c = λ run stands.
     let did = c.state-stated.result in
     let intake = c.state-stated.new.self in
     let at : current d.intake.claims ≡ Some claim = sym (ap (λ (s : PlainClaims). current s) c.claims.ensures) ∙ sym c.current.ensures ∙ sym c.copied.ensures ∙ c.in-Some.is in
-    let states = subst (λ (s : Standing). StatesIt d.intake s did intake) c.standing-standing.ensures c.state-stated.ensures in
+    let said : c.standing-standing.result ≡ node_standing d.notes d.intake.claims claim = c.standing-standing.ensures ∙ ap (λ (x : PlainNode). node_standing x.notes x.intake.claims claim) (sym c.self.view_is) in
+    let states = subst (λ (s : Standing). StatesIt d.intake s did intake) said c.state-stated.ensures in
     subst (λ (x : PlainNode). StatesNext c.is_stated.result run x (record d { intake = intake })) c.self.view_is
     (subst (λ (b : Bool). StatesNext b run d (record d { intake = intake })) (sym c.is_stated.ensures) (stated_next run d claim did intake at states))

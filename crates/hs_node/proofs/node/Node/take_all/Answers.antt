@@ -1,8 +1,7 @@
-use Rattle.std.proofs.Common.{◌≡◌, true, false, inl, inr, refl, sym, ap, subst, ◌∙◌, arith}
-use Rattle.hs_node.specs.Nodes.{GoesOn}
+use Rattle.std.proofs.Common.{refl}
 use Rattle.hs_node.specs.Passing.{TakesFrom}
 use Rattle.hs_node.proofs.Joining.{on_more, on_nothing}
-use Rattle.hs_node.proofs.Repeating.{each_more, until_stop, until_full}
+use Rattle.hs_node.proofs.Repeating.{each_more}
 use Rattle.hs_node.proofs.node.Node.take_all.Goals as goal
 
 pub loop-client-init : goal.loop-client-init

@@ -1,4 +1,3 @@
-use Rattle.std.proofs.Common.{true}
 use Rattle.hs_ring.specs.Parts.{Leased}
 use Rattle.hs_agent.specs.Runs.{Run}
 use Rattle.hs_intake.specs.Intakes.{Stands}

@@ -1,6 +1,4 @@
-use Rattle.std.proofs.Common.{ℕ, ◌∙◌, refl, sym, ap, subst}
-use Rattle.hs_ring.specs.Parts.{Leased}
-use Rattle.hs_agent.specs.Runs.{Run}
+use Rattle.std.proofs.Common.{ℕ, ◌∙◌, sym, ap, subst}
 use Rattle.hs_whole.specs.Kept.{more}
 use Rattle.hs_intake.specs.Intakes.{Stands}
 use Rattle.hs_node.specs.Nodes.{PlainNode, GoesOn}
