@@ -173,8 +173,8 @@ out_good h good = at h.receipts.out
     at None = none_good
     at (Some trace) = found_good trace h.traces.out good.out
 
-pub gives_rows : (epoch : ℕ) (limits : HubLimits) (acts : List Act) → AllBringPages acts → GivesRows (life (no_hub epoch limits) acts)
-gives_rows epoch limits acts are =
-    let h = life (no_hub epoch limits) acts in
-    let good = out_good h (life_good (no_hub epoch limits) acts are (record { waiting = tt; out = tt })) in
+pub gives_rows : (epoch : ℕ) (is_fresh : Bool) (limits : HubLimits) (acts : List Act) → AllBringPages acts → GivesRows (life (no_hub epoch is_fresh limits) acts)
+gives_rows epoch is_fresh limits acts are =
+    let h = life (no_hub epoch is_fresh limits) acts in
+    let good = out_good h (life_good (no_hub epoch is_fresh limits) acts are (record { waiting = tt; out = tt })) in
     (good.sheets, good.are, λ steps. walks (pages_out h) good.sheets steps good.order good.are)

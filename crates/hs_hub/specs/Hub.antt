@@ -1,6 +1,6 @@
 -- A hub: the groups that it follows, what lives say, the pages that it holds, and the messages that wait for their acknowledgement. What
 -- each message makes of them, and which trace may be given out.
-use Rattle.std.specs.Prelude.{◌≡◌, ℕ, ◌+◌, ◌-◌, ◌%◌, ◌^◌, ◌<◌, min, Bool, true, false, not, ◌||◌, ◌==◌, List, ◌++◌, length, fold, drop, nat_lt, nat_le, Option, Some, None, is_some, slice_get, unwrap_or, option_map, [], if◌then◌else◌}
+use Rattle.std.specs.Prelude.{◌≡◌, ℕ, ◌+◌, ◌-◌, ◌%◌, ◌^◌, ◌<◌, min, Bool, true, false, not, ◌||◌, ◌&&◌, ◌==◌, List, ◌++◌, length, fold, drop, nat_lt, nat_le, Option, Some, None, is_some, slice_get, unwrap_or, option_map, [], if◌then◌else◌}
 use Rattle.std.specs.List.{list_any}
 use Rattle.std.specs.Option.{option_map_or, option_and_then}
 use Rattle.hs_base.specs.declared.ids.NodeId.{NodeId}
@@ -37,7 +37,7 @@ use Rattle.hs_traces.specs.Traces.{PlainTraces, held_bytes, keys_in}
 use Rattle.hs_receipts.specs.declared.answers.MessageId.{MessageId}
 use Rattle.hs_receipts.specs.declared.answers.Waiting.{Waiting}
 use Rattle.hs_receipts.specs.Receipts as receipts
-use Rattle.hs_receipts.specs.Receipts.{PlainReceipts, kept, is_noted, is_known, is_for}
+use Rattle.hs_receipts.specs.Receipts.{PlainReceipts, kept, is_noted, is_known, is_for, since_of}
 use Rattle.hs_cursor.specs.Walking.{Place, Found, step}
 use Rattle.hs_saved.specs.Saved as saved
 use Rattle.hs_saved.specs.Saved.{PlainSaved, no_saved, parts_of}
@@ -48,6 +48,7 @@ use Rattle.hs_hub.specs.declared.answers.Given.{Given}
 use Rattle.hs_hub.specs.declared.answers.Given.TheVariants.{Complete, Aged, CutShort}
 use Rattle.hs_hub.specs.declared.answers.Delivered.{Delivered}
 use Rattle.hs_hub.specs.declared.answers.Delivered.TheVariants.{Held, Done, Refused, Full}
+use Rattle.hs_hub.specs.Births.{no_births, with_birth, are_sure}
 use Rattle.hs_hub.specs.Ready.{first_ready}
 
 pub record PlainHub : Type 0 where
@@ -57,31 +58,39 @@ pub record PlainHub : Type 0 where
   pub asks : ℕ
   -- passes so far
   pub passes : ℕ
+  -- whether no hub was before this one
+  pub is_fresh : Bool
+  -- of each node from which pass on its latest life is sure
+  pub births : List ℕ
   pub groups : PlainGroups
   pub standings : PlainStandings
   pub traces : PlainTraces
   pub receipts : PlainReceipts
   -- of the traces that were saved last, how many parts of each
   pub saved : PlainSaved
-  -- why the last trace was given out
+  -- why the last trace was given out, and when the first message came that waited for it
   pub why : Given
+  pub out_since : ℕ
 
 -- whether a limit is out of its range
 abbrev pub are_out : HubLimits → Bool
 are_out limits = nat_lt MOST_NODES limits.nodes || (limits.groups == 0 || (limits.hold == 0 || nat_lt limits.bytes LEAST_BYTES))
 
-abbrev pub no_hub : ℕ → HubLimits → PlainHub
-no_hub epoch limits = record {
+abbrev pub no_hub : ℕ → Bool → HubLimits → PlainHub
+no_hub epoch is_fresh limits = record {
   limits = limits;
   epoch = epoch;
   asks = 0;
   passes = 0;
+  is_fresh = is_fresh;
+  births = no_births limits.nodes is_fresh;
   groups = groups.no_groups (record { nodes = limits.nodes; groups = limits.groups; tries = limits.tries });
   standings = standings.no_standings limits.standings;
   traces = traces.no_traces (record { hold = limits.hold; outs = 1; bytes = limits.bytes });
   receipts = receipts.no_receipts limits.messages;
   saved = no_saved limits.groups;
   why = Complete;
+  out_since = 0;
 }
 
 -- ---- a message waits for a trace
@@ -103,6 +112,15 @@ room h = h.receipts.most - kept h.receipts
 
 -- ---- a node is heard, and tells of a group
 
+-- from which pass on a life is sure that is heard now: the first that a fresh hub hears of a node from the start, and each other one once
+-- as many passes went by as the age says
+abbrev pub birth_of : PlainHub → NodeId → ℕ
+birth_of h node = if h.is_fresh && groups.latest_of h.groups node == 0 then 0 else min (h.passes + h.limits.age) (2 ^ 64 - 1)
+
+-- the births where a life is heard
+abbrev pub births_after : PlainHub → NodeId → ℕ → List ℕ
+births_after h node epoch = with_birth (groups.answer_of_hear h.groups node epoch) node (birth_of h node) h.births
+
 abbrev pub delivered_of_heard : Heard → Delivered
 delivered_of_heard hearing.Known = Done
 delivered_of_heard hearing.Newer = Done
@@ -112,7 +130,7 @@ abbrev pub answer_to_hear : PlainHub → NodeId → ℕ → Delivered
 answer_to_hear h node epoch = delivered_of_heard (groups.answer_of_hear h.groups node epoch)
 
 abbrev pub after_hear : PlainHub → NodeId → ℕ → PlainHub
-after_hear h node epoch = record h { groups = groups.heard h.groups node epoch }
+after_hear h node epoch = record h { groups = groups.heard h.groups node epoch; births = births_after h node epoch }
 
 abbrev pub node_of : MessageId → NodeId
 node_of message = record { 0 = message.node }
@@ -130,6 +148,7 @@ answer_to_told h message told =
 abbrev pub after_answer_to_told : PlainHub → MessageId → Told → group_answers.Taken → PlainHub
 after_answer_to_told h message told (of_group.Taken heard) = record h {
   groups = groups.after_told h.groups (node_of message) message.epoch told;
+  births = with_birth heard (node_of message) (birth_of h (node_of message)) h.births;
   receipts = all_noted h.passes message h.receipts told;
 }
 after_answer_to_told h message told of_group.Refused = h
@@ -164,11 +183,13 @@ answer_to_page h message trace key bytes =
 abbrev pub after_added : PlainHub → MessageId → TraceId → PageKey → List ℕ → page_answers.Added → PlainHub
 after_added h message trace key bytes of_page.Added = record h {
   groups = groups.heard h.groups (node_of message) message.epoch;
+  births = births_after h (node_of message) message.epoch;
   traces = traces.with_page_of h.traces trace key bytes;
   receipts = receipts.after_wait h.receipts (waits_at h.passes message trace);
 }
 after_added h message trace key bytes of_page.Repeated = record h {
   groups = groups.heard h.groups (node_of message) message.epoch;
+  births = births_after h (node_of message) message.epoch;
   receipts = repeated h message trace key;
 }
 after_added h message trace key bytes of_page.NoPage = h
@@ -211,11 +232,13 @@ answer_to_standing h message standing =
 abbrev pub after_noted : PlainHub → MessageId → Standing → standing_answers.Noted → PlainHub
 after_noted h message standing of_standing.Noted = record h {
   groups = groups.heard h.groups (node_of message) message.epoch;
+  births = births_after h (node_of message) message.epoch;
   standings = standings.with_standing h.standings standing.trace (life_of message) (latest_at message.number standing);
   receipts = noted h.passes message h.receipts standing.trace;
 }
 after_noted h message standing of_standing.Older = record h {
   groups = groups.heard h.groups (node_of message) message.epoch;
+  births = births_after h (node_of message) message.epoch;
   receipts = noted h.passes message h.receipts standing.trace;
 }
 after_noted h message standing of_standing.Full = h
@@ -314,7 +337,12 @@ abbrev pub given : PlainTraces → TraceId → PlainTraces
 given s trace = if traces.is_out s trace || (nat_le s.limits.outs (length s.out) || not (traces.is_waiting s trace)) then s else traces.offered s trace
 
 abbrev pub after_given : PlainHub → Option (TraceId × Given) → PlainHub
-after_given h (Some trace) = record h { traces = given h.traces trace.0; receipts = receipts.after_offer h.receipts trace.0; why = trace.1 }
+after_given h (Some trace) = record h {
+  traces = given h.traces trace.0;
+  receipts = receipts.after_offer h.receipts trace.0;
+  why = trace.1;
+  out_since = unwrap_or (since_of h.receipts trace.0) 0;
+}
 after_given h None = h
 
 abbrev pub after_take : PlainHub → PlainHub
@@ -346,8 +374,12 @@ claim_out h place = option_and_then (λ trace. claim_at h.groups trace place) h.
 abbrev pub life_out : PlainHub → ℕ → Option Life
 life_out h place = option_and_then (λ trace. life_at h.standings trace place) h.receipts.out
 
+-- it is the first part of the trace, as far as that is known, and each node that it reached was sure when its first message came
+abbrev pub is_sure_of : PlainHub → TraceId → Bool
+is_sure_of h trace = parts_of h.saved trace == 0 && are_sure h.births h.out_since trace h.groups.groups
+
 abbrev pub is_whole_out : PlainHub → Bool
-is_whole_out h = option_map_or (λ trace. is_whole h.groups h.standings trace (keys_in h.traces.out trace)) h.receipts.out false
+is_whole_out h = option_map_or (λ trace. is_whole h.groups h.standings trace (keys_in h.traces.out trace) && is_sure_of h trace) h.receipts.out false
 
 -- ---- it is saved
 

@@ -1,7 +1,9 @@
+pub mod Births
 pub mod Ready
 pub mod Hub
 pub mod HubLayout
 pub mod Examples
 pub mod Life
+pub mod SureLives
 pub mod RowsOut
 pub mod ByService

@@ -10,12 +10,14 @@ ghost use Rattle.hs_traces.specs.Parts.{page_with};
 ghost use Rattle.hs_traces.specs.Traces.{page_behind};
 ghost use Rattle.hs_cursor.specs.CursorLayout.{plain as plain_row};
 ghost use Rattle.hs_cursor.specs.Walking.{row_of, place_of, step_inside, step_on};
+ghost use Rattle.hs_groups.specs.Groups.{answer_of_hear};
 ghost use Rattle.hs_wire.specs.Messages.{PlainMessage, IsMessage, message_bytes, plain};
 ghost use Rattle.hs_settings.specs.Settings.{service_of, IsServiceSettings};
 ghost use Rattle.hs_hub.specs.ByService.{limits_by};
-ghost use Rattle.hs_hub.specs.Hub.{PlainHub, IsDelivered, are_out, no_hub, noted, all_noted, answer_to_hear, after_hear, answer_to_told, after_told, answer_to_page, after_page, answer_to_standing, after_standing, IsReported, ask_of, IsWritten, IsShort, after_next, after_pass, is_pressed, aged, may_go, answer_to_take, after_take, after_saved, pages_out, next_row, is_whole_out, page_of_out, why_out, part_out, claim_out, life_out, repeated, after_named, counts_of};
+ghost use Rattle.hs_hub.specs.Hub.{PlainHub, IsDelivered, are_out, no_hub, birth_of, noted, all_noted, answer_to_hear, after_hear, answer_to_told, after_told, answer_to_page, after_page, answer_to_standing, after_standing, IsReported, ask_of, IsWritten, IsShort, after_next, after_pass, is_pressed, aged, may_go, answer_to_take, after_take, after_saved, pages_out, next_row, is_sure_of, is_whole_out, page_of_out, why_out, part_out, claim_out, life_out, repeated, after_named, counts_of};
 
 use crate::answers::{Delivered, Given, HubCounts, HubLimits, MakeFault};
+use crate::births::{are_sure, no_births, note_birth};
 use crate::limits::hub_limits;
 use crate::ready::first_ready;
 use hs_base::limits::MOST_NODES;
@@ -42,12 +44,15 @@ pub struct Hub {
     epoch: u64,
     asks: u64,
     passes: u64,
+    is_fresh: bool,
+    births: Vec<u64>,
     groups: Groups,
     standings: Standings,
     traces: Traces,
     receipts: Receipts,
     saved: Saved,
     why: Given,
+    out_since: u64,
 }
 
 impl Model for Hub {
@@ -128,15 +133,21 @@ fn note_all(receipts: &mut Receipts, told: &Told, message: MessageId, now: u64)
 }
 
 impl Hub {
-    /// A hub that has heard nothing. It speaks in the life of this epoch.
-    pub fn make(alloc: Global, epoch: u64, limits: HubLimits) -> Result<Hub, MakeFault>
-        ensures made { IfOk result (λ hub. hub ≡ no_hub epoch limits) }
+    /// A hub that has heard nothing. It speaks in the life of this epoch. It is fresh where no hub was before it, nor any life of a node
+    /// of which it will not hear: then the first life that it hears of a node is sure from the start.
+    pub fn make(
+        alloc: Global,
+        epoch: u64,
+        is_fresh: bool,
+        limits: HubLimits,
+    ) -> Result<Hub, MakeFault>
+        ensures made { IfOk result (λ hub. hub ≡ no_hub epoch is_fresh limits) }
         ensures limits { (result ≡ Err MakeFault.Limits) ↔ (are_out limits ≡ true) }
     {
         if are_out(&limits) {
             return Err(MakeFault::Limits);
         }
-        match Hub::empty(alloc, epoch, limits) {
+        match Hub::empty(alloc, epoch, is_fresh, limits) {
             Ok(hub) => Ok(hub),
             Err(_) => Err(MakeFault::Memory),
         }
@@ -146,19 +157,20 @@ impl Hub {
     pub fn by_settings(
         alloc: Global,
         epoch: u64,
+        is_fresh: bool,
         settings: &ServiceSettings,
     ) -> Result<Hub, MakeFault>
-        ensures made { IfOk result (λ hub. hub ≡ no_hub epoch (limits_by (service_of settings.now))) }
+        ensures made { IfOk result (λ hub. hub ≡ no_hub epoch is_fresh (limits_by (service_of settings.now))) }
         ensures limits { (result ≡ Err MakeFault.Limits) ↔ (are_out (limits_by (service_of settings.now)) ≡ true) }
         // Settings that were read are within all limits: then memory alone may be wanting.
         ensures valid { IsServiceSettings (service_of settings.now) → result ≢ Err MakeFault.Limits }
     {
-        Hub::make(alloc, epoch, hub_limits(settings))
+        Hub::make(alloc, epoch, is_fresh, hub_limits(settings))
     }
 
     /// A hub that has heard nothing.
-    fn empty(alloc: Global, epoch: u64, limits: HubLimits) -> Result<Hub, Memory>
-        ensures { IfOk result (λ hub. hub ≡ no_hub epoch limits) }
+    fn empty(alloc: Global, epoch: u64, is_fresh: bool, limits: HubLimits) -> Result<Hub, Memory>
+        ensures { IfOk result (λ hub. hub ≡ no_hub epoch is_fresh limits) }
     {
         let of_groups = GroupLimits {
             nodes: limits.nodes,
@@ -182,12 +194,15 @@ impl Hub {
             epoch,
             asks: 0,
             passes: 0,
+            is_fresh,
+            births: no_births(alloc, limits.nodes, is_fresh)?,
             groups,
             standings: Standings::make(alloc, limits.standings),
             traces,
             receipts: Receipts::make(alloc, limits.messages)?,
             saved: Saved::make(alloc, limits.groups)?,
             why: Given::Complete,
+            out_since: 0,
         })
     }
 
@@ -231,10 +246,32 @@ impl Hub {
         ensures answer { result ≡ answer_to_hear self.old node epoch }
         ensures after { self.new ≡ after_hear self.old node epoch }
     {
-        match self.groups.hear(node, epoch) {
+        match self.hear_life(node, epoch) {
             Heard::Refused => Delivered::Refused,
             Heard::Known | Heard::Newer => Delivered::Done,
         }
+    }
+
+    /// From which pass on a life of a node is sure that is heard now.
+    fn birth(&self, node: NodeId) -> u64
+        ensures { result ≡ birth_of self.now node }
+    {
+        if self.is_fresh && self.groups.latest(node) == 0 {
+            0
+        } else {
+            self.passes.saturating_add(self.limits.age)
+        }
+    }
+
+    /// Hears of a life.
+    fn hear_life(&mut self, node: NodeId, epoch: u64) -> Heard
+        ensures answer { result ≡ answer_of_hear self.old.groups node epoch }
+        ensures after { self.new ≡ after_hear self.old node epoch }
+    {
+        let birth = self.birth(node);
+        let heard = self.groups.hear(node, epoch);
+        note_birth(&mut self.births, heard, node, birth);
+        heard
     }
 
     /// A node tells of a group, in this message. After each answer but `Held` all is as it was. Takes no memory.
@@ -245,10 +282,13 @@ impl Hub {
         if self.receipts.room() <= told.laterals.len() as usize {
             return Delivered::Full;
         }
-        match self.groups.told(NodeId(message.node), message.epoch, told) {
+        let node = NodeId(message.node);
+        let birth = self.birth(node);
+        match self.groups.told(node, message.epoch, told) {
             Taken::Refused => Delivered::Refused,
             Taken::Full => Delivered::Full,
-            Taken::Taken(_) => {
+            Taken::Taken(heard) => {
+                note_birth(&mut self.births, heard, node, birth);
                 note_all(&mut self.receipts, told, message, self.passes);
                 Delivered::Held
             }
@@ -308,7 +348,7 @@ impl Hub {
             Added::Full => return Ok(Delivered::Full),
             Added::NoPage | Added::Foreign => return Ok(Delivered::Refused),
         }
-        self.groups.hear(NodeId(message.node), message.epoch);
+        self.hear_life(NodeId(message.node), message.epoch);
         Ok(Delivered::Held)
     }
 
@@ -348,7 +388,7 @@ impl Hub {
             Noted::Noted | Noted::Older => {}
         }
         note(&mut self.receipts, standing.trace, message, self.passes);
-        self.groups.hear(NodeId(message.node), message.epoch);
+        self.hear_life(NodeId(message.node), message.epoch);
         Ok(Delivered::Held)
     }
 
@@ -443,6 +483,7 @@ impl Hub {
             return None;
         }
         let (trace, why) = self.may_go()?;
+        self.out_since = self.receipts.since(trace).unwrap_or(0);
         self.traces.offer(trace);
         self.receipts.offer(trace);
         self.why = why;
@@ -539,6 +580,13 @@ impl Hub {
         }
     }
 
+    /// Whether the trace that is out is in its first part, and each node that it reached was sure when its first message came.
+    fn is_sure_of(&self, trace: TraceId) -> bool
+        ensures { result ≡ is_sure_of self.now trace }
+    {
+        self.saved.parts(trace) == 0 && are_sure(&self.births, self.out_since, trace, &self.groups)
+    }
+
     /// Whether the trace that is out is whole. `false` where none is.
     pub fn is_whole(&self) -> Result<bool, Memory>
         ensures { IfOk result (λ whole. whole ≡ is_whole_out self.now) }
@@ -547,7 +595,10 @@ impl Hub {
             return Ok(false);
         };
         let pages = self.traces.page_keys(trace)?;
-        Ok(is_whole(&self.groups, &self.standings, trace, pages.as_slice()))
+        Ok(
+            is_whole(&self.groups, &self.standings, trace, pages.as_slice())
+                && self.is_sure_of(trace),
+        )
     }
 
     /// Notes that the trace that is out was saved, and answers which that is. Takes no memory.

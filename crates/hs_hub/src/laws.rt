@@ -1,13 +1,14 @@
 //! Laws of a hub. Each is the contract of a function that does nothing.
 
-ghost use Rattle.std.specs.Prelude.{◌≡◌, ℕ, List};
+ghost use Rattle.std.specs.Prelude.{◌≡◌, ℕ, Bool, true, List, Some};
 ghost use Rattle.hs_base.specs.declared.ids.TraceId.{TraceId};
 ghost use Rattle.hs_traces.specs.Traces.{part_of};
 ghost use Rattle.hs_traces.specs.History.{HoldsNothing, HearsAll, AreSamePages, after_all, pages_of};
 ghost use Rattle.hs_hub.specs.declared.answers.HubLimits.{HubLimits};
-ghost use Rattle.hs_hub.specs.Hub.{PlainHub, no_hub};
+ghost use Rattle.hs_hub.specs.Hub.{PlainHub, no_hub, is_whole_out};
 ghost use Rattle.hs_hub.specs.Life.{Act, life, all_deeds};
 ghost use Rattle.hs_hub.specs.RowsOut.{AllBringPages, GivesRows};
+ghost use Rattle.hs_hub.specs.SureLives.{IsOfSureLives};
 
 /// Whatever calls a hub has had: its pages are those that came, less what was given out and saved.
 pub fn pages_come_and_go()
@@ -28,5 +29,15 @@ pub fn messages_decide_the_part()
 /// Where each page that came is one, as `reported` takes no other: whatever calls a hub has had, what is out are pages, and the steps of
 /// a cursor answer their rows one by one in their order, each once, and then none.
 pub fn rows_are_of_what_came()
-    ensures { (epoch : ℕ) (limits : HubLimits) (acts : List Act) → AllBringPages acts → GivesRows (life (no_hub epoch limits) acts) }
+    ensures { (epoch : ℕ) (is_fresh : Bool) (limits : HubLimits) (acts : List Act) → AllBringPages acts → GivesRows (life (no_hub epoch is_fresh limits) acts) }
+{}
+
+/// Whatever calls a hub has had: a trace is called whole only in its first part, and where the latest life of each node that a group which
+/// claims it reached was sure when the trace's first message came. That is `age` passes after the life was heard first, or from the start
+/// on for the first life that a fresh hub hears of a node.
+pub fn whole_is_said_of_sure_lives()
+    ensures { (epoch : ℕ) (is_fresh : Bool) (limits : HubLimits) (acts : List Act) (trace : TraceId)
+        → (life (no_hub epoch is_fresh limits) acts).receipts.out ≡ Some trace
+        → is_whole_out (life (no_hub epoch is_fresh limits) acts) ≡ true
+        → IsOfSureLives (no_hub epoch is_fresh limits) acts trace }
 {}

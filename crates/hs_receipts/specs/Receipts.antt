@@ -1,7 +1,7 @@
 -- The messages that wait until the traces that they serve are saved. A message waits once for each trace that it serves. One trace is
 -- out at a time: given out and not saved. When it is saved, the messages that it was served by may be acknowledged, but for those that
 -- wait for another trace still.
-use Rattle.std.specs.Prelude.{◌≡◌, ℕ, ◌+◌, Bool, true, false, not, ◌&&◌, ◌||◌, ◌==◌, List, [], ◌∷◌, ◌++◌, length, map, filter, nat_le, Option, Some, None, is_none, if◌then◌else◌, refl}
+use Rattle.std.specs.Prelude.{◌≡◌, ℕ, ◌+◌, Bool, true, false, not, ◌&&◌, ◌||◌, ◌==◌, List, [], ◌∷◌, ◌++◌, length, map, filter, find, nat_le, Option, Some, None, is_none, option_map, if◌then◌else◌, refl}
 use Rattle.std.specs.List.{list_any}
 use Rattle.std.specs.Option.{option_map_or}
 use Rattle.hs_base.specs.declared.ids.TraceId.{TraceId}
@@ -58,6 +58,10 @@ waits_elsewhere waiting message = list_any (λ waits. is_message message waits.m
 abbrev pub is_known : PlainReceipts → MessageId → Bool
 is_known s message = waits_elsewhere s.waiting message || list_any (is_message message) s.served
 
+-- the pass in which the first of those messages came that wait for a trace that is not out
+abbrev pub since_of : PlainReceipts → TraceId → Option ℕ
+since_of s trace = option_map (λ (waits : Waiting). waits.since) (find (is_for trace) s.waiting)
+
 -- ---- a message comes
 
 abbrev pub answer_to_wait : PlainReceipts → Answer
@@ -111,6 +115,10 @@ three = after_wait (after_wait (after_wait (no_receipts 4) (waits 8 1)) (waits 9
 
 waits_twice : (kept three ≡ 3) × (is_noted three (t 9) (m 2) ≡ true) × (is_noted three (t 8) (m 2) ≡ false)
 waits_twice = (refl, refl, refl)
+
+-- the first message for trace 9 came in pass 20, and a later one changes nothing of that
+since : (since_of (after_wait three (record (waits 9 4) { since = 25 })) (t 9) ≡ Some 20) × (since_of three (t 7) ≡ None)
+since = (refl, refl)
 
 -- trace 9 is out: no other may be, and message 3 comes for it meanwhile
 abbrev out_9 : PlainReceipts

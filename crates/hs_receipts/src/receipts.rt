@@ -1,9 +1,9 @@
 //! All messages that are kept.
 
-ghost use Rattle.std.specs.Prelude.{◌≡◌, ◌+◌, ◌-◌, ◌≤◌, ◌++◌, ◌||◌, not, nat_le, is_none, length, filter, drop, slice_get, vec_len, vec_capacity, IfOk, option_copied};
+ghost use Rattle.std.specs.Prelude.{◌≡◌, ◌+◌, ◌-◌, ◌≤◌, ◌++◌, ◌||◌, not, nat_le, is_none, length, filter, find, drop, slice_get, vec_len, vec_capacity, IfOk, option_copied};
 ghost use Rattle.std.specs.VecDeque.{deque_len, deque_capacity};
 ghost use Rattle.std.specs.List.{list_any};
-ghost use Rattle.hs_receipts.specs.Receipts.{PlainReceipts, no_receipts, is_message, is_for, is_out, waits_for, is_noted, is_known, messages_for, answer_to_wait, after_wait, answer_to_join, after_join, after_offer, waits_elsewhere, after_saved, counts_of, kept};
+ghost use Rattle.hs_receipts.specs.Receipts.{PlainReceipts, no_receipts, is_message, is_for, is_out, waits_for, is_noted, is_known, messages_for, since_of, answer_to_wait, after_wait, answer_to_join, after_join, after_offer, waits_elsewhere, after_saved, counts_of, kept};
 
 use crate::answers::{MessageId, Noted, ReceiptCounts, Waiting};
 use hs_base::{Memory, TraceId};
@@ -131,6 +131,16 @@ impl Receipts {
         self.waiting.first().copied()
     }
 
+    /// The pass in which the first message came of those that wait for this trace, which is not out.
+    pub fn since(&self, trace: TraceId) -> Option<u64>
+        ensures { result ≡ since_of self.now trace }
+    {
+        match first_for(&self.waiting, trace) {
+            Some(waits) => Some(waits.since),
+            None => None,
+        }
+    }
+
     /// The trace that is out.
     pub fn out(&self) -> Option<TraceId>
         ensures { result ≡ self.now.out }
@@ -211,6 +221,13 @@ fn waits_at_all(waiting: &[Waiting], trace: TraceId) -> bool
     ensures { result ≡ list_any (is_for trace) waiting.now }
 {
     waiting.iter().any(|waits| trace == waits.trace)
+}
+
+/// The first message that waits for a trace.
+fn first_for(waiting: &[Waiting], trace: TraceId) -> Option<&Waiting>
+    ensures { option_copied result ≡ find (is_for trace) waiting.now }
+{
+    waiting.iter().find(|waits| trace == waits.trace)
 }
 
 /// Whether a message is among these.

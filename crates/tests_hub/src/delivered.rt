@@ -90,7 +90,7 @@ fn settings_make_a_hub(alloc: Global) -> Result<bool, Memory> {
     let Ok(settings) = read_settings(alloc, b"") else {
         return Err(Memory);
     };
-    match Hub::by_settings(alloc, 1, &settings) {
+    match Hub::by_settings(alloc, 1, true, &settings) {
         Ok(hub) => Ok(hub.counts().messages == 0),
         Err(_) => Err(Memory),
     }

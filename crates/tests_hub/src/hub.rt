@@ -26,7 +26,12 @@ pub(crate) const LIMITS: HubLimits = HubLimits {
 };
 
 pub(crate) fn made(alloc: Global, limits: HubLimits) -> Result<Hub, Memory> {
-    match Hub::make(alloc, 3, limits) {
+    made_so(alloc, true, limits)
+}
+
+/// A hub that is fresh, or not.
+fn made_so(alloc: Global, is_fresh: bool, limits: HubLimits) -> Result<Hub, Memory> {
+    match Hub::make(alloc, 3, is_fresh, limits) {
         Ok(hub) => Ok(hub),
         Err(_) => Err(Memory),
     }
@@ -102,18 +107,55 @@ fn named(hub: &mut Hub) -> u32 {
 }
 
 /// Node 0 tells of the group with a crumb to node 1, which answers and heard nothing.
+fn tell_of(hub: &mut Hub) {
+    tell(hub, 0, 1, 2, Why::Fired);
+    report(hub, 2);
+    tell(hub, 1, 1, 0, Why::Answer);
+    stand(hub, 1, 2, Wholeness::UnheardSince);
+}
+
 fn told_of(alloc: Global) -> Result<Hub, Memory> {
     let mut hub = made(alloc, LIMITS)?;
-    tell(&mut hub, 0, 1, 2, Why::Fired);
-    report(&mut hub, 2);
-    tell(&mut hub, 1, 1, 0, Why::Answer);
-    stand(&mut hub, 1, 2, Wholeness::UnheardSince);
+    tell_of(&mut hub);
     Ok(hub)
+}
+
+/// So many passes go by, then all of it comes, and the trace is given out: whether it is whole.
+fn whole_after(hub: &mut Hub, passes: u32) -> Option<bool> {
+    for _pass in 0..passes {
+        hub.pass();
+    }
+    tell_of(hub);
+    stand(hub, 0, 3, Wholeness::WholeSince);
+    hub.take();
+    whole(hub)
+}
+
+/// Node 1 began life 5 before any pass: it is sure for what comes in the tenth pass.
+fn a_young_life(alloc: Global, passes: u32, is_whole: bool) -> Result<bool, Memory> {
+    let mut hub = made(alloc, LIMITS)?;
+    hub.hear(NodeId(1), 4);
+    hub.hear(NodeId(1), 5);
+    Ok(whole_after(&mut hub, passes) == Some(is_whole))
+}
+
+/// A hub that is not the first hears both lives before any pass.
+fn a_later_hub(alloc: Global, passes: u32, is_whole: bool) -> Result<bool, Memory> {
+    let mut hub = made_so(alloc, false, LIMITS)?;
+    hub.hear(NodeId(0), 5);
+    hub.hear(NodeId(1), 5);
+    Ok(whole_after(&mut hub, passes) == Some(is_whole))
+}
+
+/// It hears of them by the trace's messages.
+fn a_later_hub_hears_late(alloc: Global) -> Result<bool, Memory> {
+    let mut hub = made_so(alloc, false, LIMITS)?;
+    Ok(whole_after(&mut hub, 10) == Some(false))
 }
 
 fn limits_are_refused(alloc: Global) -> Result<bool, Memory> {
     let limits = HubLimits { hold: 0, ..LIMITS };
-    Ok(matches!(Hub::make(alloc, 3, limits), Err(MakeFault::Limits)))
+    Ok(matches!(Hub::make(alloc, 3, true, limits), Err(MakeFault::Limits)))
 }
 
 /// With node 0's word it is given out, and whole. Five messages are named when it is saved.
@@ -207,6 +249,11 @@ fn a_hub(rt: HostRuntime) {
     row(&rt, "limits", limits_are_refused(alloc));
     row(&rt, "whole", a_whole_trace(alloc));
     row(&rt, "open", an_open_life(alloc));
+    row(&rt, "young", a_young_life(alloc, 9, false));
+    row(&rt, "of age", a_young_life(alloc, 10, true));
+    row(&rt, "later hub", a_later_hub(alloc, 9, false));
+    row(&rt, "later hub of age", a_later_hub(alloc, 10, true));
+    row(&rt, "late", a_later_hub_hears_late(alloc));
     row(&rt, "repeat", a_repeat(alloc));
     row(&rt, "limit", at_a_limit(alloc));
     row(&rt, "asks", asks(alloc));
