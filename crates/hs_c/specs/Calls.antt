@@ -23,6 +23,10 @@ IsIdle old code new = (old.live ≡ 1 → ⊥) → (code ≡ VACANT) × (new ≡
 abbrev pub Calls : (PlainNodeClient → Called → PlainNodeClient → Type 0) → HindClient → ℕ → HindClient → Type 0
 Calls does old code new = (client : PlainNodeClient) → Holds old client → (called : Called) × (after : PlainNodeClient) × (code ≡ code_of called) × Holds new after × does client called after
 
+-- The client behind the handle does this, with this code. The same handle holds what it is then.
+abbrev pub DoesClient : (PlainNodeClient → ℕ → PlainNodeClient → Type 0) → HindClient → ℕ → HindClient → Type 0
+DoesClient does old code new = (client : PlainNodeClient) → Holds old client → (after : PlainNodeClient) × Holds new after × does client code after
+
 -- What waits is put through, and the number that still waits is written.
 abbrev pub Flushes : HindClient → ℕ → ℕ → HindClient → Type 0
 Flushes old code waits new = (client : PlainNodeClient) → Holds old client → (after : PlainNodeClient) × (code ≡ DONE) × Holds new after × PutsThrough client.live after.live × (waits ≡ waiting after)

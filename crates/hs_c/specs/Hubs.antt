@@ -1,5 +1,5 @@
 -- What a call does to the hub behind a handle of C.
-use Rattle.std.specs.Prelude.{◌≡◌, ◌≢◌, ◌⊎◌, ◌++◌, ℕ, Bool, true, false, List, length, take, drop, slice_get, Option, Some, None, Ok, option_map}
+use Rattle.std.specs.Prelude.{◌≡◌, ◌≢◌, ◌⊎◌, ◌++◌, ℕ, Bool, true, false, not, ◌==◌, List, length, take, drop, slice_get, Option, Some, None, Ok, option_map}
 use Rattle.std.specs.Option.{option_and_then}
 use Rattle.std.specs.Int.{w128, to_be_bytes}
 use Rattle.hs_base.specs.declared.ids.NodeId.{NodeId}
@@ -51,11 +51,11 @@ DoesAll does old code new = (cell : HubCell) → HoldsHub old cell → (after : 
 abbrev pub Does : (PlainHub → ℕ → PlainHub → Type 0) → HindHub → ℕ → HindHub → Type 0
 Does does = DoesAll (λ old code new. (new.cursor ≡ old.cursor) × does old.hub code new.hub)
 
--- The text reads as settings, and behind the handle stands a hub that has heard nothing, made by them.
-pub record OpensHub (text : List ℕ) (epoch : ℕ) (hub : HindHub) : Type 0 where
+-- The text reads as settings, and behind the handle stands a hub that has heard nothing, made by them. It is fresh unless the word for that is 0.
+pub record OpensHub (text : List ℕ) (epoch fresh : ℕ) (hub : HindHub) : Type 0 where
   pub settings : PlainService
   pub read : reading_of text ≡ Ok settings
-  pub holds : HoldsHub hub (record { hub = no_hub epoch (limits_by settings); cursor = start })
+  pub holds : HoldsHub hub (record { hub = no_hub epoch (not (fresh == 0)) (limits_by settings); cursor = start })
 
 -- the code of what became of a message
 abbrev pub delivered_code : Delivered → ℕ

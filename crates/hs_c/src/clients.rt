@@ -1,12 +1,20 @@
 //! The calls of a client.
 
-ghost use Rattle.std.specs.Prelude.{◌≡◌, ◌<◌, ◌≤◌, length, map, IfSome, IfNone};
+ghost use Rattle.std.specs.Prelude.{◌≡◌, ◌<◌, ◌≤◌, length, map, Some, None, IfSome, IfNone};
+ghost use Rattle.hs_base.specs.NodeSets.{one_node};
 ghost use Rattle.hs_base.specs.declared.limits.TheConstants.{MAX_LATERALS};
 ghost use Rattle.hs_c.specs.declared.codes.TheConstants.{DONE, UNFIT};
 ghost use Rattle.hs_records.specs.Plain.{Point, Crumb as LeaveCrumb, End, Fire, Sample};
 ghost use Rattle.hs_node_client.specs.Answers.{BeginsBy, PointsBy, CrumbsBy, LateBy, TriggersBy, SamplesBy, EndsBy};
-ghost use Rattle.hs_node_client.specs.Lives.{Lives, LivesByBegin, LivesOn};
-ghost use Rattle.hs_c.specs.Calls.{IsIdle, Calls, Flushes, Counts};
+ghost use Rattle.hs_node_client.specs.Clients.{PutsThrough, KeepsEnds, NotesIt, NotesEnd, NotesLate, tally_at_begin};
+ghost use Rattle.hs_node_client.specs.Counting.{with_point, with_crumb_called, with_refused_late, with_refused_trigger, if_full};
+ghost use Rattle.hs_node_client.specs.Lives.{HasHalf, Lives, LivesByBegin, LivesOn};
+ghost use Rattle.hs_node_client.specs.Notes.{PutsOn};
+ghost use Rattle.hs_node_client.specs.Paging.{place_in};
+ghost use Rattle.hs_live.specs.Live.{Sends};
+ghost use Rattle.hs_node_client.specs.declared.called.Called.TheVariants.{Done, Full, Unknown};
+ghost use Rattle.hs_node_client.specs.declared.segment.SegmentState.TheVariants.{Opened, Refused, Led};
+ghost use Rattle.hs_c.specs.Calls.{IsIdle, Calls, DoesClient, Flushes, Counts};
 ghost use Rattle.hs_c.specs.Traces.{trace_in, trigger_in};
 
 use crate::codes::{DONE, UNFIT, VACANT, code_of};
@@ -31,6 +39,12 @@ pub extern "C" fn hindcore_begin(alloc: Global, client: &mut HindClient, trace: 
     ensures idle { IsIdle client.old result client.new }
     ensures answer { Calls (λ old called new. BeginsBy old called) client.old result client.new }
     ensures does { Calls (λ old called new. LivesByBegin (trace_in trace.now) called old.live new.live) client.old result client.new }
+    ensures refused { Calls (λ old called new. (called ≡ Done → ⊥) → new ≡ old) client.old result client.new }
+    ensures keeps { Calls (λ old called new. KeepsEnds old.live new.live) client.old result client.new }
+    ensures opens { Calls (λ old called new. called ≡ Done → new.live.core.trace ≡ Some (trace_in trace.now)) client.old result client.new }
+    ensures half { Calls (λ old called new. called ≡ Done → HasHalf new.live.core) client.old result client.new }
+    ensures notes { Calls (λ old called new. called ≡ Done → NotesIt (trace_in trace.now) Opened (place_in new.live.core) old.notebook (tally_at_begin old) new.notebook new.tally) client.old result client.new }
+    ensures late { Calls (λ old called new. new.late ≡ old.late) client.old result client.new }
 {
     if client.live != 1 {
         return VACANT;
@@ -54,6 +68,10 @@ pub extern "C" fn hindcore_point(
     ensures idle { IsIdle client.old result client.new }
     ensures answer { Calls (λ old called new. PointsBy old.live (length payload.now) called new.live) client.old result client.new }
     ensures does { Calls (λ old called new. Lives (Point moment payload.now) called old.live new.live) client.old result client.new }
+    ensures refused { Calls (λ old called new. (called ≡ Done → ⊥) → PutsThrough old.live new.live) client.old result client.new }
+    ensures keeps { Calls (λ old called new. KeepsEnds old.live new.live) client.old result client.new }
+    ensures counts { Calls (λ old called new. new.tally ≡ with_point called old.tally) client.old result client.new }
+    ensures only { Calls (λ old called new. new ≡ record old { live = new.live; tally = new.tally }) client.old result client.new }
 {
     if client.live != 1 {
         return VACANT;
@@ -72,6 +90,11 @@ pub extern "C" fn hindcore_crumb(alloc: Global, client: &mut HindClient, node: u
     ensures idle { IsIdle client.old result client.new }
     ensures answer { Calls (λ old called new. CrumbsBy old.live (record { 0 = node }) called new.live) client.old result client.new }
     ensures does { Calls (λ old called new. Lives (LeaveCrumb (record { 0 = node })) called old.live new.live) client.old result client.new }
+    ensures refused { Calls (λ old called new. (called ≡ Done → ⊥) → PutsThrough old.live new.live) client.old result client.new }
+    ensures keeps { Calls (λ old called new. KeepsEnds old.live new.live) client.old result client.new }
+    ensures core { Calls (λ old called new. new.live.core ≡ old.live.core) client.old result client.new }
+    ensures counts { Calls (λ old called new. new.tally ≡ with_crumb_called (record { 0 = node }) called old.tally) client.old result client.new }
+    ensures only { Calls (λ old called new. new ≡ record old { live = new.live; tally = new.tally }) client.old result client.new }
 {
     if client.live != 1 {
         return VACANT;
@@ -84,7 +107,7 @@ pub extern "C" fn hindcore_crumb(alloc: Global, client: &mut HindClient, node: u
     code_of(called)
 }
 
-/// Leaves a crumb of a trace that need not be open.
+/// Leaves a crumb of a trace that need not be open. It is noted where it led, or that it was refused for want of a place.
 #[unsafe(no_mangle)]
 pub extern "C" fn hindcore_crumb_of(
     alloc: Global,
@@ -94,7 +117,12 @@ pub extern "C" fn hindcore_crumb_of(
 ) -> u32
     ensures idle { IsIdle client.old result client.new }
     ensures answer { Calls (λ old called new. LateBy old (record { 0 = node }) called new) client.old result client.new }
-    ensures only { Calls (λ old called new. new ≡ record old { late = new.late; tally = new.tally }) client.old result client.new }
+    ensures sends { Calls (λ old called new. called ≡ Done → Sends (record { trace = trace_in trace.now; node = record { 0 = node } }) old.late new.late) client.old result client.new }
+    ensures refused { Calls (λ old called new. (called ≡ Done → ⊥) → PutsOn old.late new.late) client.old result client.new }
+    ensures notes { Calls (λ old called new. called ≡ Full → NotesLate (trace_in trace.now) Refused old (with_refused_late old.tally) new) client.old result client.new }
+    ensures led { Calls (λ old called new. called ≡ Done → NotesLate (trace_in trace.now) (Led (one_node (record { 0 = node }))) old old.tally new) client.old result client.new }
+    ensures same { Calls (λ old called new. called ≡ Unknown → new ≡ old) client.old result client.new }
+    ensures only { Calls (λ old called new. new ≡ record old { late = new.late; notebook = new.notebook; tally = new.tally }) client.old result client.new }
 {
     if client.live != 1 {
         return VACANT;
@@ -136,6 +164,11 @@ pub extern "C" fn hindcore_trigger(
     ensures many { client.old.live ≡ 1 → MAX_LATERALS < length laterals.now → (result ≡ UNFIT) × (client.new ≡ client.old) }
     ensures answer { length laterals.now ≤ MAX_LATERALS → Calls (λ old called new. TriggersBy old.live (trigger_in moment trigger lead.now laterals.now) called new.live) client.old result client.new }
     ensures does { length laterals.now ≤ MAX_LATERALS → Calls (λ old called new. Lives (Fire (trigger_in moment trigger lead.now laterals.now)) called old.live new.live) client.old result client.new }
+    ensures refused { length laterals.now ≤ MAX_LATERALS → Calls (λ old called new. (called ≡ Done → ⊥) → PutsThrough old.live new.live) client.old result client.new }
+    ensures keeps { length laterals.now ≤ MAX_LATERALS → Calls (λ old called new. KeepsEnds old.live new.live) client.old result client.new }
+    ensures core { length laterals.now ≤ MAX_LATERALS → Calls (λ old called new. new.live.core ≡ old.live.core) client.old result client.new }
+    ensures counts { length laterals.now ≤ MAX_LATERALS → Calls (λ old called new. new.tally ≡ if_full called with_refused_trigger old.tally) client.old result client.new }
+    ensures only { length laterals.now ≤ MAX_LATERALS → Calls (λ old called new. new ≡ record old { live = new.live; tally = new.tally }) client.old result client.new }
 {
     if client.live != 1 {
         return VACANT;
@@ -169,6 +202,11 @@ pub extern "C" fn hindcore_sample(
     ensures idle { IsIdle client.old result client.new }
     ensures answer { Calls (λ old called new. SamplesBy old.live auto called new.live) client.old result client.new }
     ensures does { Calls (λ old called new. Lives (Sample moment auto value) called old.live new.live) client.old result client.new }
+    ensures refused { Calls (λ old called new. (called ≡ Done → ⊥) → PutsThrough old.live new.live) client.old result client.new }
+    ensures keeps { Calls (λ old called new. KeepsEnds old.live new.live) client.old result client.new }
+    ensures core { Calls (λ old called new. new.live.core ≡ old.live.core) client.old result client.new }
+    ensures counts { Calls (λ old called new. new.tally ≡ if_full called with_refused_trigger old.tally) client.old result client.new }
+    ensures only { Calls (λ old called new. new ≡ record old { live = new.live; tally = new.tally }) client.old result client.new }
 {
     if client.live != 1 {
         return VACANT;
@@ -187,6 +225,12 @@ pub extern "C" fn hindcore_end(alloc: Global, client: &mut HindClient) -> u32
     ensures idle { IsIdle client.old result client.new }
     ensures answer { Calls (λ old called new. EndsBy old.live called new.live) client.old result client.new }
     ensures does { Calls (λ old called new. Lives End called old.live new.live) client.old result client.new }
+    ensures refused { Calls (λ old called new. (called ≡ Done → ⊥) → PutsThrough old.live new.live) client.old result client.new }
+    ensures keeps { Calls (λ old called new. KeepsEnds old.live new.live) client.old result client.new }
+    ensures closes { Calls (λ old called new. called ≡ Done → new.live.core.trace ≡ None) client.old result client.new }
+    ensures notes { Calls (λ old called new. called ≡ Done → NotesEnd old new) client.old result client.new }
+    ensures same { Calls (λ old called new. (called ≡ Done → ⊥) → (new.notebook ≡ old.notebook) × (new.tally ≡ old.tally)) client.old result client.new }
+    ensures late { Calls (λ old called new. new.late ≡ old.late) client.old result client.new }
 {
     if client.live != 1 {
         return VACANT;
@@ -205,6 +249,10 @@ pub extern "C" fn hindcore_flush(alloc: Global, client: &mut HindClient, waits: 
     ensures idle { IsIdle client.old result client.new }
     ensures idle_waits { (client.old.live ≡ 1 → ⊥) → waits.new ≡ waits.old }
     ensures flushes { Flushes client.old result waits.new client.new }
+    ensures does { DoesClient (λ old code new. LivesOn old.live new.live) client.old result client.new }
+    ensures late { DoesClient (λ old code new. PutsOn old.late new.late) client.old result client.new }
+    ensures notes { DoesClient (λ old code new. PutsOn old.notebook.link new.notebook.link) client.old result client.new }
+    ensures only { DoesClient (λ old code new. new ≡ record old { live = new.live; late = new.late; notebook = record old.notebook { link = new.notebook.link } }) client.old result client.new }
 {
     if client.live != 1 {
         return VACANT;

@@ -244,17 +244,18 @@ fn code_of_delivered(delivered: Delivered) -> u32
     }
 }
 
-/// Makes a hub by the text of a service's settings. It speaks in the life of this epoch. The code says why there is none, and of settings
-/// `fault` says where.
+/// Makes a hub by the text of a service's settings. It speaks in the life of this epoch, and is fresh unless that word is 0. The code says
+/// why there is none, and of settings `fault` says where.
 #[unsafe(no_mangle)]
 pub extern "C" fn hindcore_hub_open(
     alloc: Global,
     text: &[u8],
     epoch: u64,
+    is_fresh: u32,
     hub: &mut HindHub,
     fault: &mut HindFault,
 ) -> u32
-    ensures done { result ≡ done → OpensHub text.now epoch hub.new }
+    ensures done { result ≡ done → OpensHub text.now epoch is_fresh hub.new }
     ensures same { result ≢ done → hub.new ≡ hub.old }
     ensures busy { hub.old.live ≡ 1 → result ≡ busy }
     ensures free { result ≡ busy → hub.old.live ≡ 1 }
@@ -265,7 +266,7 @@ pub extern "C" fn hindcore_hub_open(
         return BUSY;
     }
     match read_settings(alloc, text) {
-        Ok(settings) => open_hub(alloc, &settings, epoch, hub),
+        Ok(settings) => open_hub(alloc, &settings, epoch, is_fresh, hub),
         Err(SettingsFault::Memory) => MEMORY,
         Err(SettingsFault::NoRoom) => {
             *fault = no_room();
@@ -279,13 +280,19 @@ pub extern "C" fn hindcore_hub_open(
 }
 
 /// The same by settings that were read.
-fn open_hub(alloc: Global, settings: &ServiceSettings, epoch: u64, hub: &mut HindHub) -> u32
+fn open_hub(
+    alloc: Global,
+    settings: &ServiceSettings,
+    epoch: u64,
+    is_fresh: u32,
+    hub: &mut HindHub,
+) -> u32
     requires { IsServiceSettings (service_of settings.now) }
-    ensures done { (text : _) → reading_of text ≡ Ok (service_of settings.now) → result ≡ done → OpensHub text epoch hub.new }
+    ensures done { (text : _) → reading_of text ≡ Ok (service_of settings.now) → result ≡ done → OpensHub text epoch is_fresh hub.new }
     ensures same { result ≢ done → hub.new ≡ hub.old }
     ensures only { result ≢ done → result ≡ memory }
 {
-    match Hub::by_settings(alloc, epoch, settings) {
+    match Hub::by_settings(alloc, epoch, is_fresh != 0, settings) {
         Ok(made) => match fill_hub(alloc, made, hub) {
             Ok(()) => DONE,
             Err(Memory) => MEMORY,

@@ -11,6 +11,7 @@ ghost use Rattle.hs_wire.specs.Messages.{SaysHello};
 ghost use Rattle.hs_node.specs.declared.pass.Passed.{Passed};
 ghost use Rattle.hs_outbox.specs.Queue.{waits, has_number};
 ghost use Rattle.hs_node.specs.Nodes.{with_mail, PassesAs};
+ghost use Rattle.hs_node.specs.Passing.{Passes};
 ghost use Rattle.hs_c.specs.declared.codes.TheConstants.{DONE as done, VACANT as vacant, BUSY as busy, MEMORY as memory, SETTINGS as settings, UNFIT as unfit, NOTHING as nothing};
 ghost use Rattle.hs_c.specs.Opening.{IsRefused};
 ghost use Rattle.hs_c.specs.Hubs.{flag};
@@ -157,6 +158,7 @@ pub extern "C" fn hindcore_node_client(
 pub extern "C" fn hindcore_node_pass(alloc: Global, node: &mut HindNode, says: &mut u32) -> u32
     ensures idle { IsIdleNode node.old result node.new }
     ensures pass { DoesNode (λ old code new. (passed : Passed) × (code ≡ passed_code passed) × ((run : Run Leased) → Stands run old.intake → PassesAs run passed old new)) node.old result node.new }
+    ensures does { DoesNode (λ old code new. code ≡ done → (run : Run Leased) → Stands run old.intake → Passes run old new) node.old result node.new }
     ensures says { DoesNode (λ old code new. says.new ≡ flag (is_some (first_offered new.intake.mail))) node.old result node.new }
     ensures same { (node.old.live ≡ 1 → ⊥) → says.new ≡ says.old }
 {
