@@ -20,9 +20,10 @@
 
 #include <stddef.h>
 #include <stdint.h>
+#include <sys/uio.h> /* struct iovec */
 
 #define HIND_VERSION_MAJOR 0
-#define HIND_VERSION_MINOR 1
+#define HIND_VERSION_MINOR 2
 #define HIND_VERSION_PATCH 0
 #define HIND_VERSION_NUMBER (HIND_VERSION_MAJOR * 1000000 + HIND_VERSION_MINOR * 1000 + HIND_VERSION_PATCH)
 #define HIND_ABI 1
@@ -107,8 +108,11 @@ typedef struct {
     hind_node_id node;
 } hind_context;
 
+/* A context of a fresh trace, as of a request that came with none: no span, no flags, no node. As hind_new_trace, of which it takes the trace. */
+HIND_API hind_code hind_new_context(hind_context *context);
+
 /* Reads the two headers; several tracestate headers are one, joined by commas, and NULL is none. HIND_INVALID where W3C calls traceparent
- * invalid: then start a trace of your own. A tracestate that is invalid is as none. Flags that a later version of traceparent may have are
+ * invalid, or it is NULL: then hind_new_context starts a trace of your own. A tracestate that is invalid is as none. Flags that a later version of traceparent may have are
  * dropped. */
 HIND_API hind_code hind_context_read(const char *traceparent, const char *tracestate, hind_context *context);
 
@@ -168,6 +172,36 @@ HIND_API hind_code hind_node_hello(hind_node *node);
  * nobody else reads it. -1: see errno. */
 HIND_API int hind_node_fd(hind_node *node);
 
+/* What a node did since it was opened. Numbers of clients are of all of them together, each as it was at its last hind_end, hind_flush or
+ * hind_client_get_counts. */
+typedef struct {
+    size_t size;                /* sizeof(hind_node_counts), set by the caller */
+    uint64_t passes;            /* calls of hind_node_pass that took what came */
+    uint64_t clients;           /* of the settings, */
+    uint64_t used_clients;      /* .. and those that a thread or somebody else has now */
+    uint64_t points;            /* as in hind_client_counts, to dropped_notes */
+    uint64_t null_pages;
+    uint64_t stray_points;
+    uint64_t full_points;
+    uint64_t long_points;
+    uint64_t spent_points;
+    uint64_t refused_crumbs, refused_triggers;
+    uint64_t dropped_notes;
+    uint64_t messages;          /* that were handed out, each counted once. Of them these were */
+    uint64_t hellos;            /* .. who the node is, */
+    uint64_t tells;             /* .. what it says of triggers and crumbs, and its answers to asks, */
+    uint64_t reports;           /* .. pages of claimed traces, */
+    uint64_t standings;         /* .. and how whole its part of a trace is */
+    uint64_t repeats;           /* messages that were handed out anew, after hind_node_again */
+    uint64_t acknowledged;      /* messages that are not kept any more */
+    uint64_t unacknowledged;    /* messages that were handed out and are kept: now */
+    uint64_t asks;              /* messages of the hub that were taken, */
+    uint64_t full_asks;         /* .. that found no place, */
+    uint64_t refused_asks;      /* .. and bytes that were no ask for this node */
+} hind_node_counts;
+/* OK, INVALID (`size` is none that this library knows), FORKED. */
+HIND_API hind_code hind_node_get_counts(hind_node *node, hind_node_counts *counts);
+
 /* ---- clients: who writes ---- */
 
 /* The client of the calling thread. The first call in a thread takes one; when the thread ends, its trace is ended and the client waits for
@@ -188,10 +222,15 @@ HIND_API hind_code hind_begin(hind_client *client, const hind_trace_id *trace);
 /* Opens the trace of a request that came, and leaves a crumb to the node that sent it, if the context names one. What the crumb answers is not
  * told: it may have found no place, or the settings have no such node. */
 HIND_API hind_code hind_begin_from(hind_client *client, const hind_context *context);
-/* Records bytes in the open trace, now or at a moment in nanoseconds since 1970. `payload` may be NULL where `len` is 0. OK, also where no buffer
- * is free: then the record is counted as lost; NOTRACE, TOOLONG (above 65,535 bytes), FULL, SPENT. */
+/* Records bytes in the open trace, now or at a moment in nanoseconds since 1970. `payload` may be NULL where `len` is 0. OK, NOTRACE, TOOLONG (above
+ * 65,535 bytes), FULL, SPENT. Where no buffer is free the answer is OK too, since the core does not say so of a single record: what goes to the page that
+ * found none is lost, hind_client_get_counts counts the page in null_pages, and a claimed trace says what it lost. */
 HIND_API hind_code hind_point(hind_client *client, const void *payload, size_t len);
 HIND_API hind_code hind_point_at(hind_client *client, uint64_t moment, const void *payload, size_t len);
+/* The same of pieces that lie in several places, as one record. `pieces` may be NULL where `count` is 0, a piece's base where its length is 0. Each
+ * client has 64 KiB in which they are put together; the system gives that memory when it is first used. */
+HIND_API hind_code hind_pointv(hind_client *client, const struct iovec *pieces, size_t count);
+HIND_API hind_code hind_pointv_at(hind_client *client, uint64_t moment, const struct iovec *pieces, size_t count);
 /* The open trace goes on at, or came from, this node. Either end may say so; both is fine. OK, NOTRACE, FULL, UNDECLARED. */
 HIND_API hind_code hind_crumb(hind_client *client, hind_node_id node);
 /* The same of any trace, open or not: an answer may name its node after hind_end. OK, INVALID (all zero), FULL, UNDECLARED. */
@@ -288,8 +327,12 @@ typedef struct {
     uint64_t epoch;       /* tells this life of the hub from those before, which had lower ones. 0: microseconds since 1970, by the clock */
     const char *settings; /* those of the nodes, but for lines that are a hub's alone */
     size_t settings_len;
+    uint32_t is_fresh;    /* 1: no hub of the service was before this one, nor a life of a node of which it will not hear. Then it is sure of the first
+                           * life of each node at once. 0: it is sure of each life only after half a minute, at ten passes a second, and calls no trace
+                           * whole whose first message came before it was sure of the trace's nodes */
+    uint32_t spare;       /* 0 */
 } hind_hub_options;
-#define HIND_HUB_OPTIONS_INIT { sizeof(hind_hub_options), HIND_ABI, 0, NULL, 0 }
+#define HIND_HUB_OPTIONS_INIT { sizeof(hind_hub_options), HIND_ABI, 0, NULL, 0, 0, 0 }
 
 /* Opens a hub: OK, INVALID, ABI_WRONG, SETTINGS, NOMEM. *hub is NULL on any answer but OK. */
 HIND_API HIND_CHECK hind_code hind_hub_open(const hind_hub_options *options, hind_hub **hub);

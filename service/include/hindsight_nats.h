@@ -22,8 +22,10 @@ typedef struct {
     size_t settings_len;
     uint32_t lease_ms;    /* after which the name of a process that was killed is free again. 0: 15,000 */
     uint32_t wait_ms;     /* for which hind_nats_start seeks the server */
+    uint32_t pass_ms;     /* from one pass to the next while nothing comes, at most 1,000. 0: 1. A pass looks at each client of the settings, and takes some two
+                           * microseconds for it; what clients write meanwhile has to find a place in `backlog` */
 } hind_nats_options;
-#define HIND_NATS_OPTIONS_INIT { sizeof(hind_nats_options), HIND_ABI, NULL, NULL, NULL, NULL, 0, 0, 0 }
+#define HIND_NATS_OPTIONS_INIT { sizeof(hind_nats_options), HIND_ABI, NULL, NULL, NULL, NULL, 0, 0, 0, 0 }
 
 /* Takes the name, opens its node, and starts the thread that makes the node's passes and carries its messages. The server gives the node its number
  * and its epoch. OK, INVALID, ABI_WRONG, TOOLONG (the name), TAKEN, MANY (each number of the settings has another name), AWAY, SETTINGS, NOMEM. *nats
@@ -31,7 +33,7 @@ typedef struct {
 HIND_API HIND_CHECK hind_code hind_nats_start(const hind_nats_options *options, hind_nats **nats);
 /* Why the last hind_nats_start of this thread failed, in a sentence: "" before the first that did. */
 HIND_API const char *hind_nats_error(void);
-/* The node, for hind_client_get and hind_client_open; NULL of NULL. Its other calls are the thread's. It goes with hind_nats_stop. */
+/* The node, for hind_client_get, hind_client_open and hind_node_get_counts; NULL of NULL. Its other calls are the thread's. It goes with hind_nats_stop. */
 HIND_API hind_node *hind_nats_node(hind_nats *nats);
 /* Close clients first, or flush them: what waits in one is not taken. Ends the thread, after at most so many milliseconds in which the server may acknowledge what the node has to say, closes the node and gives the
  * name back. OK, also for NULL; AWAY where something was not acknowledged: it is lost; FORKED. */
@@ -50,6 +52,12 @@ typedef struct {
     int is_spent;        /* whether memory was refused, and the node takes nothing any more: stop, and start anew */
 } hind_nats_counts;
 HIND_API hind_code hind_nats_get_counts(hind_nats *nats, hind_nats_counts *counts);
+
+/* The number that the server gave the node, for hind_context_write; HIND_NO_NODE of NULL. */
+HIND_API hind_node_id hind_nats_number(const hind_nats *nats);
+/* The same counts and the node's as text for a page /metrics, in Prometheus' form (docs/SERVICE.md, "Operate"), with a final 0. *len is how many bytes
+ * the text has without it. OK; TOOLONG: the room, which 8,192 bytes always are, holds its front alone; INVALID. */
+HIND_API hind_code hind_nats_metrics(hind_nats *nats, char *text, size_t room, size_t *len);
 
 #ifdef __cplusplus
 }

@@ -35,6 +35,24 @@ static inline hind_code leave(hind_client *c, uint32_t answer) {
     return answer == HINDCORE_DONE ? HIND_OK : hindlib_code(answer);
 }
 
+/* The counts are a row of numbers. */
+enum { COUNTS = sizeof(hindcore_count) / sizeof(uint64_t) };
+
+uint32_t hindlib_show(hind_client *c) {
+    hindcore_count now = {0, 0, 0, 0, 0, 0, 0, 0, 0};
+    uint32_t answer = hindcore_counts(&c->core, &now);
+    const uint64_t *from = (const uint64_t *)&now;
+    uint64_t *to = (uint64_t *)&c->counts;
+    for (size_t i = 0; answer == HINDCORE_DONE && i < COUNTS; i++) hindlib_store(&to[i], from[i]);
+    return answer;
+}
+
+void hindlib_add_shown(const hind_client *c, hindcore_count *sum) {
+    const uint64_t *from = (const uint64_t *)&c->counts;
+    uint64_t *to = (uint64_t *)sum;
+    for (size_t i = 0; i < COUNTS; i++) to[i] += hindlib_load(&from[i]);
+}
+
 static int is_none(const hind_trace_id *trace) {
     static const hind_trace_id none;
     return !memcmp(trace, &none, sizeof none);
@@ -71,6 +89,33 @@ hind_code hind_point_at(hind_client *client, uint64_t moment, const void *payloa
 
 hind_code hind_point(hind_client *client, const void *payload, size_t len) { return hind_point_at(client, hindlib_nanoseconds(), payload, len); }
 
+static int are_pieces(const struct iovec *pieces, size_t count) {
+    if (count && !pieces) return 0;
+    for (size_t i = 0; i < count; i++)
+        if (pieces[i].iov_len && !pieces[i].iov_base) return 0;
+    return 1;
+}
+
+/* How many bytes they have, and one more than a payload may where that is less. They are put together where they are few enough. */
+static size_t put_together(uint8_t *to, const struct iovec *pieces, size_t count) {
+    size_t len = 0;
+    for (size_t i = 0; i < count; i++) {
+        if (pieces[i].iov_len > HINDLIB_PAYLOAD - len) return HINDLIB_PAYLOAD + 1;
+        if (pieces[i].iov_len) memcpy(to + len, pieces[i].iov_base, pieces[i].iov_len);
+        len += pieces[i].iov_len;
+    }
+    return len;
+}
+
+hind_code hind_pointv_at(hind_client *client, uint64_t moment, const struct iovec *pieces, size_t count) {
+    hind_code code = are_pieces(pieces, count) ? enter(client) : HIND_INVALID;
+    if (code) return code;
+    size_t len = put_together(client->pieces, pieces, count);
+    return leave(client, hindcore_point(&client->core, moment, client->pieces, len));
+}
+
+hind_code hind_pointv(hind_client *client, const struct iovec *pieces, size_t count) { return hind_pointv_at(client, hindlib_nanoseconds(), pieces, count); }
+
 hind_code hind_crumb(hind_client *client, hind_node_id node) {
     hind_code code = enter(client);
     return code ? code : leave(client, hindcore_crumb(&client->core, node));
@@ -106,6 +151,7 @@ hind_code hind_end(hind_client *client) {
     if (code) return code;
     uint32_t answer = hindcore_end(&client->core);
     if (answer == HINDCORE_DONE) client->is_open = 0;
+    (void)hindlib_show(client);
     return leave(client, answer);
 }
 
@@ -115,6 +161,7 @@ hind_code hind_flush(hind_client *client, uint64_t *waits) {
     if (code) return code;
     uint32_t answer = hindcore_flush(&client->core, &left);
     if (waits) *waits = left;
+    (void)hindlib_show(client);
     return leave(client, answer);
 }
 
@@ -127,10 +174,11 @@ hind_code hind_client_trace(const hind_client *client, hind_trace_id *trace) {
 }
 
 hind_code hind_client_get_counts(hind_client *client, hind_client_counts *counts) {
-    hindcore_count of;
     hind_code code = enter(client);
     if (code) return code;
-    code = leave(client, hindcore_counts(&client->core, &of));
+    uint32_t answer = hindlib_show(client);
+    hindcore_count of = client->counts;
+    code = leave(client, answer);
     if (code) return code;
     hind_client_counts own = {sizeof own, of.points, of.null_pages, of.stray_points, of.full_points, of.long_points, of.spent_points, of.refused_crumbs, of.refused_triggers, of.dropped_notes};
     return hindlib_give(counts, &own, sizeof own);

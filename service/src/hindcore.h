@@ -184,8 +184,10 @@ typedef struct {
     uint64_t number;
 } hindcore_message_id;
 
-/* Makes a hub by the text of a service's settings, which speaks in the life of this epoch: DONE, BUSY, MEMORY, SETTINGS (`fault` says where). */
-uint32_t hindcore_hub_open(const uint8_t *text, size_t len, uint64_t epoch, hindcore_hub *hub, hindcore_fault *fault);
+/* Makes a hub by the text of a service's settings, which speaks in the life of this epoch: DONE, BUSY, MEMORY, SETTINGS (`fault` says where).
+ * It is fresh, 1, where no hub of the service was before it: then it is sure of the first life that it hears of a node. Else, 0, it is sure of each
+ * life only after as many passes as a trace waits. */
+uint32_t hindcore_hub_open(const uint8_t *text, size_t len, uint64_t epoch, uint32_t is_fresh, hindcore_hub *hub, hindcore_fault *fault);
 /* Takes a message of a node. DONE and NO_MESSAGE (it is none that a hub takes): it may be acknowledged at once. HELD: it may be when
  * hindcore_hub_acknowledge names it. FULL (too much for now) and MEMORY: nothing changed, and it is to be delivered again. */
 uint32_t hindcore_hub_deliver(hindcore_hub *hub, const uint8_t *bytes, size_t len);

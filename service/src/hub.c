@@ -1,6 +1,7 @@
 /* A hub: the core's, behind a lock, and the traces that it gives out. */
 #include "gather.h"
 #include "within.h"
+#include <stdio.h>
 #include <stdlib.h>
 #include <string.h>
 
@@ -28,7 +29,7 @@ struct hind_trace {
 
 static hind_code open_core(hind_hub *h, const hind_hub_options *o) {
     hindcore_fault fault = {0, 0};
-    uint32_t answer = hindcore_hub_open((const uint8_t *)o->settings, o->settings_len, o->epoch, &h->core, &fault);
+    uint32_t answer = hindcore_hub_open((const uint8_t *)o->settings, o->settings_len, o->epoch, o->is_fresh != 0, &h->core, &fault);
     if (answer == HINDCORE_SETTINGS) hindlib_note_fault(&fault);
     return hindlib_code(answer);
 }
@@ -51,6 +52,7 @@ hind_code hind_hub_open(const hind_hub_options *options, hind_hub **hub) {
     if (hub) *hub = NULL;
     hind_code code = hub ? hindlib_read_options(&o, sizeof o, options) : HIND_INVALID;
     if (code) return code;
+    if (o.spare) return HIND_ABI_WRONG;
     if (!o.settings && o.settings_len) return HIND_INVALID;
     if (!o.settings) o.settings = "";
     if (!o.epoch) o.epoch = hindlib_nanoseconds() / 1000;
@@ -152,7 +154,7 @@ static int keep_names(hind_trace *t) {
     t->names = malloc((t->of.trace.count + 1) * sizeof *t->names);
     if (!t->names) return 0;
     for (size_t i = 0; i < t->of.trace.count; i++) {
-        strcpy(t->names[i], t->of.parts[i].service);
+        snprintf(t->names[i], sizeof t->names[i], "%s", t->of.parts[i].service);
         t->of.parts[i].service = t->names[i];
         t->records += t->of.parts[i].count;
     }

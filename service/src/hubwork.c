@@ -1,18 +1,28 @@
 #include "hubwork.h"
 #include "gather.h"
-#include "hindcore.h"
+#include "within.h"
 #include <inttypes.h>
 #include <stdio.h>
 #include <stdlib.h>
 #include <string.h>
 
-enum { MOST_NODES = 128, MOST_NAME = 64, ASK_ROOM = 1024, KIND_HELLO = 1, HELLO_NAME = 52 };
+enum { MOST_NODES = 128, MOST_NAME = 64, ASK_ROOM = 1024, KIND_HELLO = 1, HELLO_DIGEST = 20, HELLO_NAME = 52 };
+
+/* The life of a node that runs with other settings. */
+typedef struct {
+    int is_foreign;
+    uint64_t epoch;
+} stranger;
 
 struct hubwork {
     hindcore_hub hub;
+    int is_fresh;
     store *store;
     void (*acknowledge)(void *, uint16_t, uint64_t, uint64_t);
+    void (*foreign)(void *, uint16_t, const char *);
     void *closure;
+    uint8_t digest[HINDLIB_DIGEST];
+    stranger strangers[MOST_NODES];
     char names[MOST_NODES][MOST_NAME + 1];
     uint8_t ask[ASK_ROOM];
     enum { NOTHING_OUT, OUT, GATHERED } state; /* of the trace that is out */
@@ -35,9 +45,11 @@ static const char *reason(uint32_t number) {
     return reasons[number < sizeof reasons / sizeof *reasons ? number : 0];
 }
 
+/* A hub is fresh where its store is still to be made: no hub was before it. */
 static int open_hub(hubwork *h, const hubwork_options *options, char *fault, size_t room) {
     hindcore_fault at = {0, 0};
-    uint32_t code = hindcore_hub_open((const uint8_t *)options->settings, options->settings_len, options->epoch, &h->hub, &at);
+    h->is_fresh = !store_is_there(&options->store);
+    uint32_t code = hindcore_hub_open((const uint8_t *)options->settings, options->settings_len, options->epoch, (uint32_t)h->is_fresh, &h->hub, &at);
     if (code == HINDCORE_DONE) return 1;
     if (code == HINDCORE_SETTINGS) snprintf(fault, room, "settings, line %" PRIu64 ": %s", at.line, reason(at.reason));
     else snprintf(fault, room, "no memory for a hub of these settings");
@@ -51,7 +63,9 @@ hubwork *hubwork_open(const hubwork_options *options, char *fault, size_t room) 
         return NULL;
     }
     h->acknowledge = options->acknowledge;
+    h->foreign = options->foreign;
     h->closure = options->closure;
+    hindlib_digest(options->settings, options->settings_len, h->digest);
     if (open_hub(h, options, fault, room)) {
         h->store = store_open(&options->store, fault, room);
         if (h->store) return h;
@@ -71,25 +85,72 @@ void hubwork_close(hubwork *h) {
 
 /* ---- messages */
 
-/* The name that a hello says. The hub has read it as a message, so its length is right. */
-static void note_name(hubwork *h, const uint8_t *bytes, size_t len) {
-    hindcore_head head;
-    if (hindcore_message_head(bytes, len, &head) != HINDCORE_DONE || head.kind != KIND_HELLO || head.node >= MOST_NODES) return;
+/* The name that a hello says. It was read as a message, so its length is right. */
+static void note_name(hubwork *h, const uint8_t *bytes, unsigned node) {
     size_t name = bytes[HELLO_NAME];
-    memcpy(h->names[head.node], bytes + HELLO_NAME + 1, name);
-    h->names[head.node][name] = 0;
+    memcpy(h->names[node], bytes + HELLO_NAME + 1, name);
+    h->names[node][name] = 0;
+}
+
+static void note_stranger(hubwork *h, unsigned node, uint64_t epoch) {
+    stranger *s = &h->strangers[node];
+    int is_known = s->is_foreign && s->epoch == epoch;
+    *s = (stranger){1, epoch};
+    if (!is_known && h->foreign) h->foreign(h->closure, (uint16_t)node, h->names[node]);
+}
+
+/* What a hello says of the node: its name, and whether it runs with the hub's settings. A life that is over changes nothing. */
+static void note_hello(hubwork *h, const uint8_t *bytes, const hindcore_head *head) {
+    stranger *s = &h->strangers[head->node];
+    if (s->is_foreign && head->epoch < s->epoch) return;
+    note_name(h, bytes, head->node);
+    if (memcmp(bytes + HELLO_DIGEST, h->digest, sizeof h->digest)) note_stranger(h, head->node, head->epoch);
+    else *s = (stranger){0, head->epoch};
+}
+
+static uint64_t number_at(const uint8_t *at, int bytes) {
+    uint64_t n = 0;
+    for (int i = 0; i < bytes; i++) n = n << 8 | at[i];
+    return n;
+}
+
+/* Whether a message is of a life that runs with other settings. Of others than a hello the front alone is read. */
+static int is_foreign(hubwork *h, const uint8_t *bytes, size_t len) {
+    hindcore_head head;
+    if (len < HELLO_DIGEST) return 0;
+    uint64_t epoch = number_at(bytes + 2, 8), node = number_at(bytes + 18, 2);
+    if (node >= MOST_NODES) return 0;
+    if (bytes[1] == KIND_HELLO && hindcore_message_head(bytes, len, &head) == HINDCORE_DONE) note_hello(h, bytes, &head);
+    return h->strangers[node].is_foreign && h->strangers[node].epoch == epoch;
 }
 
 int hubwork_deliver(hubwork *h, const uint8_t *bytes, size_t len) {
+    h->counts.received += len;
+    if (is_foreign(h, bytes, len)) {
+        h->counts.foreign++;
+        return HUBWORK_NOW;
+    }
     switch (hindcore_hub_deliver(&h->hub, bytes, len)) {
     case HINDCORE_DONE:
-        note_name(h, bytes, len);
         h->counts.done++;
         return HUBWORK_NOW;
     case HINDCORE_HELD: h->counts.held++; return HUBWORK_HELD;
     case HINDCORE_NO_MESSAGE: h->counts.refused++; return HUBWORK_NOW;
     default: h->counts.full++; return HUBWORK_LATER;
     }
+}
+
+void hubwork_hear(hubwork *h, uint16_t node, uint64_t epoch, const char *name) {
+    uint8_t hello[HELLO_NAME + 1 + MOST_NAME] = {1, KIND_HELLO}; /* its number is 0 */
+    size_t len = strlen(name);
+    if (h->is_fresh || node >= MOST_NODES || len > MOST_NAME || h->strangers[node].is_foreign) return;
+    for (int i = 0; i < 8; i++) hello[2 + i] = (uint8_t)(epoch >> (56 - 8 * i));
+    hello[19] = (uint8_t)node;
+    memcpy(hello + HELLO_DIGEST, h->digest, sizeof h->digest);
+    hello[HELLO_NAME] = (uint8_t)len;
+    memcpy(hello + HELLO_NAME + 1, name, len);
+    note_name(h, hello, node);
+    (void)hindcore_hub_deliver(&h->hub, hello, HELLO_NAME + 1 + len);
 }
 
 int hubwork_next_ask(hubwork *h, uint16_t *node, const uint8_t **bytes, size_t *len) {
@@ -111,6 +172,7 @@ void hubwork_pass(hubwork *h) { hindcore_hub_pass(&h->hub); }
 static int failed(hubwork *h, const char *why) {
     snprintf(h->fault, sizeof h->fault, "%s", why);
     h->counts.faults++;
+    h->counts.last_fault = 1;
     return -1;
 }
 
@@ -136,6 +198,7 @@ static void let_go(hubwork *h) {
     hindcore_trace id;
     hindcore_message_id message;
     h->counts.traces++;
+    h->counts.last_fault = 0;
     h->counts.whole += h->out.trace.is_whole != 0;
     gathered_free(&h->out);
     h->state = NOTHING_OUT;
@@ -180,4 +243,6 @@ void hubwork_count(hubwork *h, hubwork_counts *counts) {
     counts->standings = now.standings;
     counts->waiting_messages = now.messages;
     counts->passes = now.passes;
+    counts->foreign_nodes = 0;
+    for (unsigned n = 0; n < MOST_NODES; n++) counts->foreign_nodes += (uint64_t)h->strangers[n].is_foreign;
 }

@@ -42,3 +42,10 @@ static hind_code new_id(uint8_t *bytes, size_t words) {
 
 hind_code hind_new_trace(hind_trace_id *id) { return id ? new_id(id->bytes, 2) : HIND_INVALID; }
 hind_code hind_new_span(hind_span_id *id) { return id ? new_id(id->bytes, 1) : HIND_INVALID; }
+
+hind_code hind_new_context(hind_context *context) {
+    if (!context) return HIND_INVALID;
+    memset(context, 0, sizeof *context);
+    context->node = HIND_NO_NODE;
+    return hind_new_trace(&context->trace);
+}

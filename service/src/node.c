@@ -2,15 +2,29 @@
 #define _GNU_SOURCE
 #include "within.h"
 #include <errno.h>
+#include <stdio.h>
 #include <stdlib.h>
 #include <string.h>
 #include <sys/eventfd.h>
 #include <unistd.h>
 
+enum { KINDS = 6, HELLO = 1, TOLD = 2, REPORTED = 4, STANDING = 5 }; /* docs/FORMATS.md, "Messages of a service" */
+
+/* What calls on the core did. */
+typedef struct {
+    uint64_t passes, messages, of_kind[KINDS], repeats, acknowledged, unacknowledged, asks, full_asks, refused_asks;
+    uint64_t handed;     /* the number that the next message has at least which was not handed out before */
+    uint64_t number;     /* of the message that hind_node_next gave last, */
+    unsigned kind;       /* .. and its kind; 0 before the first */
+} node_work;
+
 struct hind_node {
     hindcore_node core;
     unsigned forks; /* of the process that opened it */
+    uint16_t number;
+    uint32_t first_group; /* groups.c */
     pthread_mutex_t lock; /* around the core, and what follows */
+    node_work work;
     int fd, is_signalled; /* -1: nobody asked for it */
     char name[HINDLIB_NAME + 1];
     hindcore_digest digest;
@@ -18,6 +32,7 @@ struct hind_node {
     pthread_mutex_t pool; /* around what follows */
     int is_closed;
     hind_client *clients, *waiting; /* all, and those that nobody has */
+    uint8_t *pieces; /* of all clients: untouched, and so without memory of the system, where hind_pointv is not called */
     size_t count, users, unsettled; /* users: who has a client, and the node itself while it is open */
 } __attribute__((aligned(HINDLIB_APART)));
 
@@ -28,6 +43,7 @@ static void settle(hind_client *c) {
     uint64_t waits = 0;
     if (c->is_open && hindcore_end(&c->core) == HINDCORE_DONE) c->is_open = 0;
     c->is_unsettled = hindcore_flush(&c->core, &waits) == HINDCORE_DONE && (c->is_open || waits);
+    (void)hindlib_show(c);
 }
 
 /* The first that waits and whose trace was ended, taken out of the list. */
@@ -64,6 +80,7 @@ static void destroy(hind_node *n) {
     for (size_t i = 0; i < n->count; i++) hindcore_client_free(&n->clients[i].core);
     pthread_mutex_destroy(&n->lock);
     pthread_mutex_destroy(&n->pool);
+    free(n->pieces);
     free(n->clients);
     free(n);
 }
@@ -106,6 +123,7 @@ static void take_clients(hind_node *n, size_t most) {
         hind_client *c = &n->clients[n->count];
         c->node = n;
         c->forks = n->forks;
+        c->pieces = n->pieces + n->count * (HINDLIB_PAYLOAD + 1);
         c->is_closed = 1;
         put_back(n, c);
     }
@@ -127,7 +145,8 @@ static hind_code make(hind_node *n, const hind_node_options *o) {
     size_t most = hindlib_setting(o->settings, o->settings_len, "clients", 64);
     hind_code code = open_core(n, o);
     if (code) return code;
-    if (posix_memalign((void **)&n->clients, HINDLIB_APART, most * sizeof *n->clients)) {
+    n->pieces = malloc(most * (HINDLIB_PAYLOAD + 1));
+    if (!n->pieces || posix_memalign((void **)&n->clients, HINDLIB_APART, most * sizeof *n->clients)) {
         n->clients = NULL;
         hindcore_node_free(&n->core);
         return HIND_NOMEM;
@@ -147,7 +166,9 @@ static hind_code open_with(const hind_node_options *o, hind_node **node) {
     n->forks = hindlib_forks;
     n->fd = -1;
     n->users = 1;
-    strcpy(n->name, o->name);
+    n->number = o->node;
+    n->first_group = hindlib_first_group(o->epoch);
+    snprintf(n->name, sizeof n->name, "%s", o->name);
     pthread_mutex_init(&n->lock, NULL);
     pthread_mutex_init(&n->pool, NULL);
     hind_code code = make(n, o);
@@ -216,7 +237,9 @@ hind_code hind_node_pass(hind_node *node) {
     hind_code code = enter(node);
     if (code) return code;
     settle_waiting(node);
-    code = leave(node, hindcore_node_pass(&node->core, &says));
+    uint32_t answer = hindcore_node_pass(&node->core, &says);
+    node->work.passes += answer == HINDCORE_DONE;
+    code = leave(node, answer);
     if (code) return code == HIND_SPENT ? HIND_NOMEM : code;
     return says ? HIND_OK : HIND_NOTHING;
 }
@@ -227,22 +250,44 @@ hind_code hind_node_next(hind_node *node, hind_message *message) {
     if (code) return code;
     uint32_t answer = hindcore_node_next(&node->core, &number, node->message, sizeof node->message, &len);
     if (answer == HINDCORE_DONE) {
+        hindlib_number_group(node->message, (size_t)len, node->number, node->first_group);
         message->number = number;
         message->to = HIND_NO_NODE;
         message->bytes = node->message;
         message->len = (size_t)len;
+        node->work.number = number;
+        node->work.kind = node->message[1] < KINDS ? node->message[1] : 0;
     }
     return leave(node, answer);
 }
 
+/* Numbers rise, so what was handed out before has a lower one. */
+static void count_sent(node_work *w, uint64_t number) {
+    if (number < w->handed) {
+        w->repeats++;
+        return;
+    }
+    w->handed = number + 1;
+    w->messages++;
+    w->unacknowledged++;
+    w->of_kind[w->kind && number == w->number ? w->kind : 0]++;
+}
+
 hind_code hind_node_sent(hind_node *node, uint64_t number) {
     hind_code code = enter(node);
-    return code ? code : leave(node, hindcore_node_sent(&node->core, number));
+    if (code) return code;
+    uint32_t answer = hindcore_node_sent(&node->core, number);
+    if (answer == HINDCORE_DONE) count_sent(&node->work, number);
+    return leave(node, answer);
 }
 
 hind_code hind_node_acknowledged(hind_node *node, uint64_t number) {
     hind_code code = enter(node);
-    return code ? code : leave(node, hindcore_node_acknowledged(&node->core, number));
+    if (code) return code;
+    uint32_t answer = hindcore_node_acknowledged(&node->core, number);
+    node->work.acknowledged += answer == HINDCORE_DONE;
+    node->work.unacknowledged -= answer == HINDCORE_DONE && number < node->work.handed;
+    return leave(node, answer);
 }
 
 hind_code hind_node_again(hind_node *node) {
@@ -250,9 +295,23 @@ hind_code hind_node_again(hind_node *node) {
     return code ? code : leave(node, hindcore_node_again(&node->core));
 }
 
+/* The core is asked by the numbers that it gave. */
+static uint32_t deliver(hind_node *n, const void *bytes, size_t len) {
+    uint8_t ask[HINDLIB_ASK];
+    if (!len || len > sizeof ask) return hindcore_node_deliver(&n->core, len ? bytes : "", len);
+    memcpy(ask, bytes, len);
+    hindlib_number_group(ask, len, n->number, 0 - n->first_group);
+    return hindcore_node_deliver(&n->core, ask, len);
+}
+
 hind_code hind_node_deliver(hind_node *node, const void *bytes, size_t len) {
     hind_code code = bytes || !len ? enter(node) : HIND_INVALID;
-    return code ? code : leave(node, hindcore_node_deliver(&node->core, bytes ? bytes : "", len));
+    if (code) return code;
+    uint32_t answer = deliver(node, bytes, len);
+    node->work.asks += answer == HINDCORE_DONE;
+    node->work.full_asks += answer == HINDCORE_FULL;
+    node->work.refused_asks += answer == HINDCORE_NO_MESSAGE;
+    return leave(node, answer);
 }
 
 hind_code hind_node_hello(hind_node *node) {
@@ -272,4 +331,27 @@ int hind_node_fd(hind_node *node) {
     int fd = node->fd;
     (void)leave(node, HINDCORE_DONE);
     return fd;
+}
+
+/* ---- counts */
+
+static uint64_t used_clients(hind_node *n) {
+    pthread_mutex_lock(&n->pool);
+    uint64_t used = n->users - !n->is_closed;
+    pthread_mutex_unlock(&n->pool);
+    return used;
+}
+
+hind_code hind_node_get_counts(hind_node *node, hind_node_counts *counts) {
+    hindcore_count of = {0, 0, 0, 0, 0, 0, 0, 0, 0};
+    hind_code code = enter(node);
+    if (code) return code;
+    const node_work *w = &node->work;
+    for (size_t i = 0; i < node->count; i++) hindlib_add_shown(&node->clients[i], &of);
+    hind_node_counts own = {sizeof own, w->passes, node->count, used_clients(node),
+                            of.points, of.null_pages, of.stray_points, of.full_points, of.long_points, of.spent_points, of.refused_crumbs, of.refused_triggers, of.dropped_notes,
+                            w->messages, w->of_kind[HELLO], w->of_kind[TOLD], w->of_kind[REPORTED], w->of_kind[STANDING], w->repeats, w->acknowledged, w->unacknowledged,
+                            w->asks, w->full_asks, w->refused_asks};
+    (void)leave(node, HINDCORE_DONE);
+    return hindlib_give(counts, &own, sizeof own);
 }

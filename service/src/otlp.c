@@ -180,10 +180,11 @@ static void put_payload(otlp_text *t, const otlp_record *r) {
 
 static void open_event(otlp_text *t, int *count, const otlp_record *r) { put_format(t, "%s{\"timeUnixNano\":\"%llu\"", (*count)++ ? "," : "", (unsigned long long)r->moment); }
 
-static void put_event(otlp_text *t, int *count, const otlp_record *r) {
+/* Records that are missing in front of one of a whole trace are of other traces. */
+static void put_event(otlp_text *t, int *count, const otlp_record *r, int is_whole) {
     hind_span_record said;
     int is_said = hind_read_span(r->payload, r->len, &said), gaps = 0;
-    if (r->missing) {
+    if (r->missing && !is_whole) {
         open_event(t, count, r);
         put_text(t, ",\"name\":\"hindsight.gap\",\"attributes\":[");
         put_count_attribute(t, &gaps, "hindsight.missing", r->missing);
@@ -200,7 +201,7 @@ static void put_event(otlp_text *t, int *count, const otlp_record *r) {
     }
 }
 
-static void put_attributes(otlp_text *t, const span_list *s, const span *p) {
+static void put_attributes(otlp_text *t, const span_list *s, const span *p, int is_whole) {
     const otlp_record *first = &s->part->records[p->first];
     int count = 0;
     put_text(t, ",\"attributes\":[");
@@ -213,7 +214,7 @@ static void put_attributes(otlp_text *t, const span_list *s, const span *p) {
     if (p->end == NO_RECORD) put_flag_attribute(t, &count, "hindsight.no_end");
     put_text(t, "],\"events\":[");
     count = 0;
-    for (long i = p->first; i != NO_RECORD; i = s->next[i]) put_event(t, &count, &s->part->records[i]);
+    for (long i = p->first; i != NO_RECORD; i = s->next[i]) put_event(t, &count, &s->part->records[i], is_whole);
     put_text(t, "]");
 }
 
@@ -227,7 +228,7 @@ static void bounds(const span_list *s, const span *p, uint64_t *least, uint64_t 
     }
 }
 
-static void put_span(otlp_text *t, const span_list *s, const span *p, const hind_trace_id *trace) {
+static void put_span(otlp_text *t, const span_list *s, const span *p, const otlp_trace *trace) {
     static const hind_span_id none;
     const otlp_record *records = s->part->records;
     hind_span_record start = {0}, end = {0};
@@ -236,7 +237,7 @@ static void put_span(otlp_text *t, const span_list *s, const span *p, const hind
     if (p->start != NO_RECORD) hind_read_span(records[p->start].payload, records[p->start].len, &start);
     if (p->end != NO_RECORD) hind_read_span(records[p->end].payload, records[p->end].len, &end);
     put_text(t, "{\"traceId\":\"");
-    put_hex(t, trace->bytes, 16);
+    put_hex(t, trace->id.bytes, 16);
     put_text(t, "\",\"spanId\":\"");
     put_hex(t, p->id.bytes, 8);
     if (memcmp(&start.parent, &none, sizeof none)) {
@@ -254,7 +255,7 @@ static void put_span(otlp_text *t, const span_list *s, const span *p, const hind
         put_string(t, end.text, end.text_len);
     }
     put_text(t, "}");
-    put_attributes(t, s, p);
+    put_attributes(t, s, p, trace->is_whole);
     put_text(t, "}");
 }
 
@@ -275,7 +276,7 @@ static void put_part(otlp_text *t, const otlp_trace *trace, const otlp_part *par
     put_text(t, "]},\"scopeSpans\":[{\"scope\":{\"name\":\"hindsight\"},\"spans\":[");
     for (long i = 0; !t->failed && i < s.count; i++) {
         if (i) put_text(t, ",");
-        put_span(t, &s, &s.spans[i], &trace->id);
+        put_span(t, &s, &s.spans[i], trace);
     }
     put_text(t, "]}]}");
     span_list_free(&s);

@@ -29,7 +29,7 @@ static const char *const texts[STATEMENTS] = {
     "INSERT OR IGNORE INTO traces VALUES (?, ?, ?, ?, ?)",
     /* what is not known now does not hide what was known before */
     ("INSERT INTO lives VALUES (?, ?, ?, ?, ?) ON CONFLICT DO UPDATE SET service = iif(excluded.service = '', service, excluded.service),"
-     " wholeness = iif(excluded.wholeness IN ('silent', 'not answered'), wholeness, excluded.wholeness)"),
+     " wholeness = iif(excluded.wholeness IN ('silent', 'not answered') OR excluded.wholeness LIKE 'unheard %', wholeness, excluded.wholeness)"),
     "INSERT OR IGNORE INTO records VALUES (?, ?, ?, ?, ?, ?, ?, ?, ?)",
 };
 
@@ -239,6 +239,11 @@ static int open_all(store *s, const store_options *options) {
     if (s->folder < 0) return failed_in_system(s, options->folder);
     if (open_db(s, options->folder)) return -1;
     return open_lines(s, last_file(options->folder));
+}
+
+int store_is_there(const store_options *options) {
+    char path[PATH_MAX];
+    return snprintf(path, sizeof path, "%s/traces.db", options->folder) >= (int)sizeof path || !access(path, F_OK) || errno != ENOENT;
 }
 
 store *store_open(const store_options *options, char *fault, size_t room) {

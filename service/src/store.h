@@ -11,6 +11,9 @@ typedef struct {
     unsigned kept_files; /* so many files of lines are kept, the newest; 0: all */
 } store_options;
 
+/* Whether a store was made in the folder, or that cannot be told. */
+int store_is_there(const store_options *options);
+
 /* Opens a store, or makes it. NULL where that failed: `fault` says why. */
 store *store_open(const store_options *options, char *fault, size_t room);
 

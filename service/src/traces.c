@@ -53,7 +53,7 @@ typedef struct {
     long limit;
 } wanted;
 
-/* In a few words how whole the parts of a trace are. */
+/* In a few words how whole the part of each node is. */
 static int print_lives(const void *trace) {
     sqlite3_stmt *lives = prepared("SELECT service, wholeness FROM lives WHERE trace = ? ORDER BY node, epoch");
     if (!lives) return fault("lives");
@@ -75,12 +75,13 @@ static void print_found(sqlite3_stmt *row) {
     struct tm utc;
     if (gmtime_r(&saved, &utc)) strftime(when, sizeof when, "%Y-%m-%dT%H:%M:%SZ", &utc);
     print_hex(sqlite3_column_blob(row, 0), 16);
-    printf("  %-20s %7lld %8lld  ", when, (long long)sqlite3_column_int64(row, 1), (long long)sqlite3_column_int64(row, 3));
+    printf("  %-20s %7lld %8lld  %-5s  ", when, (long long)sqlite3_column_int64(row, 1), (long long)sqlite3_column_int64(row, 3), sqlite3_column_int(row, 4) ? "yes" : "no");
 }
 
 static int find(const wanted *w) {
     sqlite3_stmt *rows = prepared(
-        "SELECT t.trace, min(t.trigger), max(t.saved) AS saved, (SELECT count(*) FROM records r WHERE r.trace = t.trace) FROM traces t"
+        "SELECT t.trace, min(t.trigger), max(t.saved) AS saved, (SELECT count(*) FROM records r WHERE r.trace = t.trace),"
+        " (SELECT count(*) = 1 AND min(whole) = 1 FROM traces a WHERE a.trace = t.trace) FROM traces t"
         " WHERE (?1 < 0 OR t.trigger = ?1) AND (?2 IS NULL OR EXISTS (SELECT 1 FROM lives l WHERE l.trace = t.trace AND l.service = ?2)) AND t.saved >= ?3"
         " GROUP BY t.trace ORDER BY saved DESC, t.trace LIMIT ?4");
     int found = 0, status = FOUND;
@@ -90,7 +91,7 @@ static int find(const wanted *w) {
     sqlite3_bind_int64(rows, 3, w->since ? (sqlite3_int64)time(NULL) - w->since : 0);
     sqlite3_bind_int64(rows, 4, w->limit);
     while (status == FOUND && sqlite3_step(rows) == SQLITE_ROW) {
-        if (!found++) printf("%-32s  %-20s %7s %8s  %s\n", "TRACE", "SAVED", "TRIGGER", "RECORDS", "WHOLENESS");
+        if (!found++) printf("%-32s  %-20s %7s %8s  %-5s  %s\n", "TRACE", "SAVED", "TRIGGER", "RECORDS", "WHOLE", "NODES");
         print_found(rows);
         status = print_lives(sqlite3_column_blob(rows, 0));
     }
@@ -109,6 +110,7 @@ typedef struct {
     life *lives;
     size_t count;
     uint64_t start, end; /* the least and the greatest moment */
+    int is_whole;
 } picture;
 
 static void *more(void *list, size_t count, size_t size) {
@@ -237,13 +239,13 @@ static void print_bar(const picture *p, const line *l) {
 static void print_indent(int depth) { printf("%*s", 2 * (depth < 20 ? depth : 20), ""); }
 
 /* What a record behind its span says: an event, an attribute, or a payload. */
-static void print_note(const line *l, const otlp_record *r, int depth) {
+static void print_note(const picture *p, const line *l, const otlp_record *r, int depth) {
     hind_span_record said;
     int is_said = hind_read_span(r->payload, r->len, &said);
-    if (r->missing) {
+    if (r->missing && !p->is_whole) {
         printf("%*s", 26 + BAR + 2, "");
         print_indent(depth);
-        printf("  (%" PRIu64 " records of this client are missing here)\n", r->missing);
+        printf("  (%" PRIu64 " records of this client are not here, of this trace or of others)\n", r->missing);
     }
     if (is_said && (said.what == HIND_SPAN_START || said.what == HIND_SPAN_END)) return;
     print_time(r->moment - (r->moment < l->begins ? r->moment : l->begins));
@@ -281,7 +283,7 @@ static void print_line(const picture *p, const line *l, int depth) {
         print_text(l->stop.text, l->stop.text_len);
     }
     putchar('\n');
-    for (long i = l->s->first; i != NO_RECORD; i = l->of->list.next[i]) print_note(l, &l->of->part.records[i], depth);
+    for (long i = l->s->first; i != NO_RECORD; i = l->of->list.next[i]) print_note(p, l, &l->of->part.records[i], depth);
 }
 
 static int is_child(const line *l, const hind_span_id *parent) { return l->start.what && !memcmp(&l->start.parent, parent, sizeof *parent); }
@@ -300,16 +302,6 @@ static int has_parent(const line *lines, size_t count, const line *l) {
     return 0;
 }
 
-/* Whether the hub said so of its only part. */
-static int is_whole(const uint8_t *trace) {
-    sqlite3_stmt *parts = prepared("SELECT count(*) = 1 AND min(whole) = 1 FROM traces WHERE trace = ?");
-    if (!parts) return 0;
-    sqlite3_bind_blob(parts, 1, trace, 16, SQLITE_STATIC);
-    int whole = sqlite3_step(parts) == SQLITE_ROW && sqlite3_column_int(parts, 0);
-    sqlite3_finalize(parts);
-    return whole;
-}
-
 static void print_picture(const uint8_t *trace, const picture *p) {
     line *lines = NULL;
     size_t count = 0, records = 0;
@@ -323,7 +315,7 @@ static void print_picture(const uint8_t *trace, const picture *p) {
     if (count) qsort(lines, count, sizeof *lines, by_start);
     fputs("trace ", stdout);
     print_hex(trace, 16);
-    printf(": %zu records, %zu spans%s\n", records, count, is_whole(trace) ? ", whole" : "");
+    printf(": %zu records, %zu spans%s\n", records, count, p->is_whole ? ", whole" : ", not known to be whole");
     for (size_t i = 0; i < p->count; i++) {
         const otlp_part *part = &p->lives[i].part;
         fputs("  ", stdout);
@@ -352,8 +344,18 @@ static void free_picture(picture *p) {
     free(p->lives);
 }
 
+/* Whether the hub said so of its only part. */
+static int is_whole(const uint8_t *trace) {
+    sqlite3_stmt *parts = prepared("SELECT count(*) = 1 AND min(whole) = 1 FROM traces WHERE trace = ?");
+    if (!parts) return 0;
+    sqlite3_bind_blob(parts, 1, trace, 16, SQLITE_STATIC);
+    int whole = sqlite3_step(parts) == SQLITE_ROW && sqlite3_column_int(parts, 0);
+    sqlite3_finalize(parts);
+    return whole;
+}
+
 static int show(const uint8_t *trace) {
-    picture p = {NULL, 0, UINT64_MAX, 0};
+    picture p = {NULL, 0, UINT64_MAX, 0, is_whole(trace)};
     int status = read_lives(trace, &p);
     if (status == FOUND) print_picture(trace, &p);
     free_picture(&p);

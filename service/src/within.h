@@ -5,7 +5,7 @@
 #include "hindsight.h"
 #include <pthread.h>
 
-enum { HINDLIB_APART = 128 /* bytes between what two threads write */, HINDLIB_NAME = 64, HINDLIB_DIGEST = 32, HINDLIB_MESSAGE = 32831 };
+enum { HINDLIB_APART = 128 /* bytes between what two threads write */, HINDLIB_NAME = 64, HINDLIB_DIGEST = 32, HINDLIB_MESSAGE = 32831, HINDLIB_PAYLOAD = 65535, HINDLIB_ASK = 1024 /* no ask is so long */ };
 
 #pragma GCC visibility push(hidden)
 
@@ -25,6 +25,11 @@ hind_code hindlib_give(void *to, const void *own, size_t size);
 
 uint64_t hindlib_nanoseconds(void);  /* since 1970 */
 uint64_t hindlib_microseconds(void); /* of a steady clock */
+
+/* The first number that a node's groups have on their way in the life of this epoch. */
+uint32_t hindlib_first_group(uint64_t epoch);
+/* Adds to the number of the group that a message speaks of, where the group is the node's. Bytes that are no message stay so. */
+void hindlib_number_group(uint8_t *bytes, size_t len, uint16_t node, uint32_t add);
 
 /* The number behind a word that stands at most once in settings that are none that are refused; `otherwise` where it stands nowhere. */
 uint32_t hindlib_setting(const char *settings, size_t len, const char *word, uint32_t otherwise);
@@ -50,10 +55,16 @@ struct hind_client {
     int is_busy, is_closed, is_open, owner;
     hind_trace_id trace; /* that is open */
     hind_node *node;
+    uint8_t *pieces;     /* HINDLIB_PAYLOAD + 1 bytes, where pieces are put together */
     hind_client *next;   /* among those that nobody has, or those of a thread */
     int is_unsettled;    /* nobody has it, and its trace is open or something waits */
+    hindcore_count counts __attribute__((aligned(HINDLIB_APART))); /* as they were shown last, which other threads read */
 } __attribute__((aligned(HINDLIB_APART)));
 
+/* Shows the client's counts to other threads. Whoever has the client calls it. */
+uint32_t hindlib_show(hind_client *c);
+/* Adds what was shown to `sum`. */
+void hindlib_add_shown(const hind_client *c, hindcore_count *sum);
 /* A client that nobody has, for this owner. */
 hind_code hindlib_take(hind_node *n, int owner, hind_client **client);
 /* Gives a client back. The node goes with the last one where it was closed. */
