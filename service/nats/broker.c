@@ -37,7 +37,7 @@ int broker_open(broker *b, const char *url, const char *prefix, unsigned wait, c
         snprintf(fault, room, "the prefix is no word of 1 to %d letters, digits and '-'", BROKER_MOST_PREFIX);
         return -1;
     }
-    strcpy(b->prefix, prefix);
+    snprintf(b->prefix, sizeof b->prefix, "%s", prefix);
     s = natsOptions_Create(&options);
     if (s == NATS_OK) {
         for (unsigned waited = 0;; waited += 100) {

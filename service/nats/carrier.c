@@ -26,7 +26,7 @@ struct carrier {
     atomic_uint stop_within; /* milliseconds; 0: go on */
     /* of the thread alone */
     uint32_t under_way;
-    unsigned patience;
+    unsigned patience, pause;
     int64_t heard, renewed; /* milliseconds of a steady clock */
     unsigned long returns;
     /* of the thread, and read by others */
@@ -79,6 +79,7 @@ carrier_answer carrier_open(const carrier_options *options, carrier **made, char
         return CARRIER_BROKER;
     }
     c->length = options->lease ? options->lease : 15000;
+    c->pause = options->pause ? options->pause : 1;
     /* the stream may be made by whoever comes first; a broker that cannot make it now is asked again by the hub */
     broker_keep_stream(&c->broker);
     carrier_answer answer = (carrier_answer)lease_take(&c->lease, &c->broker, options->name, options->nodes, c->length);
@@ -208,8 +209,8 @@ static void *carries(void *arg) {
             return NULL;
         }
         if (end && milliseconds() >= end) return NULL;
-        /* an acknowledgement ends the millisecond early */
-        if (!busy && !take_answer(c, 1) && !broker_is_there(&c->broker)) nanosleep(&(struct timespec){.tv_nsec = 1000000}, NULL);
+        /* an acknowledgement ends the pause early */
+        if (!busy && !take_answer(c, c->pause) && !broker_is_there(&c->broker)) nanosleep(&(struct timespec){.tv_sec = c->pause / 1000, .tv_nsec = (long)(c->pause % 1000) * 1000000}, NULL);
     }
 }
 

@@ -23,6 +23,7 @@ typedef struct {
     uint16_t nodes;      /* numbers of nodes are below this, as in the settings */
     unsigned lease;      /* milliseconds after which the name of a process that was killed is free again; 0: 15,000 */
     unsigned wait;       /* milliseconds for which `carrier_open` seeks the broker */
+    unsigned pause;      /* milliseconds from one pass to the next while nothing comes; 0: 1 */
 } carrier_options;
 
 typedef enum {

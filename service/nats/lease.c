@@ -8,7 +8,7 @@ static void key_of(const char *name, char *key) {
     static const char plain[] = "abcdefghijklmnopqrstuvwxyzABCDEFGHIJKLMNOPQRSTUVWXYZ0123456789_-";
     for (; *name; name++) {
         if (strchr(plain, *name)) *key++ = *name;
-        else key += sprintf(key, "=%02x", (unsigned char)*name);
+        else key += snprintf(key, 4, "=%02x", (unsigned char)*name);
     }
     *key = 0;
 }
@@ -110,7 +110,7 @@ lease_answer lease_take(lease *l, broker *b, const char *name, uint16_t nodes, u
     size_t len = strlen(name);
     if (!len || len > LEASE_MOST_NAME) return LEASE_NAME;
     l->broker = b;
-    strcpy(l->name, name);
+    snprintf(l->name, sizeof l->name, "%s", name);
     key_of(name, l->key);
     if (!name_life(l)) return LEASE_BROKER;
     l->lives = bucket(b, "lives", length);
@@ -161,4 +161,18 @@ void lease_free(lease *l) {
     uint64_t revision;
     if (l->lives && value_at(l->lives, l->key, value, sizeof value, &revision) == 1 && !strcmp(value, l->life)) kvStore_Delete(l->lives, l->key);
     close_buckets(l);
+}
+
+/* Numbers are given from 0 on, and for good. */
+void lease_each(broker *b, void (*say)(void *, uint16_t, uint64_t, const char *), void *closure) {
+    char key[3 * LEASE_MOST_NAME + 16], name[LEASE_MOST_NAME + 1], value[8];
+    uint64_t epoch;
+    kvStore *in = bucket(b, "nodes", 0);
+    for (uint16_t n = 0; in; n++) {
+        snprintf(key, sizeof key, "node.%u", n);
+        if (value_at(in, key, name, sizeof name, &epoch) <= 0) break;
+        key_of(name, key + snprintf(key, sizeof key, "epoch."));
+        if (value_at(in, key, value, sizeof value, &epoch) > 0) say(closure, n, epoch, name);
+    }
+    kvStore_Destroy(in);
 }

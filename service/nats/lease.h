@@ -32,4 +32,7 @@ lease_answer lease_renew(lease *l);
 /* Gives the name back, so that it may be taken at once. */
 void lease_free(lease *l);
 
+/* Says of each number that was given to a name which name that is, and the epoch of its latest life. */
+void lease_each(broker *b, void (*say)(void *closure, uint16_t node, uint64_t epoch, const char *name), void *closure);
+
 #endif
