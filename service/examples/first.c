@@ -43,6 +43,7 @@ int main(void) {
     hind_hub *hub;
     hind_client *client;
     hind_trace *trace;
+    for_hub.is_fresh = 1;
     for_node.settings = for_hub.settings = settings;
     for_node.settings_len = for_hub.settings_len = strlen(settings);
     if (hind_node_open(&for_node, &node) || hind_hub_open(&for_hub, &hub) || hind_client_get(node, &client)) return 1;

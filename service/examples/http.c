@@ -74,10 +74,7 @@ static hind_context context_of(char *request) {
     char parent[HIND_TRACEPARENT_SIZE] = "";
     char *found = header(request, "traceparent");
     if (found) snprintf(parent, sizeof parent, "%.*s", (int)strcspn(found, "\r"), found);
-    if (hind_context_read(parent, NULL, &context) == HIND_OK) return context;
-    memset(&context, 0, sizeof context);
-    hind_new_trace(&context.trace);
-    context.node = HIND_NO_NODE;
+    if (hind_context_read(parent, NULL, &context) != HIND_OK) hind_new_context(&context);
     return context;
 }
 
@@ -131,6 +128,7 @@ int main(int argc, char **argv) {
     for_node.settings = for_hub.settings = settings;
     for_node.settings_len = for_hub.settings_len = strlen(settings);
     for_node.name = "http";
+    for_hub.is_fresh = 1;
     if (hind_node_open(&for_node, &node) || hind_hub_open(&for_hub, &hub)) return 1;
     signal(SIGPIPE, SIG_IGN);
     setsockopt(server, SOL_SOCKET, SO_REUSEADDR, &yes, sizeof yes);

@@ -24,6 +24,13 @@ struct Error : std::runtime_error {
     }
 };
 
+// What a request that came with no headers carries.
+inline hind_context new_context() {
+    hind_context context;
+    if (hind_code code = hind_new_context(&context)) throw Error(code);
+    return context;
+}
+
 inline hind_trace_id new_trace() {
     hind_trace_id id;
     if (hind_code code = hind_new_trace(&id)) throw Error(code);
@@ -51,6 +58,12 @@ class Node {
     }
     hind_node *get() const noexcept { return node_.get(); }
     hind_code pass() noexcept { return hind_node_pass(get()); }
+    hind_node_counts counts() const {
+        hind_node_counts counts = {};
+        counts.size = sizeof counts;
+        if (hind_code code = hind_node_get_counts(get(), &counts)) throw Error(code);
+        return counts;
+    }
 };
 
 // A trace on the calling thread, from construction to the end of the scope.
@@ -83,6 +96,13 @@ class Segment {
     hind_client *client() const noexcept { return client_; }
     hind_code point(std::string_view payload) noexcept { return hind_point(client_, payload.data(), payload.size()); }
     hind_code point_at(std::uint64_t moment, std::string_view payload) noexcept { return hind_point_at(client_, moment, payload.data(), payload.size()); }
+    // One record of several pieces.
+    template <class... Pieces> hind_code points(const Pieces &...pieces) noexcept {
+        const std::string_view views[] = {std::string_view(pieces)...};
+        iovec all[sizeof...(pieces)];
+        for (std::size_t i = 0; i < sizeof...(pieces); i++) all[i] = {const_cast<char *>(views[i].data()), views[i].size()};
+        return hind_pointv(client_, all, sizeof...(pieces));
+    }
     hind_code crumb(hind_node_id node) noexcept { return hind_crumb(client_, node); }
     hind_code trigger(std::uint8_t id) noexcept { return hind_trigger(client_, id, nullptr, nullptr, 0); }
     hind_code sample(std::uint32_t autotrigger, std::uint64_t value) noexcept { return hind_sample(client_, autotrigger, value); }
@@ -142,11 +162,13 @@ class Hub {
     std::unique_ptr<hind_hub, Close> hub_;
 
   public:
-    explicit Hub(std::string_view settings, std::uint64_t epoch = 0) {
+    // It is fresh where no hub was before it: then it is sure of the first life of each node at once.
+    explicit Hub(std::string_view settings, std::uint64_t epoch = 0, bool is_fresh = false) {
         hind_hub_options options = HIND_HUB_OPTIONS_INIT;
         options.epoch = epoch;
         options.settings = settings.data();
         options.settings_len = settings.size();
+        options.is_fresh = is_fresh;
         hind_hub *hub = nullptr;
         if (hind_code code = hind_hub_open(&options, &hub)) throw Error(code);
         hub_.reset(hub);

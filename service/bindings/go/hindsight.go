@@ -82,9 +82,10 @@ func NewTrace() TraceID {
 
 // A Node is the node of this process.
 type Node struct {
-	at      *C.hind_node
-	clients chan *C.hind_client
-	lost    atomic.Uint64
+	at         *C.hind_node
+	clients    chan *C.hind_client
+	lost       atomic.Uint64
+	isBorrowed bool // somebody else closes the node
 }
 
 // Open opens a node, with an epoch above those of its lives before; 0 is the clock's.
@@ -127,6 +128,9 @@ func (n *Node) takeClients() {
 func (n *Node) Close() error {
 	for i := 0; i < cap(n.clients); i++ {
 		C.hind_client_close(<-n.clients)
+	}
+	if n.isBorrowed {
+		return nil
 	}
 	return errorOf(C.hind_node_close(n.at))
 }

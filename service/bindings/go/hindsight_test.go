@@ -81,6 +81,9 @@ func TestRefusals(t *testing.T) {
 	if pages(messages(t, node), "stays") != 1 {
 		t.Error("the record was not reported")
 	}
+	if c, err := node.Counts(); err != nil || c.Points != 1 || c.Hellos != 1 || c.Reports != 1 || c.Unacknowledged != 0 || c.Clients != 4 || c.RefusedAsks != 2 {
+		t.Error(c, err)
+	}
 	if err := node.Close(); err != nil {
 		t.Error(err)
 	}

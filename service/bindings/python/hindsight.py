@@ -28,11 +28,19 @@ class _NodeOptions(ctypes.Structure):
 
 
 class _HubOptions(ctypes.Structure):
-    _fields_ = [("size", _size), ("abi", ctypes.c_uint32), ("epoch", ctypes.c_uint64), ("settings", ctypes.c_char_p), ("settings_len", _size)]
+    _fields_ = [("size", _size), ("abi", ctypes.c_uint32), ("epoch", ctypes.c_uint64), ("settings", ctypes.c_char_p), ("settings_len", _size),
+                ("is_fresh", ctypes.c_uint32), ("spare", ctypes.c_uint32)]
 
 
 class _Message(ctypes.Structure):
     _fields_ = [("number", ctypes.c_uint64), ("to", ctypes.c_uint16), ("bytes", _pointer), ("len", _size)]
+
+
+class _NodeCounts(ctypes.Structure):
+    _fields_ = [("size", _size)] + [(name, ctypes.c_uint64) for name in (
+        "passes", "clients", "used_clients", "points", "null_pages", "stray_points", "full_points", "long_points", "spent_points", "refused_crumbs",
+        "refused_triggers", "dropped_notes", "messages", "hellos", "tells", "reports", "standings", "repeats", "acknowledged", "unacknowledged", "asks",
+        "full_asks", "refused_asks")]
 
 
 class _Info(ctypes.Structure):
@@ -51,7 +59,7 @@ def _loaded():
     for name, arguments in {
         "hind_new_trace": [_pointer], "hind_node_open": [at(_NodeOptions), at(_pointer)], "hind_node_close": [_pointer], "hind_node_pass": [_pointer],
         "hind_node_next": [_pointer, at(_Message)], "hind_node_sent": [_pointer, number], "hind_node_acknowledged": [_pointer, number],
-        "hind_node_again": [_pointer], "hind_node_deliver": [_pointer, bytes_, _size], "hind_client_get": [_pointer, at(_pointer)],
+        "hind_node_again": [_pointer], "hind_node_deliver": [_pointer, bytes_, _size], "hind_node_get_counts": [_pointer, at(_NodeCounts)], "hind_client_get": [_pointer, at(_pointer)],
         "hind_write": [_pointer, bytes_, _size, at(_size), at(_size)], "hind_end": [_pointer], "hind_hub_open": [at(_HubOptions), at(_pointer)],
         "hind_hub_close": [_pointer], "hind_hub_deliver": [_pointer, bytes_, _size], "hind_hub_next": [_pointer, at(_Message)], "hind_hub_pass": [_pointer],
         "hind_hub_take": [_pointer, at(_pointer)], "hind_hub_saved": [_pointer, bytes_], "hind_trace_get_info": [_pointer, at(_Info)],
@@ -147,6 +155,12 @@ class Node:
 
     def deliver(self, message):
         _checked(_library.hind_node_deliver(self._at, message, len(message)))
+
+    def counts(self):
+        """What the node did since it was opened, by name; hindsight.h says what each number of hind_node_counts counts."""
+        counts = _NodeCounts(ctypes.sizeof(_NodeCounts))
+        _checked(_library.hind_node_get_counts(self._at, ctypes.byref(counts)))
+        return {name: getattr(counts, name) for name, _ in _NodeCounts._fields_[1:]}
 
     def _write(self, trace, calls):
         """One segment. What is refused is left out and counted."""
@@ -251,12 +265,12 @@ class Trace:
 
 
 class Hub:
-    """The hub of a service."""
+    """The hub of a service. It is fresh where no hub was before it: then it is sure of the first life of each node at once."""
 
-    def __init__(self, settings, epoch=0):
+    def __init__(self, settings, epoch=0, is_fresh=False):
         settings = settings.encode()
         self._at = _pointer()
-        options = _HubOptions(ctypes.sizeof(_HubOptions), ABI, epoch, settings, len(settings))
+        options = _HubOptions(ctypes.sizeof(_HubOptions), ABI, epoch, settings, len(settings), is_fresh)
         _checked(_library.hind_hub_open(ctypes.byref(options), ctypes.byref(self._at)))
 
     def close(self):
