@@ -31,6 +31,7 @@ static void request(hindsight::Node &node, const hind_trace_id &id, bool fails) 
     hindsight::Segment segment(node.get(), id);
     HOLDS(segment.code() == HIND_OK);
     HOLDS(segment.point_at(7, "a record") == HIND_OK);
+    HOLDS(segment.points("two ", std::string("pieces"), std::string_view()) == HIND_OK);
     {
         hindsight::Span span(segment, "GET /", HIND_KIND_SERVER);
         HOLDS(span.event("began") == HIND_OK && span.attribute("text", "x") == HIND_OK && span.attribute("whole", std::int64_t{-1}) == HIND_OK);
@@ -55,7 +56,7 @@ static void is_thrown(const char *text, hind_node_id number, hind_code code, con
 
 int main() {
     hindsight::Node node(settings, 0, "one");
-    hindsight::Hub hub(settings);
+    hindsight::Hub hub(settings, 0, true);
     hind_trace_id id = hindsight::new_trace();
     request(node, hindsight::new_trace(), false);
     request(node, id, true);
@@ -66,9 +67,11 @@ int main() {
     hind_trace_info info = trace.info();
     HOLDS(!std::memcmp(&info.id, &id, sizeof id) && info.is_whole);
     std::vector<hind_record> records = trace.records();
-    HOLDS(records.size() == 8 && records[0].moment == 7 && std::string_view(reinterpret_cast<const char *>(records[0].payload), records[0].len) == "a record");
+    HOLDS(records.size() == 9 && records[0].moment == 7 && std::string_view(reinterpret_cast<const char *>(records[0].payload), records[0].len) == "a record");
+    HOLDS(std::string_view(reinterpret_cast<const char *>(records[1].payload), records[1].len) == "two pieces");
+    HOLDS(node.counts().points == 18 && hindsight::new_context().node == HIND_NO_NODE);
     hind_span_record span;
-    HOLDS(hind_read_span(records[7].payload, records[7].len, &span) && span.what == HIND_SPAN_END && span.status == HIND_STATUS_ERROR);
+    HOLDS(hind_read_span(records[8].payload, records[8].len, &span) && span.what == HIND_SPAN_END && span.status == HIND_STATUS_ERROR);
     HOLDS(hub.saved(id) == HIND_OK && !hub.take());
     is_thrown("nodes 0\n", 0, HIND_SETTINGS, "line 1");
     is_thrown(settings, 1, HIND_UNDECLARED, "no node");

@@ -9,6 +9,7 @@ import threading
 sys.dont_write_bytecode = True
 sys.path.insert(0, str(pathlib.Path(__file__).resolve().parent.parent / "bindings" / "python"))
 import hindsight
+import hindsight_web as web
 
 SETTINGS = "nodes 1\nclients 4\nbuffers 1024\ntriggerid 1 1 1000 1000\n"
 
@@ -75,6 +76,8 @@ def test_refusals(node):
         segment.point(b"kept", 1)
         segment.trigger(2)
     assert node.lost == lost + 2
+    counts = node.counts()
+    assert (counts["points"], counts["hellos"], counts["clients"], counts["refused_asks"]) == (1, 1, 4, 1), counts
 
 
 def test_first(node, hub):
@@ -170,8 +173,35 @@ def test_threads(node, hub):
         assert number % 4 == 3 or payloads(found[trace]) == [b"%d" % number], number
 
 
+def test_spans(node, hub):
+    """The examples are those of docs/FORMATS.md."""
+    trace, span = bytes(15) + b"\x77", bytes(7) + b"\xc7"
+    with node.segment(trace) as segment:
+        assert web.start_span(segment, bytes(7) + b"\xc6", "GET", span=span) == span
+        web.span_int(segment, span, "code", 503)
+        web.span_text(segment, span, "who", "ä")
+        web.span_event(segment, span, "x" * 253 + "äö")
+        web.end_span(segment, span, web.FAILED, "gone")
+        segment.trigger(1)
+    assert payloads(traces(node, hub)[trace]) == [
+        b"\0S" + span + bytes(7) + b"\xc6\2GET", b"\0A" + span + b"\1\4code" + bytes(6) + b"\1\xf7", b"\0A" + span + b"\0\3who\xc3\xa4",
+        b"\0V" + span + b"x" * 253 + b"\xc3\xa4", b"\0E" + span + b"\2gone"]
+
+
+def test_headers():
+    parent = "00-0af7651916cd43dd8448eb211c80319c-b7ad6b7169203331-01"
+    context = web.read_context(parent, "a=b,hind=1-0003")
+    assert context == (bytes.fromhex("0af7651916cd43dd8448eb211c80319c"), bytes.fromhex("b7ad6b7169203331"), 1, 3)
+    assert web.write_context(context._replace(node=4), "a=b,hind=1-0003") == (parent, "hind=1-0004,a=b")
+    assert web.write_context(context._replace(node=web.NO_NODE)) == (parent, "")
+    for none in (None, "", "00-x"):
+        own = web.read_context(none)
+        assert own.trace != bytes(16) and own[1:] == (web.NO_SPAN, 0, web.NO_NODE)
+    refused(lambda: web.write_context(own), hindsight.INVALID, "argument")
+
+
 def main():
-    with hindsight.Node(SETTINGS, name="shop") as node, hindsight.Hub(SETTINGS) as hub:
+    with hindsight.Node(SETTINGS, name="shop") as node, hindsight.Hub(SETTINGS, is_fresh=True) as hub:
         test_messages(node)
         test_refusals(node)
         traces(node, hub)
@@ -181,6 +211,8 @@ def main():
         test_long_segment(node, hub)
         test_coroutines(node, hub)
         test_threads(node, hub)
+        test_spans(node, hub)
+        test_headers()
 
 
 if __name__ == "__main__":

@@ -1,41 +1,23 @@
 /* The carrier over a NATS server that this program starts, stops, kills and starts again. The node is a plain list of messages.
  *
- *     carrier FOLDER PORT      FOLDER is empty, and takes what the server stores */
+ *     carrier FOLDER PORT [victim]      FOLDER is empty, and takes what the server stores; `victim` is how the program calls itself */
 #include "carrier.h"
 #include "expect.h"
+#include "processes.h"
+#include "pull.h"
 #include <nats/nats.h>
 #include <pthread.h>
-#include <signal.h>
 #include <stdatomic.h>
-#include <stdio.h>
 #include <stdlib.h>
-#include <string.h>
-#include <sys/wait.h>
-#include <time.h>
-#include <unistd.h>
 
 enum { MOST = 20000 };
 
 static char folder[256], port[16], url[64];
 static pid_t server;
 
-static void sleep_ms(long ms) {
-    struct timespec t = {ms / 1000, ms % 1000 * 1000000};
-    nanosleep(&t, NULL);
-}
-
 static void start_server(void) {
-    server = fork();
-    if (!server) {
-        if (!freopen("/dev/null", "w", stdout) || !freopen("/dev/null", "w", stderr)) _exit(126);
-        execlp("nats-server", "nats-server", "-a", "127.0.0.1", "-p", port, "-js", "-sd", folder, (char *)NULL);
-        _exit(127);
-    }
-}
-
-static void end_server(int with) {
-    kill(server, with);
-    waitpid(server, NULL, 0);
+    char *words[] = {"nats-server", "-a", "127.0.0.1", "-p", port, "-js", "-sd", folder, NULL};
+    server = process_start(words);
 }
 
 /* ---- a node: messages 0 to count-1, each of which waits until it is acknowledged */
@@ -106,32 +88,31 @@ static uint64_t acknowledged(const node *n) {
 
 /* Takes all that the stream of a prefix has, and answers how often each message came. */
 static void read_stream(const char *prefix, unsigned *came) {
-    natsConnection *connection = NULL;
-    jsCtx *js = NULL;
-    natsSubscription *sub = NULL;
-    char subject[64];
+    broker b;
+    pull p;
+    natsMsg *message;
+    char stream[BROKER_MOST_SUBJECT], fault[200];
+    jsConsumerConfig config;
     jsErrCode code = 0;
-    snprintf(subject, sizeof subject, "%s.says.*", prefix);
-    HOLDS(natsConnection_ConnectTo(&connection, url) == NATS_OK);
-    HOLDS(natsConnection_JetStream(&js, connection, NULL) == NATS_OK);
-    HOLDS(js_PullSubscribe(&sub, js, subject, "reader", NULL, NULL, &code) == NATS_OK);
-    for (;;) {
-        natsMsgList list = {NULL, 0};
-        if (natsSubscription_Fetch(&list, sub, 500, 500, &code) != NATS_OK) break;
-        for (int i = 0; i < list.Count; i++) {
-            uint64_t number;
-            HOLDS(natsMsg_GetDataLength(list.Msgs[i]) >= 8);
-            memcpy(&number, natsMsg_GetData(list.Msgs[i]), 8);
-            HOLDS(number < MOST);
-            HOLDS(natsMsg_GetDataLength(list.Msgs[i]) == (int)(8 + number % 50));
-            came[number]++;
-            natsMsg_Ack(list.Msgs[i], NULL);
-        }
-        natsMsgList_Destroy(&list);
+    HOLDS(!broker_open(&b, url, prefix, 5000, fault, sizeof fault));
+    broker_name(&b, "says", stream);
+    jsConsumerConfig_Init(&config);
+    config.Durable = "reader";
+    config.AckPolicy = js_AckExplicit;
+    HOLDS(js_AddConsumer(NULL, b.stream, stream, &config, NULL, &code) == NATS_OK);
+    HOLDS(!pull_open(&p, &b, stream, "reader"));
+    while ((message = pull_next(&p, 500)) != NULL) {
+        uint64_t number;
+        HOLDS(natsMsg_GetDataLength(message) >= 8);
+        memcpy(&number, natsMsg_GetData(message), 8);
+        HOLDS(number < MOST);
+        HOLDS(natsMsg_GetDataLength(message) == (int)(8 + number % 50));
+        came[number]++;
+        pull_acknowledge(b.connection, natsMsg_GetReply(message));
+        natsMsg_Destroy(message);
     }
-    natsSubscription_Destroy(sub);
-    jsCtx_Destroy(js);
-    natsConnection_Destroy(connection);
+    pull_close(&p);
+    broker_close(&b);
 }
 
 static carrier *opened(const char *prefix, const char *name, uint16_t nodes, unsigned lease, carrier_answer expected) {
@@ -187,14 +168,14 @@ static void pause_server(void) {
 
 static void kill_server(void) {
     sleep_ms(20);
-    end_server(SIGKILL);
+    process_end(server, SIGKILL);
     sleep_ms(1000);
     start_server();
 }
 
 static void end_and_start(void) {
     sleep_ms(20);
-    end_server(SIGTERM);
+    process_end(server, SIGTERM);
     sleep_ms(3000);
     start_server();
 }
@@ -252,22 +233,33 @@ static void names(void) {
     printf("names: one number and one life each\n");
 }
 
+/* The process that is killed: it is this program anew, since what forks has none of the threads that carry. It says its epoch. */
+static int victim(void) {
+    carrier *c = opened("killed", "victim", 4, 2000, CARRIER_DONE);
+    printf("%llu\n", (unsigned long long)carrier_epoch(c));
+    fflush(stdout);
+    sleep_ms(60000);
+    return 1;
+}
+
 /* A process that is killed leaves its name when its lease ends. */
-static void killed(void) {
+static void killed(const char *program) {
     int pipes[2];
-    uint64_t before = 0, waited = 0;
+    char said[32] = "";
+    uint64_t waited = 0;
     HOLDS(!pipe(pipes));
     pid_t child = fork();
     if (!child) {
-        carrier *c = opened("killed", "victim", 4, 2000, CARRIER_DONE);
-        uint64_t epoch = carrier_epoch(c);
-        if (write(pipes[1], &epoch, sizeof epoch) != sizeof epoch) _exit(1);
-        pause();
-        _exit(0);
+        dup2(pipes[1], STDOUT_FILENO);
+        close(pipes[0]);
+        close(pipes[1]);
+        execl(program, program, folder, port, "victim", (char *)NULL);
+        _exit(127);
     }
-    HOLDS(read(pipes[0], &before, sizeof before) == sizeof before);
-    kill(child, SIGKILL);
-    waitpid(child, NULL, 0);
+    close(pipes[1]);
+    HOLDS(read(pipes[0], said, sizeof said - 1) > 0);
+    uint64_t before = strtoull(said, NULL, 10);
+    process_end(child, SIGKILL);
     carrier_options options = {.url = url, .prefix = "killed", .name = "victim", .nodes = 4, .lease = 2000, .wait = 1000};
     carrier *c = NULL;
     char fault[200];
@@ -280,7 +272,6 @@ static void killed(void) {
     HOLDS(carrier_node(c) == 0 && carrier_epoch(c) > before);
     carrier_close(c);
     close(pipes[0]);
-    close(pipes[1]);
     printf("killed: the name was free again after %lu ms\n", (unsigned long)waited);
 }
 
@@ -319,35 +310,36 @@ static void lost(void) {
 /* A broker without JetStream, or none, is said. */
 static void nobody(void) {
     char right[64];
-    strcpy(right, url);
-    strcpy(url, "nats://127.0.0.1:1");
+    snprintf(right, sizeof right, "%s", url);
+    snprintf(url, sizeof url, "nats://127.0.0.1:1");
     carrier_options options = {.url = url, .name = "n", .nodes = 4};
     carrier *c = NULL;
     char fault[200] = "";
     HOLDS(carrier_open(&options, &c, fault, sizeof fault) == CARRIER_BROKER && !c && fault[0]);
     options.prefix = "no.word";
     HOLDS(carrier_open(&options, &c, fault, sizeof fault) == CARRIER_BROKER && !c && strstr(fault, "prefix"));
-    strcpy(url, right);
+    snprintf(url, sizeof url, "%s", right);
     printf("nobody: said\n");
 }
 
 int main(int argc, char **argv) {
-    HOLDS(argc == 3);
+    if (argc != 3 && argc != 4) return 2;
     setvbuf(stdout, NULL, _IOLBF, 0); /* what forks has nothing left to print */
     snprintf(folder, sizeof folder, "%s", argv[1]);
     snprintf(port, sizeof port, "%s", argv[2]);
     snprintf(url, sizeof url, "nats://127.0.0.1:%s", port);
+    if (argc == 4) return victim();
     nobody();
     start_server();
     names();
     asks();
-    killed();
+    killed(argv[0]);
     lost();
     carries("plain", "plain", 5000, NULL);
     carries("paused", "paused", MOST, pause_server);
     carries("ended", "ended", MOST, end_and_start);
     carries("killed", "broken", MOST, kill_server);
-    end_server(SIGTERM);
+    process_end(server, SIGTERM);
     nats_Close();
     return failed != 0;
 }

@@ -86,15 +86,15 @@ static void reads_tracestate(void) {
     EXPECT(named("hind=1-00a3,b=1=2"), HIND_NO_NODE);
     EXPECT(named("hind=1-00a3,b=1\n"), HIND_NO_NODE);
     /* 32 entries, and one more */
-    strcat(many, "hind=1-00a3");
-    for (int i = 0; i < 31; i++) strcat(many, ",b=1");
+    size_t len = (size_t)snprintf(many, sizeof many, "hind=1-00a3");
+    for (int i = 0; i < 31; i++) len += (size_t)snprintf(many + len, sizeof many - len, ",b=1");
     EXPECT(named(many), 0xa3);
-    strcat(many, ",b=1");
+    snprintf(many + len, sizeof many - len, ",b=1");
     EXPECT(named(many), HIND_NO_NODE);
     /* keys and values of 256 bytes, and one more */
     for (int n = 256; n <= 257; n++) {
         memset(long_key, 'k', 300);
-        strcpy(long_key + n, "=1,");
+        memcpy(long_key + n, "=1,", 4);
         char text[640];
         snprintf(text, sizeof text, "%shind=1-00a3", long_key);
         EXPECT(named(text), n == 256 ? 0xa3 : HIND_NO_NODE);
@@ -128,7 +128,7 @@ static void writes(void) {
     EXPECT(strcmp(written(HIND_NO_NODE, NULL), ""), 0);
     EXPECT(strcmp(written(3, "a=1,b"), "hind=1-0003"), 0);
     /* 32 others: the last one goes */
-    strcpy(before, "a=1");
+    snprintf(before, sizeof before, "a=1");
     strcpy(wanted, "hind=1-0003,a=1");
     for (int i = 1; i < 32; i++) {
         strcat(before, i < 31 ? ",b=2" : ",c=3");
@@ -243,6 +243,13 @@ static void ids(void) {
     int ends[2];
     EXPECT(hind_new_trace(NULL), HIND_INVALID);
     EXPECT(hind_new_span(NULL), HIND_INVALID);
+    hind_context fresh, other;
+    static const hind_context none;
+    EXPECT(hind_new_context(NULL), HIND_INVALID);
+    EXPECT(hind_new_context(&fresh), HIND_OK);
+    EXPECT(hind_new_context(&other), HIND_OK);
+    HOLDS(memcmp(&fresh.trace, &none.trace, sizeof none.trace) && memcmp(&fresh.trace, &other.trace, sizeof other.trace));
+    HOLDS(!memcmp(&fresh.span, &none.span, sizeof none.span) && fresh.flags == 0 && fresh.node == HIND_NO_NODE);
     EXPECT(hind_new_trace(&traces[0]), HIND_OK);
     EXPECT(pipe(ends), 0);
     if (!fork()) {

@@ -68,12 +68,29 @@ static void write_all(const uint8_t *bytes, size_t len) {
     fuzz_taken += calls > 0;
 }
 
+/* The same bytes as one record of pieces, which are as long as the bytes say. */
+static void point_pieces(const uint8_t *bytes, size_t len) {
+    struct iovec pieces[8];
+    size_t at = 0, count = len % 9;
+    for (size_t i = 0; i < count; i++) {
+        size_t one = i + 1 < count ? bytes[i % len] * (size_t)(bytes[(i + 1) % len] % 4) : len - at;
+        if (one > len - at) one = len - at;
+        pieces[i] = (struct iovec){(void *)(uintptr_t)(bytes + at), one};
+        at += one;
+    }
+    hind_code code = hind_pointv(client, pieces, count);
+    if (code != HIND_OK && code != HIND_NOTRACE && code != HIND_FULL) wrong(hind_errname(code));
+    /* a length that no record has is answered before a byte is read */
+    if (count && (code = hind_pointv(client, &(struct iovec){(void *)(uintptr_t)bytes, SIZE_MAX - len}, 1)) != HIND_TOOLONG && code != HIND_NOTRACE) wrong(hind_errname(code));
+}
+
 int LLVMFuzzerTestOneInput(const uint8_t *bytes, size_t len) {
     const hind_trace_id id = {{1}};
     if (!node) start();
     if (len % 4) (void)hind_begin(client, &id);
     else (void)hind_end(client);
     write_all(bytes, len);
+    point_pieces(bytes, len);
     (void)hind_node_deliver(node, bytes, len);
     (void)hind_hub_deliver(hub, bytes, len);
     drain();

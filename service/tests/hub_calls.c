@@ -14,7 +14,7 @@ static hindcore_hub hub;
 static hindcore_fault fault;
 static uint8_t bytes[4096], page[1024], out[65535];
 
-static uint32_t open_with(const char *settings) { return hindcore_hub_open((const uint8_t *)settings, strlen(settings), 9, &hub, &fault); }
+static uint32_t open_with(const char *settings) { return hindcore_hub_open((const uint8_t *)settings, strlen(settings), 9, 1, &hub, &fault); }
 
 static void vacant_handles(void) {
     hindcore_hub none;
@@ -75,6 +75,7 @@ static uint32_t deliver(const writing *w) {
 
 /* A group is told of with a lateral, one node is asked and answers, its page of two pieces comes, and all is saved. */
 static void a_life(void) {
+    static const uint8_t digest[32] = {1}; /* the core compares none */
     writing w = {bytes, 0}, p = {page, 0};
     hindcore_trace trace;
     hindcore_message_id message;
@@ -86,7 +87,7 @@ static void a_life(void) {
     hindcore_head head;
     uint32_t number;
     uint64_t len = 0;
-    put_hello(&w, 3, 0, 0, "front");
+    put_hello(&w, 3, 0, 0, digest, "front");
     EXPECT(deliver(&w), HINDCORE_DONE);
     EXPECT(deliver(&w), HINDCORE_DONE);
     EXPECT(hindcore_hub_deliver(&hub, bytes, 3), HINDCORE_NO_MESSAGE);

@@ -32,6 +32,7 @@ static hind_hub *opened_hub(void) {
     hind_hub *hub = NULL;
     o.settings = text;
     o.settings_len = sizeof text - 1;
+    o.is_fresh = 1;
     EXPECT(hind_hub_open(&o, &hub), HIND_OK);
     return hub;
 }
@@ -47,7 +48,7 @@ static void texts(void) {
     }
     EXPECT(strcmp(hind_errname(HIND_FULL), "HIND_FULL"), 0);
     EXPECT(hind_version(), HIND_VERSION_NUMBER);
-    EXPECT(strcmp(hind_version_string(), "0.1.0"), 0);
+    EXPECT(strcmp(hind_version_string(), "0.2.0"), 0);
 }
 
 static void options(void) {
@@ -130,7 +131,11 @@ static void refused_settings(void) {
     HOLDS(hind_settings_error(NULL) != NULL);
     EXPECT(hind_hub_open(NULL, &hub), HIND_INVALID);
     EXPECT(hind_hub_open(&h, NULL), HIND_INVALID);
-    h.abi = 0;
+    h.settings = NULL;
+    h.settings_len = 0;
+    h.spare = 1;
+    EXPECT(hind_hub_open(&h, &hub), HIND_ABI_WRONG);
+    h.abi = h.spare = 0;
     EXPECT(hind_hub_open(&h, &hub), HIND_ABI_WRONG);
     EXPECT(hind_hub_close(NULL), HIND_OK);
 }
@@ -156,6 +161,8 @@ static void nulls(hind_node *node, hind_client *c, hind_hub *hub) {
     EXPECT(hind_node_deliver(NULL, "x", 1), HIND_INVALID);
     EXPECT(hind_node_deliver(node, NULL, 1), HIND_INVALID);
     EXPECT(hind_node_hello(NULL), HIND_INVALID);
+    EXPECT(hind_node_get_counts(NULL, NULL), HIND_INVALID);
+    EXPECT(hind_node_get_counts(node, NULL), HIND_INVALID);
     errno = 0;
     EXPECT(hind_node_fd(NULL), -1);
     EXPECT(errno, EINVAL);
@@ -173,6 +180,10 @@ static void nulls(hind_node *node, hind_client *c, hind_hub *hub) {
     EXPECT(hind_point(NULL, "x", 1), HIND_INVALID);
     EXPECT(hind_point(c, NULL, 1), HIND_INVALID);
     EXPECT(hind_point_at(c, 1, NULL, 1), HIND_INVALID);
+    EXPECT(hind_pointv(NULL, NULL, 0), HIND_INVALID);
+    EXPECT(hind_pointv(c, NULL, 1), HIND_INVALID);
+    EXPECT(hind_pointv(c, &(struct iovec){NULL, 1}, 1), HIND_INVALID);
+    EXPECT(hind_pointv_at(c, 1, NULL, 1), HIND_INVALID);
     EXPECT(hind_crumb(NULL, 1), HIND_INVALID);
     EXPECT(hind_crumb_of(NULL, &first, 1), HIND_INVALID);
     EXPECT(hind_crumb_of(c, NULL, 1), HIND_INVALID);
@@ -315,6 +326,24 @@ static void full(hind_node *node, hind_client *c) {
     EXPECT(hind_end(c), HIND_OK);
 }
 
+/* Pieces are one record, as long as one may be. */
+static void pieces(hind_client *c) {
+    static uint8_t bytes[65535];
+    struct iovec all[] = {{bytes, 40000}, {NULL, 0}, {bytes, 25535}, {bytes, 0}, {bytes, 1}}, huge[] = {{bytes, SIZE_MAX}, {bytes, SIZE_MAX}};
+    hind_client_counts before = {.size = sizeof before}, after = before;
+    EXPECT(hind_pointv(c, all, 4), HIND_NOTRACE);
+    EXPECT(hind_begin(c, &second), HIND_OK);
+    EXPECT(hind_client_get_counts(c, &before), HIND_OK);
+    EXPECT(hind_pointv(c, NULL, 0), HIND_OK);
+    EXPECT(hind_pointv(c, all + 3, 2), HIND_OK);
+    EXPECT(hind_pointv(c, all, 5), HIND_TOOLONG); /* 65,536 bytes */
+    EXPECT(hind_pointv(c, huge, 2), HIND_TOOLONG);
+    EXPECT(hind_pointv(c, huge + 1, 1), HIND_TOOLONG);
+    EXPECT(hind_client_get_counts(c, &after), HIND_OK);
+    HOLDS(after.points == before.points + 2 && after.long_points == before.long_points + 3);
+    EXPECT(hind_end(c), HIND_OK);
+}
+
 static void spans(hind_client *c) {
     hind_span_id span = {{1}}, zero = {{0}};
     EXPECT(hind_span_event(c, span, "x"), HIND_NOTRACE);
@@ -423,6 +452,101 @@ static void messages(void) {
     EXPECT(hind_node_close(node), HIND_OK);
 }
 
+/* ---- counts of a node */
+
+static hind_node_counts counted(hind_node *node) {
+    hind_node_counts counts = {.size = sizeof counts};
+    EXPECT(hind_node_get_counts(node, &counts), HIND_OK);
+    return counts;
+}
+
+/* What clients counted is seen from their next end or flush on, and stays when they are given back. */
+static void counts_of_clients(hind_node *node) {
+    hind_client *a, *b;
+    uint8_t payload[65536] = {0};
+    EXPECT(counted(node).clients, 2);
+    EXPECT(counted(node).used_clients, 0);
+    EXPECT(hind_client_open(node, &a), HIND_OK);
+    EXPECT(hind_client_open(node, &b), HIND_OK);
+    EXPECT(counted(node).used_clients, 2);
+    EXPECT(hind_begin(a, &first), HIND_OK);
+    EXPECT(hind_point(a, "x", 1), HIND_OK);
+    EXPECT(hind_point(a, "y", 1), HIND_OK);
+    EXPECT(hind_point(a, payload, 65536), HIND_TOOLONG);
+    EXPECT(counted(node).points, 0);
+    EXPECT(hind_end(a), HIND_OK);
+    EXPECT(counted(node).points, 2);
+    EXPECT(counted(node).long_points, 1);
+    EXPECT(hind_point(b, "x", 1), HIND_NOTRACE);
+    EXPECT(hind_flush(b, NULL), HIND_OK);
+    EXPECT(counted(node).stray_points, 1);
+    EXPECT(hind_point(b, "x", 1), HIND_NOTRACE);
+    EXPECT(hind_begin(b, &second), HIND_OK);
+    EXPECT(counted(node).stray_points, 1);
+    EXPECT(hind_point(b, "x", 1), HIND_OK);
+    EXPECT(hind_client_close(b), HIND_OK);
+    EXPECT(counted(node).stray_points, 2);
+    EXPECT(hind_client_close(a), HIND_OK);
+    EXPECT(counted(node).points, 3);
+    EXPECT(counted(node).used_clients, 0);
+    HOLDS(counted(node).null_pages + counted(node).full_points + counted(node).spent_points + counted(node).refused_crumbs + counted(node).refused_triggers + counted(node).dropped_notes == 0);
+}
+
+/* Hands all out that the node says, and has all but the last `kept` acknowledged. Answers how many there were. */
+static uint64_t say_all(hind_node *node, uint64_t kept) {
+    uint64_t numbers[64], count = 0;
+    hind_message m;
+    for (int i = 0; i < 16; i++) {
+        HOLDS(hind_node_pass(node) >= 0);
+        while (count < 64 && hind_node_next(node, &m) == HIND_OK) {
+            numbers[count++] = m.number;
+            EXPECT(hind_node_sent(node, m.number), HIND_OK);
+        }
+    }
+    for (uint64_t i = 0; i + kept < count; i++) EXPECT(hind_node_acknowledged(node, numbers[i]), HIND_OK);
+    return count;
+}
+
+static void counts_of_messages(void) {
+    static const uint8_t ask[44] = {1, 3, 0, 0, 0, 0, 0, 0, 0, 9, 0, 0, 0, 0, 0, 0, 0, 1, 0, 1, 0, 2, 0, 0, 0, 7, 1, 1, 2, 3, 4, 5, 6, 7, 8, 9, 10, 11, 12, 13, 14, 15, 16};
+    uint8_t other[44];
+    hind_node *node = opened(1, 9, "n");
+    hind_node_counts c = counted(node);
+    uint64_t full = 0, taken = 1;
+    HOLDS(!c.messages && !c.acknowledged && !c.unacknowledged && !c.passes && !c.asks);
+    counts_of_clients(node);
+    EXPECT(say_all(node, 1), 1); /* the hello */
+    c = counted(node);
+    HOLDS(c.passes == 16 && c.messages == 1 && c.hellos == 1 && c.unacknowledged == 1 && !c.acknowledged && !c.repeats);
+    EXPECT(hind_node_again(node), HIND_OK);
+    EXPECT(say_all(node, 0), 1);
+    c = counted(node);
+    HOLDS(c.messages == 1 && c.repeats == 1 && c.acknowledged == 1 && !c.unacknowledged);
+    /* an ask for trace `first`, of which the node has a page: it answers, reports and says how it stands */
+    EXPECT(hind_node_deliver(node, ask, sizeof ask), HIND_OK);
+    EXPECT(say_all(node, 2), 3);
+    c = counted(node);
+    HOLDS(c.messages == 4 && c.tells == 1 && c.reports == 1 && c.standings == 1 && c.hellos == 1 && c.acknowledged == 2 && c.unacknowledged == 2 && c.asks == 1);
+    EXPECT(hind_node_deliver(node, "x", 1), HIND_REFUSED);
+    /* other asks find no place before long: asks that came are not forgotten before a pass */
+    memcpy(other, ask, sizeof other);
+    for (uint8_t i = 8; !full && i < 250; i++) {
+        other[17] = other[25] = i;
+        full += hind_node_deliver(node, other, sizeof other) == HIND_FULL;
+        taken += !full;
+    }
+    c = counted(node);
+    EXPECT(full, 1);
+    HOLDS(c.refused_asks == 1 && c.full_asks == 1 && c.asks == taken);
+    /* an older header's struct is not written beyond */
+    c = (hind_node_counts){.size = offsetof(hind_node_counts, points), .points = 77};
+    EXPECT(hind_node_get_counts(node, &c), HIND_OK);
+    HOLDS(c.clients == 2 && c.points == 77);
+    c.size = 3;
+    EXPECT(hind_node_get_counts(node, &c), HIND_INVALID);
+    EXPECT(hind_node_close(node), HIND_OK);
+}
+
 /* ---- two nodes and a hub */
 
 /* Carries messages until nobody has anything to do for a while. */
@@ -463,6 +587,7 @@ static void a_trace(void) {
     hind_node *nodes[2] = {opened(0, 5, "front"), opened(1, 6, "back")};
     hind_hub *hub = opened_hub();
     hind_client *front, *back;
+    char word[] = "saks";
     hind_context context = {first, {{1}}, 0, 0};
     hind_trace *trace, *again;
     hind_trace_info info = {.size = sizeof info};
@@ -473,7 +598,9 @@ static void a_trace(void) {
     EXPECT(hind_client_get(nodes[0], &front), HIND_OK);
     EXPECT(hind_client_get(nodes[1], &back), HIND_OK);
     EXPECT(hind_begin(front, &first), HIND_OK);
-    EXPECT(hind_point_at(front, 100, "asks", 4), HIND_OK);
+    struct iovec asks[] = {{word + 1, 1}, {NULL, 0}, {word, 1}, {word + 2, 2}};
+    EXPECT(hind_pointv_at(front, 100, asks, 4), HIND_OK);
+    word[0] = word[1] = 0; /* it was copied */
     EXPECT(hind_begin_from(back, &context), HIND_OK);
     EXPECT(hind_point_at(back, 200, "answers", 7), HIND_OK);
     EXPECT(hind_end(back), HIND_OK);
@@ -528,6 +655,45 @@ static void a_trace(void) {
     EXPECT(hind_node_close(nodes[1]), HIND_OK);
 }
 
+/* A process starts anew under its name, and claims as many traces as before: each is followed to the other node. */
+static void later_lives(void) {
+    hind_node *nodes[2] = {NULL, opened(1, 6, "back")};
+    hind_hub *hub = opened_hub();
+    hind_client *front, *back;
+    EXPECT(hind_client_open(nodes[1], &back), HIND_OK);
+    for (uint8_t life = 0; life < 4; life++) {
+        nodes[0] = opened(0, 5 + life, "front");
+        EXPECT(hind_client_open(nodes[0], &front), HIND_OK);
+        for (uint8_t t = 1; t <= 3; t++) {
+            hind_trace_id id = {{9, life, t}};
+            hind_trace_info info = {.size = sizeof info};
+            hind_trace *trace;
+            EXPECT(hind_begin(back, &id), HIND_OK);
+            EXPECT(hind_point_at(back, 200, "answers", 7), HIND_OK);
+            EXPECT(hind_end(back), HIND_OK);
+            EXPECT(hind_begin(front, &id), HIND_OK);
+            EXPECT(hind_point_at(front, 100, "asks", 4), HIND_OK);
+            EXPECT(hind_crumb(front, 1), HIND_OK);
+            EXPECT(hind_trigger(front, 1, &id, NULL, 0), HIND_OK);
+            EXPECT(hind_end(front), HIND_OK);
+            carry(nodes, 2, hub);
+            EXPECT(hind_hub_take(hub, &trace), HIND_OK);
+            if (!trace) continue;
+            EXPECT(hind_trace_get_info(trace, &info), HIND_OK);
+            HOLDS(!memcmp(&info.id, &id, sizeof id) && info.part == 0 && info.trigger == 1 && info.lives == 2 && info.records == 2);
+            /* what a life before it may have lost is not known yet */
+            EXPECT(info.is_whole, life == 0);
+            EXPECT(hind_hub_saved(hub, &id), HIND_OK);
+            hind_trace_free(trace);
+        }
+        EXPECT(hind_client_close(front), HIND_OK);
+        EXPECT(hind_node_close(nodes[0]), HIND_OK);
+    }
+    EXPECT(hind_client_close(back), HIND_OK);
+    EXPECT(hind_node_close(nodes[1]), HIND_OK);
+    EXPECT(hind_hub_close(hub), HIND_OK);
+}
+
 int main(void) {
     texts();
     options();
@@ -539,6 +705,9 @@ int main(void) {
     nulls(node, c, hub);
     calls(c);
     full(node, c);
+    pass_all(node);
+    pieces(c);
+    pass_all(node);
     spans(c);
     pass_all(node);
     writes(node, c);
@@ -547,7 +716,9 @@ int main(void) {
     EXPECT(hind_hub_close(hub), HIND_OK);
     clients();
     messages();
+    counts_of_messages();
     a_trace();
+    later_lives();
     if (failed) fprintf(stderr, "%d failed\n", failed);
     return failed != 0;
 }

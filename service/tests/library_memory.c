@@ -65,6 +65,7 @@ static void writes_take_none(hind_client *c) {
     allocations = 0;
     EXPECT(hind_begin(c, &id), HIND_OK);
     EXPECT(hind_point(c, "some bytes", 10), HIND_OK);
+    EXPECT(hind_pointv(c, &(struct iovec){(void *)(uintptr_t)text, 10}, 1), HIND_OK);
     EXPECT(hind_crumb(c, 0), HIND_OK);
     EXPECT(hind_trigger(c, 1, NULL, NULL, 0), HIND_OK);
     EXPECT(hind_write(c, "P\0\0\0\0\0\0\0\1\0\1x", 12, NULL, NULL), HIND_OK);
@@ -166,7 +167,7 @@ int main(void) {
     refused_at = -1;
     REFUSING(hind_hub_take(hub, &trace), trace);
     EXPECT(hind_trace_get_info(trace, &info), HIND_OK);
-    EXPECT(info.records, 2);
+    EXPECT(info.records, 3);
     size_t len = 0;
     REFUSING(hind_trace_otlp(trace, count_line, &len), len);
     HOLDS(len > 0);

@@ -1,8 +1,6 @@
 /* Random lives of a node against a plain model: what its clients wrote, what was lost of it, what the node was asked, and what it said.
  *
- *     lives FIRST COUNT          lives of the seeds from FIRST on, of 5,000 calls each; --loud as a third word prints each, and
- *                                --strict looks at whole, and at the pages that are counted, also where
- *                                pages were taken before their notes
+ *     lives FIRST COUNT          lives of the seeds from FIRST on, of 5,000 calls each; --loud as a third word prints each
  *     lives long SEED            a life of a million calls without an acknowledgement
  *
  * One thread makes all calls, the node's between the clients'. In each life:
@@ -18,7 +16,9 @@
  *   4. A standing is news of its claim. Where no note was dropped, no memory refused and no page taken before its segment was heard, it
  *      counts the pages that were handed out before it. Where the node then heard all that was written, it says exactly what is open, what was lost by
  *      each cause that a client counts, and how whole the trace is. Once all is acknowledged each claim has one, and what was sent of the trace is
- *      what was reported, evicted and abandoned. Where a node says whole, all pages are out of each segment behind its horizon, and nothing of them was refused.
+ *      what was reported, evicted and abandoned. Where a node says whole and counts each page that was reported of the trace, then of each segment that has a
+ *      page out all pages are, nothing of it was refused, and each of its crumbs was told: whatever notes were late, dropped or found no memory. Where it heard all, so it is
+ *      of each segment behind its horizon, and where it says whole or unheard each crumb of the trace was told, also those outside of segments.
  *   5. In the end no buffer is lost, and none is there twice: the index filled, as many pages have a buffer as it does not keep, and the next one has
  *      none. The groups that claimed first are forgotten, as many as claims are too many: a further page of a trace that one of these alone named is
  *      not reported, and that of another group's is. All that was allocated is freed.
@@ -28,9 +28,8 @@
  *
  * What it does not tell: which pages are evicted or abandoned (their number alone); the order among groups in which pages are reported, and the
  * share of each trigger id; buckets where several clients fire; standings of a node that dropped a note, found no memory for one, or has no room for each trace,
- * and the horizon there. A page is taken before its segment is heard where more than 64 notes of its client came between two passes, or more than
- * the backlog has places: what is said then is looked at under --strict alone, and in part. Crumbs that the index or a forgotten group took with it, and
- * refused ones of a trace that need not be open, are expected in no count. No life is spent, none reaches the end of numbers, and no core is renewed but in
+ * and the horizon there. More than a link's places of notes wait in their client's outbox: then how whole a trace is is looked at where it is called whole alone.
+ * No life is spent, none reaches the end of numbers, and no core is renewed but in
  * the long life, whose pages are not read. Two threads at once are not tried. */
 #include "hindcore.h"
 #include "messages.h"
@@ -58,7 +57,6 @@ enum {
     CLAIMS_MORE = 2112, /* docs/RULES.md, "A node's pass" */
     ASK_PLACES = 64,
     MOST_PAYLOAD = 65535,
-    MOST_HEARD = 64,     /* notes of a client in a pass */
     MOST_LOOKS = 64,     /* traces that are looked at for one that may be forgotten */
     DECLARED = 3
 };
@@ -147,7 +145,8 @@ static uint8_t arena[ARENA];
 static size_t arena_used;
 
 typedef struct {
-    unsigned trace, pages, nulls, fulls, longs, crumbs, out; /* out: of the pages, those that were reported */
+    unsigned trace, pages, nulls, fulls, longs, crumbs, out; /* crumbs that were refused; out: of the pages, those that were reported */
+    uint64_t led;   /* nodes to which its crumbs were done */
     uint64_t heard; /* which of all segments that were heard, from 1 */
     int is_closed;
 } segment;
@@ -175,6 +174,7 @@ static struct {
     unsigned segments, sent, nulls, fulls, longs, crumbs_refused; /* of closed segments */
     unsigned reported;
     uint64_t crumbs;   /* nodes to which it was done */
+    uint64_t told;     /* nodes that were told for a group that names it */
     int claimer;       /* a group, or -1 */
     int last[MOST_CLIENTS]; /* page that was reported last of a client */
 } of[MOST_TRACES];
@@ -230,7 +230,6 @@ static int is_blind; /* a message was let go that nobody saw */
 static int is_spent;
 static int is_told_again; /* a group was answered for twice: if it was forgotten between, it claims anew */
 static int has_refused;
-static int is_strict; /* it is wrong to take pages before their notes */
 static int is_behind; /* a pass may have taken pages of which it had not heard */
 static unsigned notes_since_pass[MOST_CLIENTS];
 
@@ -239,7 +238,7 @@ static int all_seen, is_of_pass, is_touched;
 static uint64_t heard; /* segments, in the order in which passes heard them */
 static int is_fresh(void) { return is_of_pass && !is_touched; }
 
-static uint64_t total_reported, total_told, total_standings, total_whole, total_whole_checked, total_exact, total_claims_checked, total_filled, total_partial, total_spent, total_lost, total_refused, total_whole_since, total_forgotten, total_kept;
+static uint64_t total_reported, total_told, total_standings, total_whole, total_whole_checked, total_exact, total_claims_checked, total_filled, total_partial, total_spent, total_lost, total_refused, total_whole_since, total_forgotten, total_kept, total_untold, total_crumbs_told;
 
 static int drops_notes(void) {
     for (unsigned c = 0; c < life.clients; c++)
@@ -375,6 +374,7 @@ static void learn_told(const uint8_t *m, size_t len, uint64_t at) {
     must_be("crumbs that are told and were not left", 0, nodes & ~left);
     if (why == 2) must("a late told leads to one node", nodes && !(nodes & (nodes - 1)));
     g->crumbs |= nodes;
+    for (unsigned i = 0; i < g->trace_count; i++) of[g->traces[i]].told |= nodes;
 }
 
 static void learn_reported(const uint8_t *m, size_t len, uint64_t at) {
@@ -406,27 +406,29 @@ static void learn_reported(const uint8_t *m, size_t len, uint64_t at) {
     if (!forgets() && !is_blind) must_be("a page is of the group that claimed first", (uint64_t)of[t].claimer, (uint64_t)(g - groups));
 }
 
-/* Whole, and nothing was missed: of each client all pages of the trace are out up to the end of a segment, and nothing else was lost of them. */
-static void check_whole(unsigned t) {
+/* Whole, and each page that is out is counted: of each segment that has a page out all are, nothing else was lost of it, and its crumbs were told. Where all notes were heard of
+ * and none is behind the horizon, no segment of a client is out behind one that is not. */
+static void check_whole(unsigned t, int all_heard) {
     for (unsigned c = 0; c < life.clients; c++) {
         int is_over = 0;
         for (unsigned i = 0; i < clients[c].made_count; i++) {
             const segment *s = &segments[clients[c].made[i]];
             if (s->trace != t || !s->pages) continue;
-            if (is_over) {
-                must_be("pages behind those of which it says whole", 0, s->out);
-            } else if (s->out == 0) {
-                is_over = 1;
-            } else {
-                must_be("pages of a segment of what is whole", s->pages, s->out);
-                must("nothing was lost of what is whole", !s->nulls && !s->fulls && !s->longs && !s->crumbs);
+            if (s->out == 0) {
+                is_over = all_heard;
+                continue;
             }
+            must("no segment of what is whole is out behind one that is not", !is_over);
+            must("what is whole is closed", s->is_closed);
+            must_be("pages of a segment of what is whole", s->pages, s->out);
+            must("nothing was lost of what is whole", !s->nulls && !s->fulls && !s->longs && !s->crumbs);
+            must_be("crumbs of what is whole that were not told", 0, s->led & ~of[t].told);
         }
     }
     total_whole_checked++;
 }
 
-/* Whole since a horizon, where the node heard all segments by now: of each that it heard behind the horizon everything is out. */
+/* Whole since a horizon, where the node heard all segments by now: of each that it heard behind the horizon everything is out, and its crumbs were told. */
 static void check_whole_since(unsigned t, uint64_t horizon) {
     for (unsigned n = 0; n < segment_count; n++) {
         const segment *s = &segments[n];
@@ -434,11 +436,13 @@ static void check_whole_since(unsigned t, uint64_t horizon) {
         must("what is whole is closed", s->is_closed);
         must("nothing was lost of what is whole since", !s->nulls && !s->fulls && !s->longs && !s->crumbs);
         must_be("pages of a segment of what is whole since", s->pages, s->out);
+        must_be("crumbs of what is whole since that were not told", 0, s->led & ~of[t].told);
     }
     total_whole_since++;
 }
 
-/* How a node stands to a trace that has heard all that was written, and whose memory has no end. */
+/* How a node stands to a trace that has heard all that was written, and whose memory has no end. Where a crumb was not told, be it on its way, let go by the
+ * index or gone with a forgotten group, it says neither whole nor unheard. What was told for a group that was forgotten may count no more. */
 static void check_standing(unsigned t, const uint8_t *s) {
     uint64_t evicted = number_at(s + 21 + 56, 8), abandoned = number_at(s + 21 + 64, 8), lost = 0, left = of[t].reported + evicted + abandoned;
     unsigned open = 0, here = 0;
@@ -454,7 +458,12 @@ static void check_standing(unsigned t, const uint8_t *s) {
     must_be("long points", of[t].longs, number_at(s + 45, 8));
     must_be("refused crumbs", of[t].crumbs_refused, number_at(s + 53, 8));
     must("no more pages left than were sent", left <= of[t].sent + here);
-    must_be("how whole", open ? SAYS_OPEN : !of[t].segments ? SAYS_UNHEARD : lost ? SAYS_LOST : of[t].sent == of[t].reported ? SAYS_WHOLE : SAYS_UNKNOWN, s[0]);
+    unsigned is = open ? SAYS_OPEN : !of[t].segments && !of[t].crumbs_refused ? SAYS_UNHEARD : lost ? SAYS_LOST : of[t].sent == of[t].reported ? SAYS_WHOLE : SAYS_UNKNOWN;
+    if (is == SAYS_UNHEARD || is == SAYS_WHOLE) {
+        if (of[t].crumbs & ~of[t].told || (of[t].crumbs && forgets() && s[0] == SAYS_UNKNOWN)) is = SAYS_UNKNOWN, total_untold++;
+        else total_crumbs_told += of[t].crumbs != 0;
+    }
+    must_be("how whole", is, s[0]);
     total_claims_checked++;
 }
 
@@ -475,7 +484,7 @@ static void learn_standing(const uint8_t *m, size_t len) {
     g->has_said[at] = 1;
     uint64_t out = number_at(m + 55, 8);
     must("no more pages are counted than were handed out", is_blind || out <= of[t].reported);
-    if (misses_nothing() && (is_strict || !is_behind)) must_be("pages that a standing counts", of[t].reported, out);
+    if (misses_nothing() && !is_behind) must_be("pages that a standing counts", of[t].reported, out);
     int is_open = number_at(m + 43, 4) != 0;
     must_be("open is said where a segment is open", is_open, said[0] == 4);
     uint64_t lost = 0;
@@ -483,7 +492,7 @@ static void learn_standing(const uint8_t *m, size_t len) {
     if (said[0] == SAYS_WHOLE) {
         must_be("losses of what is whole", 0, lost);
         total_whole++;
-        if (!number_at(m + 47, 8) && !is_blind && (is_strict || !is_behind) && !drops_notes() && !has_refused) check_whole(t);
+        if (!is_blind && out == of[t].reported) check_whole(t, !number_at(m + 47, 8) && !is_behind && !drops_notes() && !has_refused);
         if (is_fresh() && (notes_are_exact() || horizon_is_exact())) check_whole_since(t, number_at(m + 47, 8));
     }
     if (is_fresh() && notes_are_exact()) check_standing(t, said);
@@ -614,12 +623,12 @@ static void do_again(void) {
 
 static uint64_t do_flush(client *c);
 
-/* A pass hears 64 notes of a client that came, and then takes its pages. Segments whose notes come later are not heard of before their pages. As many notes
- * as the backlog has places come at once; more may wait. */
+/* A pass hears the notes of a client that came, and then takes its pages. As many notes as the backlog has places come at once; more may wait, and are not
+ * heard before the pages of their segments. */
 static void catch_up(void) {
     for (unsigned c = 0; c < life.clients; c++) {
         if (life.flushes) do_flush(&clients[c]);
-        if (notes_since_pass[c] > MOST_HEARD || notes_since_pass[c] > life.backlog) is_behind = 1;
+        if (notes_since_pass[c] > life.backlog) is_behind = 1;
         notes_since_pass[c] = 0;
         while (clients[c].heard_count < clients[c].made_count) segments[clients[c].made[clients[c].heard_count++]].heard = ++heard;
     }
@@ -891,6 +900,16 @@ static uint32_t do_end(client *c) {
     return code;
 }
 
+/* A crumb of a trace that need not be open was done or refused: a note says so, which may be dropped as any. */
+static void note_crumb(client *c, unsigned t, int is_refused) {
+    unsigned nulls;
+    int drops;
+    c->counts.refused_crumbs += (unsigned)is_refused;
+    of[t].crumbs_refused += (unsigned)is_refused;
+    compare_counts(c, 0, 1, &nulls, &drops);
+    notes_since_pass[c - clients]++;
+}
+
 static void do_crumb(client *c) {
     unsigned n = below(life.nodes + 1);
     uint32_t code;
@@ -903,14 +922,14 @@ static void do_crumb(client *c) {
         trace_id(t, trace.bytes);
         code = hindcore_crumb_of(&c->handle, &trace, (uint16_t)n);
         if (n >= life.nodes) must_be("crumb to no node", HINDCORE_UNKNOWN, code);
-        else if (code == HINDCORE_FULL) c->counts.refused_crumbs++;
-        else must_be("crumb of a trace", HINDCORE_DONE, code);
+        else if (code == HINDCORE_FULL) note_crumb(c, t, 1);
+        else must_be("crumb of a trace", HINDCORE_DONE, code), note_crumb(c, t, 0);
     } else {
         code = hindcore_crumb(&c->handle, (uint16_t)n);
         if (n >= life.nodes) must_be("crumb to no node", HINDCORE_UNKNOWN, code);
         else if (!is_open) must_be("crumb without a trace", HINDCORE_NO_TRACE, code);
         else if (code == HINDCORE_FULL) c->counts.refused_crumbs++, segments[c->open].crumbs++;
-        else must_be("crumb", HINDCORE_DONE, code);
+        else must_be("crumb", HINDCORE_DONE, code), segments[c->open].led |= 1u << n;
     }
     if (code == HINDCORE_DONE) of[t].crumbs |= 1u << n;
     compare(c);
@@ -1460,10 +1479,51 @@ static void live_long(void) {
            LONG_CALLS, uses[1].allocations, uses[1].bytes, uses[3].allocations, uses[3].bytes, messages, told);
 }
 
+/* ---- a crumb that was let go */
+
+/* The last word on a trace of the messages that wait. */
+static int word_on(const hindcore_trace *trace) {
+    uint64_t number, len;
+    int word = -1;
+    while (hindcore_node_next(&node, &number, out, sizeof out, &len) == HINDCORE_DONE) {
+        if (out[1] == 5 && !memcmp(out + 20, trace->bytes, sizeof trace->bytes)) word = out[42];
+        must_be("sent", HINDCORE_DONE, hindcore_node_sent(&node, number));
+    }
+    return word;
+}
+
+/* The index has room for one trace. Where a crumb of another one comes, the first goes, and its crumb to node 3 with it: the message of its group does not name
+ * that node, so it is unknown. Where none comes it is whole. */
+static void let_go(int is_let_go) {
+    static const char settings[] = "nodes 4\nclients 1\nbuffers 64\nthreshold 32\npins 8\ntraces 1\nsize 64\ntriggerid 1\n";
+    hindcore_fault fault;
+    hindcore_client *c = &clients[0].handle;
+    hindcore_trace one = {{1}}, other = {{2}};
+    uint32_t says;
+    memset(&node, 0, sizeof node);
+    memset(c, 0, sizeof *c);
+    must_be("open", HINDCORE_DONE, hindcore_node_open((const uint8_t *)settings, strlen(settings), 0, 1, &node, &fault));
+    must_be("client", HINDCORE_DONE, hindcore_node_client(&node, c));
+    must_be("begin", HINDCORE_DONE, hindcore_begin(c, &one));
+    must_be("crumb", HINDCORE_DONE, hindcore_crumb(c, 3));
+    must_be("end", HINDCORE_DONE, hindcore_end(c));
+    must_be("pass", HINDCORE_DONE, hindcore_node_pass(&node, &says));
+    if (is_let_go) must_be("crumb of another trace", HINDCORE_DONE, hindcore_crumb_of(c, &other, 2));
+    must_be("pass", HINDCORE_DONE, hindcore_node_pass(&node, &says));
+    must_be("begin", HINDCORE_DONE, hindcore_begin(c, &one));
+    must_be("point", HINDCORE_DONE, hindcore_point(c, 1, one.bytes, 8));
+    must_be("trigger", HINDCORE_DONE, hindcore_trigger(c, 1, 1, &one, NULL, 0));
+    must_be("end", HINDCORE_DONE, hindcore_end(c));
+    for (int k = 0; k < 3; k++) must_be("pass", HINDCORE_DONE, hindcore_node_pass(&node, &says));
+    must_be("how whole a trace is whose crumb was let go, or told", is_let_go ? SAYS_UNKNOWN : SAYS_WHOLE, (uint64_t)word_on(&one));
+    must_be("free a client", HINDCORE_DONE, hindcore_client_free(c));
+    must_be("free the node", HINDCORE_DONE, hindcore_node_free(&node));
+}
+
 int main(int count, char **words) {
     (void)put_hello, (void)put_told, (void)put_reported, (void)put_standing;
     if (count < 3) {
-        fprintf(stderr, "lives FIRST COUNT [--loud | --strict]\n");
+        fprintf(stderr, "lives FIRST COUNT [--loud]\n");
         return 2;
     }
     if (!strcmp(words[1], "long")) {
@@ -1472,15 +1532,16 @@ int main(int count, char **words) {
         return 0;
     }
     uint64_t first = strtoull(words[1], NULL, 10), lives = strtoull(words[2], NULL, 10);
-    is_strict = count > 3 && !strcmp(words[3], "--strict");
+    let_go(0);
+    let_go(1);
     for (seed = first; seed < first + lives; seed++) {
         live_once();
         if (count > 3 && !strcmp(words[3], "--loud"))
             printf("seed %" PRIu64 ": %u pages, %u groups, %" PRIu64 " messages%s\n", seed, page_count, group_count, seen, is_spent ? ", spent" : "");
     }
     printf("lives: %" PRIu64 " lives, %" PRIu64 " pages reported, %" PRIu64 " told, %" PRIu64 " standings, %" PRIu64 " whole, %" PRIu64 " of these looked at, %" PRIu64
-           " lost; %" PRIu64 " lives exact, %" PRIu64 " standings compared; %" PRIu64 " groups looked at that are forgotten, %" PRIu64 " that are kept; memory refused in %" PRIu64 ", %" PRIu64 " spent; all buffers drawn in %" PRIu64 ", some in %" PRIu64 "\n",
-           lives, total_reported, total_told, total_standings, total_whole, total_whole_checked + total_whole_since, total_lost, total_exact, total_claims_checked, total_forgotten, total_kept, total_refused, total_spent, total_filled,
+           " lost; %" PRIu64 " lives exact, %" PRIu64 " standings compared, %" PRIu64 " with crumbs that were told, %" PRIu64 " with one that was not; %" PRIu64 " groups looked at that are forgotten, %" PRIu64 " that are kept; memory refused in %" PRIu64 ", %" PRIu64 " spent; all buffers drawn in %" PRIu64 ", some in %" PRIu64 "\n",
+           lives, total_reported, total_told, total_standings, total_whole, total_whole_checked + total_whole_since, total_lost, total_exact, total_claims_checked, total_crumbs_told, total_untold, total_forgotten, total_kept, total_refused, total_spent, total_filled,
            total_partial);
     return 0;
 }

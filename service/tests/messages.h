@@ -41,9 +41,9 @@ static void put_group(writing *w, const group_id *g) {
     put_bytes(w, g->lead, 16);
 }
 
-static void put_hello(writing *w, uint64_t epoch, uint64_t number, uint16_t node, const char *name) {
+static void put_hello(writing *w, uint64_t epoch, uint64_t number, uint16_t node, const uint8_t digest[32], const char *name) {
     put_head(w, 1, epoch, number, node);
-    for (int i = 0; i < 32; i++) put_number(w, (uint64_t)i, 1);
+    put_bytes(w, digest, 32);
     put_number(w, strlen(name), 1);
     put_bytes(w, name, strlen(name));
 }

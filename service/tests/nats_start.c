@@ -3,42 +3,24 @@
  *     nats_start FOLDER PORT HUB      FOLDER is empty; HUB is the program */
 #include "expect.h"
 #include "hindsight_nats.h"
+#include "processes.h"
 #include <nats/nats.h>
-#include <signal.h>
 #include <sqlite3.h>
 #include <stdlib.h>
 #include <string.h>
 #include <sys/stat.h>
 #include <sys/wait.h>
-#include <time.h>
-#include <unistd.h>
 
 static const char settings[] = "nodes 2\ntriggerid 1\nbuffers 1024\n";
 static const char *folder, *port, *hub_program;
 static char url[64];
 static pid_t server, hub;
 
-static void sleep_ms(long ms) {
-    struct timespec t = {ms / 1000, ms % 1000 * 1000000};
-    nanosleep(&t, NULL);
-}
-
-static pid_t run(char *const words[]) {
-    pid_t child = fork();
-    if (!child) {
-        if (!freopen("/dev/null", "w", stdout)) _exit(126);
-        if (!strcmp(words[0], "nats-server") && !freopen("/dev/null", "w", stderr)) _exit(126);
-        execvp(words[0], words);
-        _exit(127);
-    }
-    return child;
-}
-
 static void run_server(void) {
     char store[300];
     snprintf(store, sizeof store, "%s/js", folder);
     char *words[] = {"nats-server", "-a", "127.0.0.1", "-p", (char *)(size_t)port, "-js", "-sd", store, NULL};
-    server = run(words);
+    server = process_start(words);
 }
 
 static void run_hub(void) {
@@ -46,12 +28,7 @@ static void run_hub(void) {
     snprintf(path, sizeof path, "%s/settings", folder);
     snprintf(store, sizeof store, "%s/store", folder);
     char *words[] = {(char *)(size_t)hub_program, path, store, "--url", url, NULL};
-    hub = run(words);
-}
-
-static void end(pid_t child, int with) {
-    kill(child, with);
-    waitpid(child, NULL, 0);
+    hub = process_start(words);
 }
 
 static hind_nats_options named(const char *name) {
@@ -101,11 +78,16 @@ static void nobody(void) {
     o = named(longest);
     is_refused(&o, HIND_TOOLONG, "longer");
     o = named("n");
+    o.pass_ms = 1001;
+    is_refused(&o, HIND_INVALID, "argument");
+    o = named("n");
     o.abi = 7;
     is_refused(&o, HIND_ABI_WRONG, "ABI");
     EXPECT(hind_nats_stop(NULL, 0), HIND_OK);
     HOLDS(!hind_nats_node(NULL));
     EXPECT(hind_nats_get_counts(NULL, &counts), HIND_INVALID);
+    EXPECT(hind_nats_number(NULL), HIND_NO_NODE);
+    EXPECT(hind_nats_metrics(NULL, longest, 65, &(size_t){0}), HIND_INVALID);
 }
 
 /* While two others have their names. */
@@ -122,7 +104,7 @@ static void refused_settings(void) {
     uint32_t line;
     o.settings = "nodes 2\nnodes 2\n";
     o.settings_len = strlen(o.settings);
-    is_refused(&o, HIND_SETTINGS, "settings");
+    is_refused(&o, HIND_SETTINGS, "settings, line 2: ");
     HOLDS(strstr(hind_settings_error(&line), "twice") && line == 2);
     o.settings = "nodes 0\n";
     o.settings_len = strlen(o.settings);
@@ -168,17 +150,46 @@ static void in_child(hind_nats *nats) {
     hind_client *c;
     EXPECT(hind_client_get(hind_nats_node(nats), &c), HIND_FORKED);
     EXPECT(hind_nats_stop(nats, 0), HIND_FORKED);
+    EXPECT(hind_nats_metrics(nats, NULL, 0, &(size_t){0}), HIND_FORKED);
 }
 
 static void forks(hind_nats *nats) {
     int status = 0;
     pid_t child = fork();
     if (!child) {
+        alarm(60); /* what hangs ends */
         in_child(nats);
         _exit(failed != 0);
     }
     HOLDS(waitpid(child, &status, 0) == child);
     EXPECT(status, 0);
+}
+
+/* The numbers of a node that wrote a hundred records, of which its hub has ten. */
+static void numbers(hind_nats *front) {
+    char text[8192];
+    size_t all = 0, len = 0;
+    EXPECT(hind_nats_metrics(front, text, sizeof text, NULL), HIND_INVALID);
+    EXPECT(hind_nats_metrics(front, NULL, 0, &all), HIND_TOOLONG);
+    EXPECT(hind_nats_metrics(front, text, 100, &len), HIND_TOOLONG);
+    HOLDS(len == all && strlen(text) == 99);
+    EXPECT(hind_nats_metrics(front, text, sizeof text, &len), HIND_OK);
+    HOLDS(len == strlen(text));
+    HOLDS(strstr(text, "\nhindsight_node_records_total{node=\"front\"} 100\n"));
+    HOLDS(strstr(text, "\nhindsight_node_reports_total{node=\"front\"} 10\n"));
+    HOLDS(strstr(text, "\nhindsight_node_broker_up{node=\"front\"} 1\n"));
+}
+
+/* A hub that starts anew learns at once how nodes are called, which have said so before. */
+static void hub_anew(hind_nats *front, hind_nats *back) {
+    EXPECT(process_end(hub, SIGTERM), 1);
+    run_hub();
+    sleep_ms(1500); /* a trigger id admits one more each second */
+    request(front, back, 110);
+    for (int i = 0; i < 300 && one_number("SELECT count(*) FROM records") < 22; i++) sleep_ms(100);
+    EXPECT(one_number("SELECT count(*) FROM records"), 22);
+    EXPECT(one_number("SELECT count(*) FROM lives WHERE hex(trace) LIKE '%6E'"), 2);
+    EXPECT(one_number("SELECT count(*) FROM lives WHERE service NOT IN ('front', 'back')"), 0);
 }
 
 static void services(void) {
@@ -193,8 +204,12 @@ static void services(void) {
     EXPECT(one_number("SELECT count(*) FROM traces WHERE whole = 1"), 10);
     EXPECT(hind_nats_get_counts(front, &counts), HIND_OK);
     HOLDS(counts.is_there && !counts.is_lost && !counts.is_spent && counts.published >= 31 && counts.asks == 0);
+    EXPECT(hind_nats_number(front), 0);
+    EXPECT(hind_nats_number(back), 1);
+    numbers(front);
     EXPECT(hind_nats_get_counts(back, &counts), HIND_OK);
     HOLDS(counts.asks >= 10);
+    hub_anew(front, back);
     EXPECT(hind_nats_stop(back, 10000), HIND_OK);
     EXPECT(hind_nats_stop(front, 10000), HIND_OK);
     refused_settings();
@@ -206,7 +221,7 @@ static void services(void) {
 /* What cannot be acknowledged is told. */
 static void away(void) {
     hind_nats *front = started("front"), *back = started("back");
-    end(server, SIGTERM);
+    process_end(server, SIGTERM);
     for (int number = 101; number <= 120; number++) request(front, back, (uint8_t)number);
     EXPECT(hind_nats_stop(front, 100), HIND_AWAY);
     (void)hind_nats_stop(back, 100);
@@ -231,7 +246,7 @@ int main(int argc, char **argv) {
     run_server();
     run_hub();
     services();
-    end(hub, SIGTERM);
+    EXPECT(process_end(hub, SIGTERM), 1);
     away();
     nats_Close();
     return failed != 0;

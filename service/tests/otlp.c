@@ -86,11 +86,11 @@ static void rare(int is_refused) {
     add(0, 0, 5, hind_put_span_double(next(), id(1), "nan", NAN));
     add(0, 1, 6, hind_put_span_double(next(), id(1), "low", -INFINITY));
     add(0, 2, 7, hind_put_span_double(next(), id(1), "high", INFINITY));
-    add(0, 3, 8, hind_put_span_double(next(), id(1), "tenth", 0.1));
-    add(0, 4, 9, hind_put_span_bool(next(), id(1), "yes", 1));
-    add(0, 5, 10, hind_put_span_bool(next(), id(1), "no", 0));
-    add(0, 6, 4, hind_put_span_text(next(), id(1), "bad", "a\xc0\xaf\xed\xa0\x80\xf4\x90\x80\x80z"));
-    add(0, 7, UINT64_MAX, hind_put_span_int(next(), id(1), "least", INT64_MIN));
+    add(0, 5, 8, hind_put_span_double(next(), id(1), "tenth", 0.1))->missing = 2;
+    add(0, 6, 9, hind_put_span_bool(next(), id(1), "yes", 1));
+    add(0, 7, 10, hind_put_span_bool(next(), id(1), "no", 0));
+    add(0, 8, 4, hind_put_span_text(next(), id(1), "bad", "a\xc0\xaf\xed\xa0\x80\xf4\x90\x80\x80z"));
+    add(0, 9, UINT64_MAX, hind_put_span_int(next(), id(1), "least", INT64_MIN));
     otlp_part part = {0, UINT64_MAX, "", "unknown", records, count};
     otlp_trace trace = {trace_id, 255, 3, 0, &part, 1};
     print(&trace, is_refused);
@@ -146,7 +146,7 @@ static void random_trace(void) {
         otlp_part part = {(hind_node_id)p, p + 1, "any", "open", records + begin, count - begin};
         parts[p] = part;
     }
-    otlp_trace trace = {trace_id, 1, 1, 0, parts, n};
+    otlp_trace trace = {trace_id, 1, 1, (int)drawn(2), parts, n};
     print(&trace, 0);
 }
 

@@ -119,8 +119,7 @@ def by_hand(line):
            "startTimeUnixNano": "1000", "endTimeUnixNano": "1100", "status": {"code": 2, "message": "no"},
            "attributes": [attribute("code", "intValue", "503"), client],
            "events": [{"timeUnixNano": "1020", "name": "retry"},
-                      {"timeUnixNano": "1030", "name": "record", "attributes": [attribute("hindsight.payload", "stringValue", "slow\n")]},
-                      {"timeUnixNano": "1100", "name": "hindsight.gap", "attributes": [attribute("hindsight.missing", "intValue", "1")]}]}
+                      {"timeUnixNano": "1030", "name": "record", "attributes": [attribute("hindsight.payload", "stringValue", "slow\n")]}]}
     records = {"traceId": TRACE, "spanId": loose, "name": "records", "kind": 1, "startTimeUnixNano": "1050", "endTimeUnixNano": "1050", "status": {"code": 0},
                "attributes": [attribute("hindsight.client", "intValue", "1"), attribute("hindsight.no_start", "boolValue", True), attribute("hindsight.no_end", "boolValue", True)],
                "events": [{"timeUnixNano": "1050", "name": "record", "attributes": [attribute("hindsight.payload", "bytesValue", "/wE=")]}]}
@@ -137,7 +136,8 @@ def rare():
              attribute("bad", "stringValue", f"a{bad * 9}z"), attribute("least", "intValue", str(-(2**63))),
              attribute("hindsight.client", "intValue", "0"), attribute("hindsight.no_start", "boolValue", True), attribute("hindsight.no_end", "boolValue", True)]
     one = {"traceId": TRACE, "spanId": "0000000000000001", "name": "records", "kind": 1, "startTimeUnixNano": "4", "endTimeUnixNano": str(2**64 - 1),
-           "status": {"code": 0}, "attributes": known, "events": []}
+           "status": {"code": 0}, "attributes": known,
+           "events": [{"timeUnixNano": "8", "name": "hindsight.gap", "attributes": [attribute("hindsight.missing", "intValue", "2")]}]}
     return {"resourceSpans": [resource("", "0", str(2**64 - 1), "unknown", "255", "3", [one])]}
 
 

@@ -85,6 +85,11 @@ static void rows_stand_once(void) {
     EXPECT(number("SELECT count(*) FROM lives WHERE wholeness = 'whole'"), 1);
     EXPECT(number("SELECT count(*) FROM lives"), 1);
     EXPECT(lines_in(1), 2);
+    /* a life that has let the trace go, or does not answer, changes no word that it said before */
+    EXPECT(put(s, 1, 1, 0, "unheard since 7"), 0);
+    EXPECT(put(s, 1, 1, 0, "silent"), 0);
+    EXPECT(store_save(s), 0);
+    EXPECT(number("SELECT count(*) FROM lives WHERE wholeness = 'whole'"), 1);
     /* another life of the node, whose records have the same numbers */
     EXPECT(put(s, 1, 2, 2, "lost"), 0);
     EXPECT(store_save(s), 0);
@@ -171,6 +176,18 @@ static void refuses(void) {
     store_close(NULL);
 }
 
+/* Whether a store is there; where that cannot be told, it may be. */
+static void is_there(void) {
+    static char long_name[8192];
+    store_options here = {folder, 0, 0}, nowhere = {"/nowhere/at/all", 0, 0}, too_long = {long_name, 0, 0};
+    memset(long_name, 'a', sizeof long_name - 1);
+    EXPECT(store_is_there(&here), 0);
+    EXPECT(store_is_there(&nowhere), 0);
+    EXPECT(store_is_there(&too_long), 1);
+    store_close(opened(0, 0));
+    EXPECT(store_is_there(&here), 1);
+}
+
 /* A child puts and saves, and says so; it is killed at some moment. What it said stands, and each record has its trace and its life. */
 static void kills(long times) {
     unsigned next = 100;
@@ -203,6 +220,7 @@ int main(int argc, char **argv) {
     if (argc != 3 || strlen(argv[1]) > sizeof folder - 1) return 2;
     strcpy(folder, argv[1]);
     refuses();
+    is_there();
     rows_stand_once();
     files_rotate();
     disk_full();
