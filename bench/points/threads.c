@@ -98,7 +98,7 @@ static void segment(writer *w, uint64_t *draws) {
 
 static void *writes(void *of) {
     writer *w = of;
-    uint64_t draws = (uint64_t)w->number << 32, left = 1;
+    uint64_t draws = (uint64_t)w->number << 32, left;
     while (!atomic_load_explicit(&ends, memory_order_relaxed)) {
         segment(w, &draws);
         while (atomic_load_explicit(&written, memory_order_relaxed) - atomic_load_explicit(&saved, memory_order_relaxed) > UNDER_WAY) {
@@ -107,7 +107,8 @@ static void *writes(void *of) {
             sched_yield();
         }
     }
-    while (left) must("flush", hindcore_flush(&w->client, &left), HINDCORE_DONE);
+    do must("flush", hindcore_flush(&w->client, &left), HINDCORE_DONE);
+    while (left);
     must("counts", hindcore_counts(&w->client, &w->counts), HINDCORE_DONE);
     atomic_fetch_sub(&writing, 1);
     return NULL;
