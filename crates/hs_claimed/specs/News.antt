@@ -19,7 +19,7 @@ same_losses a b =
 
 -- whether two standings of a trace and a group say the same, their horizons aside
 abbrev pub same_word : Standing → Standing → Bool
-same_word a b = same_wholeness a.wholeness b.wholeness && ((a.open_segments == b.open_segments) && ((a.pages == b.pages) && same_losses a.losses b.losses))
+same_word a b = same_wholeness a.wholeness b.wholeness && ((a.open_segments == b.open_segments) && ((a.pages == b.pages) && ((a.crumbs.0 == b.crumbs.0) && same_losses a.losses b.losses)))
 
 -- whether a standing is news where this was said last
 abbrev pub is_news : Option Standing → Standing → Bool
@@ -33,14 +33,14 @@ no_loss = record { null_pages = 0; full_points = 0; dry_points = 0; long_points 
 
 -- it was handed out as far as so many pages, and is so whole since this horizon
 abbrev pub word : Wholeness → (horizon pages : ℕ) → Standing
-word wholeness horizon pages = record { trace = t 9; group = record { node = 0; number = 7 }; wholeness = wholeness; open_segments = 0; horizon = horizon; pages = pages; losses = no_loss }
+word wholeness horizon pages = record { trace = t 9; group = record { node = 0; number = 7 }; wholeness = wholeness; open_segments = 0; horizon = horizon; pages = pages; crumbs = record { 0 = 0 }; losses = no_loss }
 
 first_word : is_news None (word UnheardSince 0 0) ≡ true
 first_word = refl
 
--- a horizon that moved is nothing new; a page more is, and so is a trace that is whole now
+-- a horizon that moved is nothing new; a page more is, and so is a crumb to another node, and a trace that is whole now
 nothing_new : (is_news (Some (word WholeSince 4 2)) (word WholeSince 4 2) ≡ false) × (is_news (Some (word WholeSince 4 2)) (word WholeSince 9 2) ≡ false)
 nothing_new = (refl, refl)
 
-something_new : (is_news (Some (word Unknown 4 2)) (word Unknown 4 3) ≡ true) × (is_news (Some (word Unknown 4 2)) (word WholeSince 4 2) ≡ true) × (is_news (Some (word Unknown 4 2)) (record (word Unknown 4 2) { losses = record no_loss { evicted_pages = 1 } }) ≡ true)
-something_new = (refl, refl, refl)
+something_new : (is_news (Some (word Unknown 4 2)) (word Unknown 4 3) ≡ true) × (is_news (Some (word Unknown 4 2)) (record (word Unknown 4 2) { crumbs = record { 0 = 2 } }) ≡ true) × (is_news (Some (word Unknown 4 2)) (word WholeSince 4 2) ≡ true) × (is_news (Some (word Unknown 4 2)) (record (word Unknown 4 2) { losses = record no_loss { evicted_pages = 1 } }) ≡ true)
+something_new = (refl, refl, refl, refl)

@@ -40,6 +40,7 @@ fn same_word(one: &Standing, other: &Standing) -> bool
     same_wholeness(one.wholeness, other.wholeness)
         && one.open_segments == other.open_segments
         && one.pages == other.pages
+        && one.crumbs == other.crumbs
         && same_losses(&one.losses, &other.losses)
 }
 

@@ -83,14 +83,14 @@ without_trace s trace = record s { books = remove_entry (same_id trace) s.books 
 
 -- ---- worked examples: at most two standings, of trace 9
 
-abbrev none_lost : Losses
+abbrev pub none_lost : Losses
 none_lost = record { null_pages = 0; full_points = 0; dry_points = 0; long_points = 0; refused_crumbs = 0; evicted_crumbs = 0; forgotten_crumbs = 0; evicted_pages = 0; abandoned_pages = 0 }
 
 abbrev pub open_at : ℕ → Latest
-open_at number = latest_at number (record { trace = t 9; group = record { node = 0; number = 7 }; wholeness = Open; open_segments = 1; horizon = 4; pages = 1; losses = none_lost })
+open_at number = latest_at number (record { trace = t 9; group = record { node = 0; number = 7 }; wholeness = Open; open_segments = 1; horizon = 4; pages = 1; crumbs = record { 0 = 0 }; losses = none_lost })
 
 abbrev pub whole_at : ℕ → Latest
-whole_at number = latest_at number (record { trace = t 9; group = record { node = 0; number = 7 }; wholeness = WholeSince; open_segments = 0; horizon = 4; pages = 1; losses = none_lost })
+whole_at number = latest_at number (record { trace = t 9; group = record { node = 0; number = 7 }; wholeness = WholeSince; open_segments = 0; horizon = 4; pages = 1; crumbs = record { 0 = 0 }; losses = none_lost })
 
 abbrev pub life : ℕ → Life
 life epoch = record { node = 3; epoch = epoch }

@@ -1,7 +1,7 @@
 //! What the calls take and answer.
 
 ghost use Rattle.std.specs.Prelude.{◌≡◌};
-ghost use Rattle.hs_standings.specs.Closing.{is_closed, says_whole};
+ghost use Rattle.hs_standings.specs.Closing.{is_closed, says_whole, knows_all};
 
 use hs_wire::{Standing, Wholeness};
 
@@ -38,6 +38,18 @@ impl Latest {
             Wholeness::WholeSince => self.standing.open_segments == 0,
             Wholeness::UnheardSince | Wholeness::Lost | Wholeness::Unknown | Wholeness::Open =>
                 false,
+        }
+    }
+
+    /// Whether a life is closed to the trace, and forgot nothing that it may have heard of it: it says whole, or unheard since its first
+    /// segment.
+    pub fn knows_all(&self) -> bool
+        ensures { result ≡ knows_all self.now }
+    {
+        match self.standing.wholeness {
+            Wholeness::WholeSince => self.standing.open_segments == 0,
+            Wholeness::UnheardSince => self.standing.open_segments == 0 && self.standing.horizon == 0,
+            Wholeness::Lost | Wholeness::Unknown | Wholeness::Open => false,
         }
     }
 }

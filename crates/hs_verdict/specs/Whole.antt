@@ -2,13 +2,13 @@
 use Rattle.std.specs.Prelude.{◌≡◌, ℕ, ◌<◌, true, List, length, count_by, slice_get, Some}
 use Rattle.std.specs.List.{list_any}
 use Rattle.hs_base.specs.declared.ids.TraceId.{TraceId}
-use Rattle.hs_base.specs.NodeSets.{nodes_of}
+use Rattle.hs_base.specs.NodeSets.{has_node, nodes_of}
 use Rattle.hs_groups.specs.declared.followed.Followed.{Followed}
 use Rattle.hs_groups.specs.Groups.{PlainGroups}
 use Rattle.hs_standings.specs.declared.answers.Latest.{Latest}
 use Rattle.hs_standings.specs.declared.answers.Life.{Life}
 use Rattle.hs_standings.specs.Standing.{PlainStandings, Lives, latest_of, lives_of}
-use Rattle.hs_standings.specs.Closing.{is_closed, says_whole}
+use Rattle.hs_standings.specs.Closing.{is_closed, says_whole, knows_all}
 use Rattle.hs_traces.specs.Keys.{is_from}
 use Rattle.hs_traces.specs.declared.key.PageKey.{PageKey}
 use Rattle.hs_verdict.specs.Verdict.{claims, asks, latest_life, life_of}
@@ -16,6 +16,10 @@ use Rattle.hs_verdict.specs.Verdict.{claims, asks, latest_life, life_of}
 -- a life has said so last
 abbrev pub HasSaid : PlainStandings → TraceId → Life → (Latest → Type 0) → Type 0
 HasSaid s trace life P = (latest : Latest) × (latest_of s trace life ≡ Some latest) × P latest
+
+-- a group that claims the trace has reached the node
+abbrev pub IsReached : PlainGroups → TraceId → ℕ → Type 0
+IsReached g trace node = (place : ℕ) × (followed : Followed) × (slice_get g.groups place ≡ Some followed) × (claims trace followed ≡ true) × (has_node followed.asked node ≡ true)
 
 pub record IsWhole (g : PlainGroups) (s : PlainStandings) (trace : TraceId) (pages : List PageKey) : Type 0 where
   -- a page of it is here
@@ -33,6 +37,13 @@ pub record IsWhole (g : PlainGroups) (s : PlainStandings) (trace : TraceId) (pag
   -- and a group that claims the trace has reached its node, so that it is known where the trace went on from there
   pub asked : (lives : Lives) → lives_of s.books trace ≡ Some lives → (at : ℕ) (entry : Life × Latest) → slice_get lives at ≡ Some entry
       → list_any (asks trace (record { 0 = entry.0.node })) g.groups ≡ true
+  -- a group that claims the trace has reached each node to which a life says that crumbs of it led
+  pub led : (lives : Lives) → lives_of s.books trace ≡ Some lives → (at : ℕ) (entry : Life × Latest) → slice_get lives at ≡ Some entry
+      → (node : ℕ) → has_node entry.1.standing.crumbs node ≡ true → IsReached g trace node
+  -- and the node's latest life says whole, or that it heard nothing of the trace since its first segment
+  pub known : (lives : Lives) → lives_of s.books trace ≡ Some lives → (at : ℕ) (entry : Life × Latest) → slice_get lives at ≡ Some entry
+      → (here node : ℕ) → slice_get (nodes_of entry.1.standing.crumbs) here ≡ Some node
+      → HasSaid s trace (latest_life g (record { 0 = node })) (λ latest. knows_all latest ≡ true)
   -- of each as many pages are here as it says it handed out
   pub full : (lives : Lives) → lives_of s.books trace ≡ Some lives → (at : ℕ) (entry : Life × Latest) → slice_get lives at ≡ Some entry
       → entry.1.standing.pages ≡ count_by (is_from entry.0.node entry.0.epoch) pages

@@ -8,7 +8,8 @@ ghost use Rattle.hs_standings.specs.Standing.{PlainStandings};
 ghost use Rattle.hs_verdict.specs.Whole.{IsWhole};
 ghost use Rattle.hs_verdict.specs.Verdict.{is_whole};
 
-/// A trace is said to be whole only where each node that was asked for it answered, and no life of a node is open to it.
+/// A trace is said to be whole only where each node that was asked for it answered, no life of a node is open to it, and each node to which
+/// crumbs of it led was asked and forgot nothing of it.
 pub fn whole_is_said_of_closed_lives()
     ensures { (groups : PlainGroups) (standings : PlainStandings) (trace : TraceId) (pages : List PageKey)
         → is_whole groups standings trace pages ≡ true → IsWhole groups standings trace pages }

@@ -3,6 +3,7 @@
 
 mod asked;
 mod laws;
+mod led;
 mod pages;
 mod verdict;
 mod words;

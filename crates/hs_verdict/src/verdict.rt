@@ -6,6 +6,7 @@ ghost use Rattle.hs_base.specs.NodeSets.{nodes_of};
 ghost use Rattle.hs_verdict.specs.Verdict.{claims, is_node_closed, are_nodes_closed, is_answered, claimed_among, has_all, is_page_whole, is_whole};
 
 use crate::asked::claims;
+use crate::led::{are_followed, are_known};
 use crate::pages::{Pages, are_full};
 use crate::words::are_asked;
 use hs_base::{NodeId, NodeSet, TraceId};
@@ -48,8 +49,8 @@ fn is_answered(groups: &Groups, standings: &Standings, trace: TraceId, followed:
         || followed.waiting.is_empty() && are_nodes_closed(groups, standings, trace, followed.asked)
 }
 
-/// Whether nothing more is to come of a trace, as far as the nodes say: a group that is followed claims it, and in each such group
-/// each node that it reached answered, and its latest life is closed to the trace.
+/// Whether nothing more is to come of a trace, as far as the nodes say: a group that is followed claims it, in each such group each node
+/// that it reached answered, and its latest life is closed to the trace, and such groups reached each node to which crumbs of it led.
 pub fn has_all(groups: &Groups, standings: &Standings, trace: TraceId) -> bool
     ensures { result ≡ has_all groups.now standings.now trace }
 {
@@ -60,7 +61,7 @@ pub fn has_all(groups: &Groups, standings: &Standings, trace: TraceId) -> bool
     let Some(other) = claimed_among(groups, standings, trace, newer) else {
         return false;
     };
-    one || other
+    (one || other) && are_followed(groups, standings, trace)
 }
 
 /// Whether one of these groups claims the trace. `None` where one does that is not answered.
@@ -108,7 +109,8 @@ fn are_pages_whole(standings: &Standings, trace: TraceId, pages: &[PageKey]) -> 
 }
 
 /// Whether a trace with these pages is whole: there is one, nothing more is to come of it, each life that spoke of it is closed to it and of
-/// a node that was asked, these are all pages that lives say they handed out, and each life that wrote one says that its part is whole.
+/// a node that was asked, each node to which crumbs of it led forgot nothing of it, these are all pages that lives say they handed out, and
+/// each life that wrote one says that its part is whole.
 pub fn is_whole(groups: &Groups, standings: &Standings, trace: TraceId, pages: &[PageKey]) -> bool
     ensures { result ≡ is_whole groups.now standings.now trace pages.now }
 {
@@ -116,6 +118,7 @@ pub fn is_whole(groups: &Groups, standings: &Standings, trace: TraceId, pages: &
         && has_all(groups, standings, trace)
         && standings.are_closed(trace)
         && are_asked(groups, standings, trace)
+        && are_known(groups, standings, trace)
         && are_full(standings, trace, &Pages::Out(pages))
         && are_pages_whole(standings, trace, pages)
 }

@@ -226,6 +226,7 @@ standing_of s trace group = record {
   open_segments = open_segments s trace;
   horizon = s.horizon;
   pages = pages_of s trace;
+  crumbs = crumbs_of s trace;
   losses = losses_of s trace;
 }
 

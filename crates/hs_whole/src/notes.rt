@@ -533,6 +533,7 @@ impl SegmentNotes {
             open_segments: segments as u32,
             horizon: self.horizon,
             pages,
+            crumbs: self.crumbs(trace),
             losses,
         }
     }

@@ -56,7 +56,7 @@ pub length-reported : (r : PlainReported) → length (reported_bytes r) ≡ 35 +
 unfolding reported_bytes group_bytes id_bytes
 length-reported r = omega arith
 
-pub length-standing : (s : Standing) → length (standing_bytes s) ≡ 115
+pub length-standing : (s : Standing) → length (standing_bytes s) ≡ 131
 unfolding standing_bytes id_bytes losses_bytes
 length-standing s = refl
 

@@ -214,17 +214,18 @@ reported_reads =
 standing_reads : Reads Standing standing_at standing_bytes IsStanding
 unfolding standing_at standing_bytes id_bytes
 standing_reads =
-    making_reads (ℕ × (GroupId × (Wholeness × (ℕ × (ℕ × (ℕ × Losses)))))) Standing
-    (λ x. record { trace = record { 0 = x.0 }; group = x.1.0; wholeness = x.1.1.0; open_segments = x.1.1.1.0; horizon = x.1.1.1.1.0; pages = x.1.1.1.1.1.0; losses = x.1.1.1.1.1.1 })
-    (λ s. (s.trace.0, (s.group, (s.wholeness, (s.open_segments, (s.horizon, (s.pages, s.losses))))))) _ _ _ standing_bytes IsStanding
-    (both_reads ℕ (GroupId × (Wholeness × (ℕ × (ℕ × (ℕ × Losses))))) (number_at w128) _ _ _ _ _ u128_reads
-    (both_reads GroupId (Wholeness × (ℕ × (ℕ × (ℕ × Losses)))) id_at id_bytes IsId _ _ _ id_reads
-    (both_reads Wholeness (ℕ × (ℕ × (ℕ × Losses))) (by wholeness_of byte_at) _ _ _ _ _ wholeness_reads
-    (both_reads ℕ (ℕ × (ℕ × Losses)) (number_at w32) _ _ _ _ _ u32_reads
+    making_reads (ℕ × (GroupId × (Wholeness × (ℕ × (ℕ × (ℕ × (ℕ × Losses))))))) Standing
+    (λ x. record { trace = record { 0 = x.0 }; group = x.1.0; wholeness = x.1.1.0; open_segments = x.1.1.1.0; horizon = x.1.1.1.1.0; pages = x.1.1.1.1.1.0; crumbs = record { 0 = x.1.1.1.1.1.1.0 }; losses = x.1.1.1.1.1.1.1 })
+    (λ s. (s.trace.0, (s.group, (s.wholeness, (s.open_segments, (s.horizon, (s.pages, (s.crumbs.0, s.losses)))))))) _ _ _ standing_bytes IsStanding
+    (both_reads ℕ (GroupId × (Wholeness × (ℕ × (ℕ × (ℕ × (ℕ × Losses)))))) (number_at w128) _ _ _ _ _ u128_reads
+    (both_reads GroupId (Wholeness × (ℕ × (ℕ × (ℕ × (ℕ × Losses))))) id_at id_bytes IsId _ _ _ id_reads
+    (both_reads Wholeness (ℕ × (ℕ × (ℕ × (ℕ × Losses)))) (by wholeness_of byte_at) _ _ _ _ _ wholeness_reads
+    (both_reads ℕ (ℕ × (ℕ × (ℕ × Losses))) (number_at w32) _ _ _ _ _ u32_reads
+    (both_reads ℕ (ℕ × (ℕ × Losses)) (number_at w64) _ _ _ _ _ u64_reads
     (both_reads ℕ (ℕ × Losses) (number_at w64) _ _ _ _ _ u64_reads
-    (both_reads ℕ Losses (number_at w64) _ _ losses_at losses_bytes AreLosses u64_reads losses_reads))))))
-    (λ x f. record { trace = f.0; group = f.1.0; open_segments = f.1.1.1.0; horizon = f.1.1.1.1.0; pages = f.1.1.1.1.1.0; losses = f.1.1.1.1.1.1 })
-    (λ s f. (f.trace, (f.group, (tt, (f.open_segments, (f.horizon, (f.pages, f.losses))))))) (λ x f. refl) (λ s f. refl) (λ s f. refl)
+    (both_reads ℕ Losses (number_at w128) _ _ losses_at losses_bytes AreLosses u128_reads losses_reads)))))))
+    (λ x f. record { trace = f.0; group = f.1.0; open_segments = f.1.1.1.0; horizon = f.1.1.1.1.0; pages = f.1.1.1.1.1.0; crumbs = f.1.1.1.1.1.1.0; losses = f.1.1.1.1.1.1.1 })
+    (λ s f. (f.trace, (f.group, (tt, (f.open_segments, (f.horizon, (f.pages, (f.crumbs, f.losses)))))))) (λ x f. refl) (λ s f. refl) (λ s f. refl)
 
 -- ---- messages
 

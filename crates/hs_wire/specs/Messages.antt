@@ -115,7 +115,7 @@ reported_bytes r = group_bytes r.group ++ to_be_bytes w16 r.client ++ to_be_byte
 unfoldable pub standing_bytes : Standing → List ℕ
 standing_bytes s =
     to_be_bytes w128 s.trace.0 ++ id_bytes s.group ++ wholeness_byte s.wholeness ∷ [] ++ to_be_bytes w32 s.open_segments ++ to_be_bytes w64 s.horizon
-    ++ to_be_bytes w64 s.pages ++ losses_bytes s.losses
+    ++ to_be_bytes w64 s.pages ++ to_be_bytes w128 s.crumbs.0 ++ losses_bytes s.losses
 
 abbrev pub kind_of : Said → ℕ
 kind_of (SaysHello h) = 1
@@ -200,6 +200,7 @@ pub record IsStanding (s : Standing) : Type 0 where
   pub open_segments : s.open_segments < 2 ^ 32
   pub horizon : s.horizon < 2 ^ 64
   pub pages : s.pages < 2 ^ 64
+  pub crumbs : s.crumbs.0 < 2 ^ 128
   pub losses : AreLosses s.losses
 
 abbrev pub IsSaid : Said → Type 0

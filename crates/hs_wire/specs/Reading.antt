@@ -138,8 +138,8 @@ reported_at =
 
 unfoldable pub standing_at : Reader Standing
 standing_at =
-    making (λ x. record { trace = record { 0 = x.0 }; group = x.1.0; wholeness = x.1.1.0; open_segments = x.1.1.1.0; horizon = x.1.1.1.1.0; pages = x.1.1.1.1.1.0; losses = x.1.1.1.1.1.1 })
-    (both (number_at w128) (both id_at (both (by wholeness_of byte_at) (both (number_at w32) (both (number_at w64) (both (number_at w64) losses_at))))))
+    making (λ x. record { trace = record { 0 = x.0 }; group = x.1.0; wholeness = x.1.1.0; open_segments = x.1.1.1.0; horizon = x.1.1.1.1.0; pages = x.1.1.1.1.1.0; crumbs = record { 0 = x.1.1.1.1.1.1.0 }; losses = x.1.1.1.1.1.1.1 })
+    (both (number_at w128) (both id_at (both (by wholeness_of byte_at) (both (number_at w32) (both (number_at w64) (both (number_at w64) (both (number_at w128) losses_at)))))))
 
 unfoldable pub said_at : ℕ → Reader Said
 said_at zero bytes = None

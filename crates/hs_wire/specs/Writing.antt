@@ -29,7 +29,7 @@ said_len (SaysHello h) = 33 + length h.name
 said_len (SaysTold t) = 41 + 16 * length t.laterals
 said_len (SaysAsk a) = 24 + 16 * length a.laterals
 said_len (SaysReported r) = 35 + length r.page
-said_len (SaysStanding s) = 115
+said_len (SaysStanding s) = 131
 
 abbrev pub message_len : PlainMessage → ℕ
 message_len m = 20 + said_len m.said

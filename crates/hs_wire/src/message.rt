@@ -1,7 +1,7 @@
 //! The messages.
 
 use hs_base::limits::{MAX_SIZE, UNCOUNTED_BYTES};
-use hs_base::{Ask, Group, GroupId, NodeId, Told, TraceId};
+use hs_base::{Ask, Group, GroupId, NodeId, NodeSet, Told, TraceId};
 use thiserror::Error;
 
 /// How messages are spelled: by which version of the tables of `docs/FORMATS.md`.
@@ -90,6 +90,8 @@ pub struct Standing {
     pub horizon: u64,
     /// How many pages of the trace the node handed out in this life. A hub that has fewer waits for the others.
     pub pages: u64,
+    /// The nodes to which crumbs of the trace led, as far as the node heard.
+    pub crumbs: NodeSet,
     pub losses: Losses,
 }
 

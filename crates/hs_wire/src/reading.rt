@@ -284,6 +284,7 @@ fn standing_of(bytes: &[u8]) -> Option<(Standing, &[u8])>
     let (open_segments, rest) = u32_of(rest)?;
     let (horizon, rest) = u64_of(rest)?;
     let (pages, rest) = u64_of(rest)?;
+    let (crumbs, rest) = u128_of(rest)?;
     let (losses, rest) = losses_of(rest)?;
     let standing = Standing {
         trace: TraceId(trace),
@@ -292,6 +293,7 @@ fn standing_of(bytes: &[u8]) -> Option<(Standing, &[u8])>
         open_segments,
         horizon,
         pages,
+        crumbs: NodeSet(crumbs),
         losses,
     };
     Some((standing, rest))

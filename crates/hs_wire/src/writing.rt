@@ -206,7 +206,7 @@ fn put_reported(out: &mut [u8], at: usize, reported: &Reported<'_>) -> usize
 }
 
 fn put_standing(out: &mut [u8], at: usize, standing: &Standing) -> usize
-    requires room { at + 115 ≤ length out.old }
+    requires room { at + 131 ≤ length out.old }
     requires node { standing.now.group.node < MOST_NODES }
     ensures puts { Puts out.old out.new at result (standing_bytes standing.now) }
     ensures fits { IsStanding standing.now }
@@ -217,6 +217,7 @@ fn put_standing(out: &mut [u8], at: usize, standing: &Standing) -> usize
     let at = put_u32(out, at, standing.open_segments);
     let at = put_u64(out, at, standing.horizon);
     let at = put_u64(out, at, standing.pages);
+    let at = put_u128(out, at, standing.crumbs.0);
     put_losses(out, at, standing.losses)
 }
 
@@ -293,7 +294,7 @@ fn len_of(body: &Body<'_>) -> usize
         Body::Told(told) => 41 + 16 * told.laterals.len() as usize,
         Body::Ask(ask) => 24 + 16 * ask.laterals.len() as usize,
         Body::Reported(reported) => 35 + reported.page.len(),
-        Body::Standing(_) => 115,
+        Body::Standing(_) => 131,
     }
 }
 

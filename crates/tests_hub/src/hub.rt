@@ -66,15 +66,28 @@ fn report(hub: &mut Hub, number: u64) -> Option<Delivered> {
     hub.reported(message(0, number), 0, 1, &PAGE).ok()
 }
 
-/// A node says how whole its part of trace 1 is.
+/// A node says how whole its part of trace 1 is, since its first segment. Crumbs of node 0 led to node 1.
 fn stand(hub: &mut Hub, node: u16, number: u64, wholeness: Wholeness) -> Option<Delivered> {
+    stand_so(hub, node, number, wholeness, 0, if node == 0 { 2 } else { 0 })
+}
+
+/// The same since a horizon. Crumbs led to the nodes of these bits.
+fn stand_so(
+    hub: &mut Hub,
+    node: u16,
+    number: u64,
+    wholeness: Wholeness,
+    horizon: u64,
+    crumbs: u128,
+) -> Option<Delivered> {
     let standing = Standing {
         trace: TraceId(1),
         group: GroupId { node: 0, number: 7 },
         wholeness,
         open_segments: 0,
-        horizon: 0,
+        horizon,
         pages: u64::from(node == 0),
+        crumbs: NodeSet(crumbs),
         losses: Losses {
             null_pages: 0,
             full_points: 0,
@@ -174,6 +187,30 @@ fn a_whole_trace(alloc: Global) -> Result<bool, Memory> {
     )
 }
 
+/// Node 1 says unheard since its eightieth segment: it may have forgotten the trace, which is given out, and is not whole. It would be
+/// where no crumb of the trace led to node 1, which was asked for another trace of the group.
+fn a_node_that_forgot(alloc: Global, crumbs: u128, is_whole: bool) -> Result<bool, Memory> {
+    let mut hub = told_of(alloc)?;
+    stand_so(&mut hub, 1, 3, Wholeness::UnheardSince, 80, 0);
+    stand_so(&mut hub, 0, 3, Wholeness::WholeSince, 80, crumbs);
+    let taken = (hub.take(), whole(&hub));
+    Ok(taken == (Some(TraceId(1)), Some(is_whole)) && hub.why() == Some(Given::Complete))
+}
+
+/// Node 0 says that crumbs led to nodes 1 and 2 before it tells of node 2: the trace waits until node 2 answered and said that it heard nothing.
+fn a_crumb_that_is_told_late(alloc: Global) -> Result<bool, Memory> {
+    let mut hub = told_of(alloc)?;
+    stand_so(&mut hub, 0, 4, Wholeness::WholeSince, 0, 6);
+    let overtaken = hub.take();
+    tell(&mut hub, 0, 3, 4, Why::Late);
+    let waits = hub.take();
+    tell(&mut hub, 2, 1, 0, Why::Answer);
+    let silent = hub.take();
+    stand(&mut hub, 2, 2, Wholeness::UnheardSince);
+    let taken = (hub.take(), whole(&hub));
+    Ok((overtaken, waits, silent) == (None, None, None) && taken == (Some(TraceId(1)), Some(true)))
+}
+
 /// Node 0's life is open: the trace is given out after ten passes, and is not whole.
 fn an_open_life(alloc: Global) -> Result<bool, Memory> {
     let mut hub = told_of(alloc)?;
@@ -249,6 +286,9 @@ fn a_hub(rt: HostRuntime) {
     row(&rt, "limits", limits_are_refused(alloc));
     row(&rt, "whole", a_whole_trace(alloc));
     row(&rt, "open", an_open_life(alloc));
+    row(&rt, "forgot", a_node_that_forgot(alloc, 2, false));
+    row(&rt, "forgot another", a_node_that_forgot(alloc, 0, true));
+    row(&rt, "told late", a_crumb_that_is_told_late(alloc));
     row(&rt, "young", a_young_life(alloc, 9, false));
     row(&rt, "of age", a_young_life(alloc, 10, true));
     row(&rt, "later hub", a_later_hub(alloc, 9, false));

@@ -1,7 +1,7 @@
 //! Standings of one life in any order, of as many lives as may be, and of traces that are forgotten.
 
 use crate::rows::row;
-use hs_base::{GroupId, Memory, TraceId};
+use hs_base::{GroupId, Memory, NodeSet, TraceId};
 use hs_standings::{Life, Noted, Standings};
 use hs_wire::{Losses, Standing, Wholeness};
 use std::alloc::Global;
@@ -27,6 +27,7 @@ fn standing_of(trace: u128, open_segments: u32) -> Standing {
         open_segments,
         horizon: 4,
         pages: 1,
+        crumbs: NodeSet::none(),
         losses: NONE_LOST,
     }
 }

@@ -1,7 +1,7 @@
 //! The claims of a node with four places: groups that claim all their traces or none, what is said of each, and which group is forgotten.
 
 use crate::rows::row;
-use hs_base::{Group, GroupId, Laterals, Memory, NodeSet, TraceId, TriggerId};
+use hs_base::{Group, GroupId, Laterals, Memory, NodeId, NodeSet, TraceId, TriggerId};
 use hs_claimed::{Claimant, ClaimedTraces, Claiming};
 use hs_wire::{Losses, Standing, Wholeness};
 use std::alloc::Global;
@@ -34,6 +34,7 @@ fn standing(group: GroupId, trace: TraceId, horizon: u64, pages: u64) -> Standin
         open_segments: 0,
         horizon,
         pages,
+        crumbs: NodeSet::none(),
         losses: Losses {
             null_pages: 0,
             full_points: 0,
@@ -102,16 +103,20 @@ fn a_round(alloc: Global) -> Result<bool, Memory> {
     Ok(first && second && third && is_at(&claims, ONE, SEVEN))
 }
 
-/// A standing is said once. Another horizon is no news, another count of pages is, and another trace is not looked at.
+/// A standing is said once. Another horizon is no news; another count of pages is, and a crumb; another trace is not looked at.
 fn said_once(alloc: Global) -> Result<bool, Memory> {
     let mut claims = three(alloc)?;
     let first = claims.said(&standing(ONE, SEVEN, 0, 1), 5);
     let again = claims.said(&standing(ONE, SEVEN, 0, 1), 6);
     let moved = claims.is_news(&standing(ONE, SEVEN, 9, 1));
     let more = claims.is_news(&standing(ONE, SEVEN, 0, 2));
+    let led = claims.is_news(&Standing {
+        crumbs: NodeSet::only(NodeId(2)),
+        ..standing(ONE, SEVEN, 0, 1)
+    });
     let elsewhere = claims.said(&standing(ONE, EIGHT, 0, 1), 7);
     let stranger = claims.is_news(&standing(TWO, SEVEN, 0, 2));
-    Ok(first && !again && !moved && more && !elsewhere && !stranger)
+    Ok(first && !again && !moved && more && led && !elsewhere && !stranger)
 }
 
 /// Whether this group claimed first, with so many traces and this last message.

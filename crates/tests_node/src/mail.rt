@@ -25,6 +25,7 @@ fn standing() -> Standing {
         open_segments: 0,
         horizon: 4,
         pages: 1,
+        crumbs: NodeSet::none(),
         losses: Losses {
             null_pages: 0,
             full_points: 0,
