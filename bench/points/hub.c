@@ -88,7 +88,7 @@ static void tell(uint16_t node, uint64_t t, uint8_t why) {
     deliver(&w);
     for (uint32_t i = 0; i < pages; i++) report(node, &group, (uint32_t)t * pages + i);
     w.len = 0;
-    put_standing(&w, 1, numbers[node]++, node, trace, &group, SAYS_WHOLE, 0, 0, pages, 0);
+    put_standing(&w, 1, numbers[node]++, node, trace, &group, SAYS_WHOLE, 0, 0, pages, UINT64_C(1) << (1 - node), 0);
     deliver(&w);
 }
 

@@ -92,7 +92,7 @@ static void tell(node *n, int t, uint16_t first, uint8_t why, uint16_t crumb) {
     put_reported(&w, n->epoch, n->count, n->node, &group, 0, 0, p.bytes, p.len);
     put(n, &w);
     w.len = 0;
-    put_standing(&w, n->epoch, n->count, n->node, trace, &group, SAYS_WHOLE, 0, 0, 1, 0);
+    put_standing(&w, n->epoch, n->count, n->node, trace, &group, SAYS_WHOLE, 0, 0, 1, 1u << crumb, 0);
     put(n, &w);
     pthread_mutex_unlock(&buffers);
 }

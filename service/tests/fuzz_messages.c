@@ -62,7 +62,7 @@ static size_t standing(const uint8_t *b, size_t len) {
     at = at ? node(b, at, len) : 0;
     at = skip(at, 4, len);
     at = at ? byte_up_to(b, at, 4, len) : 0;
-    return skip(at, 4 + 8 + 8 + 9 * 8, len);
+    return skip(at, 4 + 8 + 8 + 16 + 9 * 8, len);
 }
 
 static int spells(const uint8_t *b, size_t len) {

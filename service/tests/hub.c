@@ -100,14 +100,14 @@ static void a_whole_trace(const char *folder) {
     EXPECT(deliver(h, &w), HUBWORK_HELD);
     EXPECT(deliver(h, &w), HUBWORK_HELD); /* a repeat waits with its page */
     w.len = 0;
-    put_standing(&w, 3, 3, 0, trace, &group, SAYS_WHOLE, 0, 0, 1, 0);
+    put_standing(&w, 3, 3, 0, trace, &group, SAYS_WHOLE, 0, 0, 1, 1 << 2, 0);
     EXPECT(deliver(h, &w), HUBWORK_HELD);
     EXPECT(hubwork_save(h, 10), 0); /* node 2 has not answered */
     w.len = 0;
     put_told(&w, 9, 1, 2, &group, 1, 1 << 0, NULL, 0);
     EXPECT(deliver(h, &w), HUBWORK_HELD);
     w.len = 0;
-    put_standing(&w, 9, 3, 2, trace, &group, SAYS_WHOLE, 0, 0, 1, 0);
+    put_standing(&w, 9, 3, 2, trace, &group, SAYS_WHOLE, 0, 0, 1, 1 << 0, 0);
     EXPECT(deliver(h, &w), HUBWORK_HELD);
     EXPECT(hubwork_save(h, 10), 0); /* its page has not come */
     p = page_of(2, 0, 5, 11, "a longer text");
@@ -151,7 +151,7 @@ static void one_trace(hubwork *h, const char *folder, uint64_t epoch, uint8_t la
     put_reported(&w, epoch, 4u * last + 1, 0, &of, 4, 0, p.bytes, p.len);
     EXPECT(deliver(h, &w), HUBWORK_HELD);
     w.len = 0;
-    put_standing(&w, epoch, 4u * last + 2, 0, id, &of, SAYS_WHOLE, 0, 0, 1, 0);
+    put_standing(&w, epoch, 4u * last + 2, 0, id, &of, SAYS_WHOLE, 0, 0, 1, 0, 0);
     EXPECT(deliver(h, &w), HUBWORK_HELD);
     EXPECT(hubwork_save(h, 10), 1);
     snprintf(query, sizeof query, "SELECT whole FROM traces WHERE substr(trace, 16) = x'%02x'", last);
@@ -185,7 +185,7 @@ static void a_partial_trace(const char *folder) {
     put_reported(&w, 4, 2, 0, &group, 1, 0, p.bytes, p.len);
     EXPECT(deliver(h, &w), HUBWORK_HELD);
     w.len = 0;
-    put_standing(&w, 4, 3, 0, trace, &group, SAYS_LOST, 0, 0, 1, 2);
+    put_standing(&w, 4, 3, 0, trace, &group, SAYS_LOST, 0, 0, 1, 1 << 1 | 1 << 3, 2);
     EXPECT(deliver(h, &w), HUBWORK_HELD);
     long passes = 0;
     while (!hubwork_save(h, 1) && passes < 10000) {

@@ -122,14 +122,14 @@ static void a_life(void) {
     put_reported(&w, 5, 1, 2, &group, 1, 4, p.bytes, p.len);
     EXPECT(deliver(&w), HINDCORE_HELD);
     w.len = 0;
-    put_standing(&w, 5, 2, 2, lead, &group, SAYS_WHOLE, 0, 8, 1, 0);
+    put_standing(&w, 5, 2, 2, lead, &group, SAYS_WHOLE, 0, 8, 1, 1 << 0, 0);
     EXPECT(deliver(&w), HINDCORE_HELD);
     w.len = 0;
-    put_standing(&w, 3, 2, 0, lead, &group, SAYS_OPEN, 3, 0, 0, 0);
+    put_standing(&w, 3, 2, 0, lead, &group, SAYS_OPEN, 3, 0, 0, 0, 0);
     EXPECT(deliver(&w), HINDCORE_HELD);
     EXPECT(hindcore_hub_take(&hub, &trace), HINDCORE_NOTHING); /* node 0 has open segments */
     w.len = 0;
-    put_standing(&w, 3, 3, 0, lead, &group, SAYS_UNHEARD, 0, 70, 0, 0);
+    put_standing(&w, 3, 3, 0, lead, &group, SAYS_UNHEARD, 0, 70, 0, 0, 0);
     EXPECT(deliver(&w), HINDCORE_HELD);
     EXPECT(hindcore_hub_counts(&hub, &counts), HINDCORE_DONE);
     HOLDS(counts.groups == 1 && counts.traces == 1 && counts.bytes == p.len && counts.standings == 2);
@@ -171,7 +171,7 @@ static void a_life(void) {
     }
     number = 7;
     while (hindcore_hub_whole(&hub, &number) == HINDCORE_MEMORY) EXPECT(number, 7);
-    HOLDS(number <= 1);
+    EXPECT(number, 0); /* node 0, to which a crumb led, may have forgotten the trace */
     EXPECT(hindcore_hub_acknowledge(&hub, &message), HINDCORE_NOTHING);
     EXPECT(hindcore_hub_saved(&hub, &trace), HINDCORE_DONE);
     HOLDS(!memcmp(trace.bytes, lead, 16));

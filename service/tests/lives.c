@@ -191,6 +191,9 @@ static unsigned trigger_count, trigger_first, triggers_used;
 static uint64_t levels[DECLARED], moments[DECLARED];
 static unsigned tries[DECLARED];
 
+/* What a standing says behind trace and group: so many bytes, and of these the places of the nodes to which crumbs led and of the losses. */
+enum { SAID = 109, CRUMBS = 21, LOST = 37 };
+
 typedef struct {
     unsigned node;
     uint32_t number;
@@ -198,7 +201,7 @@ typedef struct {
     unsigned lead, count, laterals[MOST_LATERALS];
     unsigned traces[MOST_LATERALS + 1], trace_count;
     uint64_t told, crumbs;
-    uint8_t said[MOST_LATERALS + 1][94];
+    uint8_t said[MOST_LATERALS + 1][SAID];
     uint8_t has_said[MOST_LATERALS + 1];
 } group;
 
@@ -444,19 +447,20 @@ static void check_whole_since(unsigned t, uint64_t horizon) {
 /* How a node stands to a trace that has heard all that was written, and whose memory has no end. Where a crumb was not told, be it on its way, let go by the
  * index or gone with a forgotten group, it says neither whole nor unheard. What was told for a group that was forgotten may count no more. */
 static void check_standing(unsigned t, const uint8_t *s) {
-    uint64_t evicted = number_at(s + 21 + 56, 8), abandoned = number_at(s + 21 + 64, 8), lost = 0, left = of[t].reported + evicted + abandoned;
+    uint64_t evicted = number_at(s + LOST + 56, 8), abandoned = number_at(s + LOST + 64, 8), lost = 0, left = of[t].reported + evicted + abandoned;
     unsigned open = 0, here = 0;
     for (unsigned c = 0; c < life.clients; c++)
         if (clients[c].open >= 0 && segments[clients[c].open].trace == t) open++, here += segments[clients[c].open].pages - segments[clients[c].open].nulls;
-    for (int n = 0; n < 9; n++) lost += number_at(s + 21 + 8 * n, 8);
+    for (int n = 0; n < 9; n++) lost += number_at(s + LOST + 8 * n, 8);
     must_be("open segments", open, number_at(s + 1, 4));
     must_be("horizon", 0, number_at(s + 5, 8));
     must_be("pages", of[t].reported, number_at(s + 13, 8));
-    must_be("null pages", of[t].nulls, number_at(s + 21, 8));
-    must_be("points refused for want of places", of[t].fulls, number_at(s + 29, 8));
-    must_be("dry points", 0, number_at(s + 37, 8));
-    must_be("long points", of[t].longs, number_at(s + 45, 8));
-    must_be("refused crumbs", of[t].crumbs_refused, number_at(s + 53, 8));
+    must_be("null pages", of[t].nulls, number_at(s + LOST, 8));
+    must_be("points refused for want of places", of[t].fulls, number_at(s + LOST + 8, 8));
+    must_be("dry points", 0, number_at(s + LOST + 16, 8));
+    must_be("long points", of[t].longs, number_at(s + LOST + 24, 8));
+    must_be("refused crumbs", of[t].crumbs_refused, number_at(s + LOST + 32, 8));
+    if (!open) must_be("nodes to which crumbs led", of[t].crumbs, number_at(s + CRUMBS + 8, 8));
     must("no more pages left than were sent", left <= of[t].sent + here);
     unsigned is = open ? SAYS_OPEN : !of[t].segments && !of[t].crumbs_refused ? SAYS_UNHEARD : lost ? SAYS_LOST : of[t].sent == of[t].reported ? SAYS_WHOLE : SAYS_UNKNOWN;
     if (is == SAYS_UNHEARD || is == SAYS_WHOLE) {
@@ -468,7 +472,7 @@ static void check_standing(unsigned t, const uint8_t *s) {
 }
 
 static void learn_standing(const uint8_t *m, size_t len) {
-    must_be("length of a standing", 135, len);
+    must_be("length of a standing", 42 + SAID, len);
     unsigned t = trace_in(m + 20);
     total_standings++;
     group *g = group_of((unsigned)number_at(m + 36, 2), number_at(m + 38, 4));
@@ -479,8 +483,8 @@ static void learn_standing(const uint8_t *m, size_t len) {
     const uint8_t *said = m + 42;
     must("how whole is a word", said[0] <= 4);
     if (g->has_said[at] && !forgets() && !is_blind)
-        must("a standing is news", memcmp(g->said[at], said, 5) || memcmp(g->said[at] + 13, said + 13, 93 - 13));
-    memcpy(g->said[at], said, 93);
+        must("a standing is news", memcmp(g->said[at], said, 5) || memcmp(g->said[at] + 13, said + 13, SAID - 13));
+    memcpy(g->said[at], said, SAID);
     g->has_said[at] = 1;
     uint64_t out = number_at(m + 55, 8);
     must("no more pages are counted than were handed out", is_blind || out <= of[t].reported);
@@ -488,7 +492,7 @@ static void learn_standing(const uint8_t *m, size_t len) {
     int is_open = number_at(m + 43, 4) != 0;
     must_be("open is said where a segment is open", is_open, said[0] == 4);
     uint64_t lost = 0;
-    for (int i = 0; i < 9; i++) lost += number_at(m + 63 + 8 * i, 8);
+    for (int i = 0; i < 9; i++) lost += number_at(said + LOST + 8 * i, 8);
     if (said[0] == SAYS_WHOLE) {
         must_be("losses of what is whole", 0, lost);
         total_whole++;
@@ -496,6 +500,8 @@ static void learn_standing(const uint8_t *m, size_t len) {
         if (is_fresh() && (notes_are_exact() || horizon_is_exact())) check_whole_since(t, number_at(m + 47, 8));
     }
     if (is_fresh() && notes_are_exact()) check_standing(t, said);
+    must_be("nodes beyond those of the settings to which crumbs led", 0, number_at(said + CRUMBS, 8));
+    must_be("crumbs that were not left", 0, number_at(said + CRUMBS + 8, 8) & ~of[t].crumbs);
     if (said[0] == SAYS_UNHEARD) must("nothing is counted of what was not heard", !lost && !out);
     total_lost += said[0] == SAYS_LOST;
 }
@@ -1237,7 +1243,7 @@ static void check_claims(void) {
             if (life.is_roomy && of[t].claimer == (int)i) must_be("crumbs of a claimed trace that are not told", 0, of[t].crumbs & ~g->crumbs);
             if (!are_exact) continue;
             const uint8_t *s = g->said[k];
-            uint64_t evicted = number_at(s + 21 + 56, 8), abandoned = number_at(s + 21 + 64, 8);
+            uint64_t evicted = number_at(s + LOST + 56, 8), abandoned = number_at(s + LOST + 64, 8);
             check_standing(t, s);
             must_be("pages that left", of[t].sent, of[t].reported + evicted + abandoned);
             if (all_pages <= life.threshold && life.is_roomy) must_be("evicted pages where there is room", 0, evicted);
@@ -1275,7 +1281,7 @@ static int only_group(unsigned t) {
 
 static int was_abandoned(const group *g) {
     for (unsigned k = 0; k < g->trace_count; k++)
-        if (!g->has_said[k] || number_at(g->said[k] + 21 + 64, 8)) return 1;
+        if (!g->has_said[k] || number_at(g->said[k] + LOST + 64, 8)) return 1;
     return 0;
 }
 

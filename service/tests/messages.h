@@ -70,8 +70,9 @@ static void put_reported(writing *w, uint64_t epoch, uint64_t number, uint16_t n
 
 enum { SAYS_WHOLE = 0, SAYS_LOST = 1, SAYS_UNHEARD = 2, SAYS_UNKNOWN = 3, SAYS_OPEN = 4 };
 
+/* Crumbs of the trace led to the nodes of the bits of `low`, from node 0 on. */
 static void put_standing(writing *w, uint64_t epoch, uint64_t number, uint16_t node, const uint8_t *trace, const group_id *g, uint8_t says, uint32_t open, uint64_t horizon,
-                         uint64_t pages, uint64_t evicted) {
+                         uint64_t pages, uint64_t low, uint64_t evicted) {
     put_head(w, 5, epoch, number, node);
     put_bytes(w, trace, 16);
     put_number(w, g->node, 2);
@@ -80,6 +81,8 @@ static void put_standing(writing *w, uint64_t epoch, uint64_t number, uint16_t n
     put_number(w, open, 4);
     put_number(w, horizon, 8);
     put_number(w, pages, 8);
+    put_number(w, 0, 8);
+    put_number(w, low, 8);
     for (int cause = 0; cause < 9; cause++) put_number(w, cause == 7 ? evicted : 0, 8);
 }
 

@@ -6,6 +6,7 @@
  *
  *     --loud        prints each run
  *     --nodes N     has so many nodes in each run; without it there are 64 in every fourth one, and fewer in the others
+ *     --forget      has nodes forget traces that nobody claimed, and leave crumbs late, while a segment of the trace is open
  *     --from-zero   has each life number its groups from 0 on their way too: such runs have to fail
  *     --disk PATH   saves to a store of service/src/store.c at this path beside the model's, and reads each row back; compiled with ON_DISK alone
  *
@@ -44,9 +45,11 @@ enum {
     LATER = 3      /* steps until a message that was too much comes again, as from service/nats/hub.c */
 };
 
-static int is_loud, is_from_zero, nodes_of_each; /* words of the call */
+static int is_loud, is_from_zero, forgets, nodes_of_each; /* words of the call */
 static uint64_t seed, state;
 static long step;
+
+static int comes_again(int n, int t);
 
 static uint64_t next_random(void) {
     uint64_t z = state += 0x9e3779b97f4a7c15u;
@@ -57,6 +60,18 @@ static uint64_t next_random(void) {
 
 static unsigned below(unsigned n) { return (unsigned)(next_random() % n); }
 static int one_in(unsigned n) { return n && !below(n); }
+
+/* Draws of --forget alone, so that the others stay as they are without it. */
+static uint64_t state_apart;
+
+static int one_in_apart(unsigned n) {
+    uint64_t kept = state;
+    state = state_apart;
+    int is = one_in(n);
+    state_apart = state;
+    state = kept;
+    return is;
+}
 
 static void wrong(const char *what) {
     fprintf(stderr, "simulate: seed %" PRIu64 ", step %ld: %s\n", seed, step, what);
@@ -119,9 +134,10 @@ typedef struct {
     uint32_t next_page[CLIENTS], next_record[CLIENTS];
     int heard[MOST_TRACES];
     uint64_t crumbs[MOST_TRACES];
-    unsigned out_pages[MOST_TRACES], evicted[MOST_TRACES];
+    unsigned out_pages[MOST_TRACES], evicted[MOST_TRACES], open[MOST_TRACES]; /* open: segments */
+    uint64_t horizon;                        /* segments heard before those that are remembered */
     int claimed[MOST_TRACES];                /* by this one of those known, and one more; 0: by none */
-    char said[MOST_TRACES][40];              /* what was said last */
+    char said[MOST_TRACES][80];              /* what was said last */
     message out[MOST_OUT];
     unsigned out_count;
 } node;
@@ -139,7 +155,7 @@ static unsigned odds_of_deaths; /* of nodes, in this run */
 static long began[MOST_TRACES], came[MOST_TRACES];
 
 static struct {
-    unsigned loss, repeat, reorder, node_kill, hub_kill, broker_away, evict, store_fault, late_kill, slow;
+    unsigned loss, repeat, reorder, node_kill, hub_kill, broker_away, evict, store_fault, late_kill, slow, forget, late;
 } odds;
 
 /* ---- the broker: keeps what it was sent until it is acknowledged */
@@ -289,16 +305,24 @@ static page *held_page(node *l, int t) {
 static void say(int n, int t, const group *g) {
     node *l = &nodes[n];
     uint8_t bytes[256], lead[16], trace[16];
-    char saying[40];
-    uint8_t word = l->evicted[t] ? SAYS_LOST : l->heard[t] ? SAYS_WHOLE : SAYS_UNHEARD;
-    snprintf(saying, sizeof saying, "%d %u %u", word, l->out_pages[t], l->evicted[t]);
+    char saying[80];
+    uint8_t word = l->open[t] ? SAYS_OPEN : l->evicted[t] ? SAYS_LOST : l->heard[t] ? SAYS_WHOLE : SAYS_UNHEARD;
+    snprintf(saying, sizeof saying, "%d %u %u %u %" PRIx64, word, l->open[t], l->out_pages[t], l->evicted[t], l->crumbs[t]);
     if (!strcmp(saying, l->said[t])) return;
     strcpy(l->said[t], saying);
     writing w = {bytes, 0};
     group_id id = id_of(g, lead);
     trace_id(t, trace);
-    put_standing(&w, l->epoch, l->messages, (uint16_t)n, trace, &id, word, 0, 0, l->out_pages[t], l->evicted[t]);
+    put_standing(&w, l->epoch, l->messages, (uint16_t)n, trace, &id, word, l->open[t], l->horizon, l->out_pages[t], l->crumbs[t], l->evicted[t]);
     put_out(n, &w, -1, UINT32_C(1) << t);
+}
+
+/* A node remembers so many traces, and lets the oldest one go. */
+static void forget(node *l, int t) {
+    l->horizon += (uint64_t)l->heard[t];
+    l->heard[t] = 0;
+    l->crumbs[t] = 0;
+    l->evicted[t] = 0;
 }
 
 static void work(int n) {
@@ -310,6 +334,7 @@ static void work(int n) {
                 p->state = EVICTED;
                 l->evicted[t]++;
             }
+            if (!p && l->heard[t] && !l->open[t] && one_in_apart(odds.forget) && !comes_again(n, t)) forget(l, t);
             continue;
         }
         if (p) report(n, p, &l->known[l->claimed[t] - 1]);
@@ -681,6 +706,50 @@ static void fire(int n, group *g) {
     g->number += first_group(n);
 }
 
+/* Whether a request is still to come to a node: what it wrote of a trace behind its horizon is all that a node speaks of. */
+static int comes_again(int n, int t) {
+    for (int i = scripts[t].at; i < scripts[t].count; i++)
+        if (scripts[t].hops[i] == n) return 1;
+    return 0;
+}
+
+/* Crumbs that are left late, each while a segment of its trace is open at its node. */
+typedef struct {
+    int from, to, trace;
+    uint64_t epoch;
+} late_crumb;
+
+static late_crumb lates[MOST_TRACES * MOST_HOPS];
+static unsigned late_count;
+
+static void leave_crumb(int from, int to, int t) {
+    node *l = &nodes[from];
+    if (one_in_apart(odds.late)) {
+        lates[late_count++] = (late_crumb){from, to, t, l->epoch};
+        l->open[t]++;
+    } else {
+        l->crumbs[t] |= UINT64_C(1) << to;
+    }
+}
+
+/* A crumb of a trace that is claimed is told by itself, as soon as it is left. */
+static void leave_late_crumbs(void) {
+    unsigned left = 0;
+    for (unsigned i = 0; i < late_count; i++) {
+        late_crumb c = lates[i];
+        node *l = &nodes[c.from];
+        if (!l->is_up || l->epoch != c.epoch) continue;
+        if (!one_in_apart(20)) {
+            lates[left++] = c;
+            continue;
+        }
+        l->crumbs[c.trace] |= UINT64_C(1) << c.to;
+        l->open[c.trace]--;
+        if (l->claimed[c.trace]) tell(c.from, &l->known[l->claimed[c.trace] - 1], 2);
+    }
+    late_count = left;
+}
+
 /* The next hop of each trace that is due, with crumbs both ways; behind the last one its trigger. */
 static void play_scripts(void) {
     for (int t = 0; t < trace_count; t++) {
@@ -694,7 +763,7 @@ static void play_scripts(void) {
             if (s->at) {
                 int from = s->hops[s->at - 1];
                 nodes[n].crumbs[t] |= UINT64_C(1) << from;
-                if (nodes[from].is_up) nodes[from].crumbs[t] |= UINT64_C(1) << n;
+                if (nodes[from].is_up) leave_crumb(from, n, t);
             }
             s->at++;
         } else if (s->group >= 0 && !groups[s->group].is_fired) {
@@ -727,6 +796,7 @@ static void trouble(void) {
 
 static void one_step(void) {
     play_scripts();
+    leave_late_crumbs();
     for (int n = 0; n < node_count; n++)
         if (nodes[n].is_up) {
             work(n);
@@ -737,7 +807,7 @@ static void one_step(void) {
 }
 
 static int is_quiet(void) {
-    if (is_away()) return 0;
+    if (is_away() || late_count) return 0;
     for (int n = 0; n < node_count; n++) {
         if (nodes[n].out_count) return 0;
         for (int t = 0; t < trace_count; t++)
@@ -782,7 +852,7 @@ static unsigned either(unsigned n) { return one_in(2) ? n : 0; }
 static void run(void) {
     state = seed * 0x2545f4914f6cdd1du + 1;
     step = 0;
-    record_count = kept_count = kept_first = ask_count = 0;
+    record_count = kept_count = kept_first = ask_count = late_count = 0;
     saved_traces = whole_traces = 0;
     called_whole = 0;
     away_until = 0;
@@ -804,6 +874,12 @@ static void run(void) {
     odds.store_fault = either(5);
     odds.slow = either(3);
     odds.broker_away = either(400);
+    state_apart = seed * 0x9e3779b97f4a7c15u + 1;
+    if (forgets) {
+        odds.late = one_in_apart(2) ? 2 : 0;
+        odds.forget = one_in_apart(2) ? 20 : 0;
+        if (odds.forget) odds.evict = 20;
+    }
     settings = one_in(3) ? tight : roomy;
     store_is_made = one_in(4); /* a hub was before this one */
     unsigned hub_kills = odds.hub_kill | odds.late_kill;
@@ -877,7 +953,7 @@ static void run_of(uint64_t of) {
 }
 
 static int usage(void) {
-    fputs("usage: simulate FIRST COUNT | rows  [--loud] [--nodes N] [--from-zero] [--disk PATH]\n", stderr);
+    fputs("usage: simulate FIRST COUNT | rows  [--loud] [--nodes N] [--forget] [--from-zero] [--disk PATH]\n", stderr);
     return 2;
 }
 
@@ -886,6 +962,7 @@ int main(int argc, char **argv) {
     if (argc < 3 - has_rows) return usage();
     for (int i = 3 - has_rows; i < argc; i++) {
         if (!strcmp(argv[i], "--loud")) is_loud = 1;
+        else if (!strcmp(argv[i], "--forget")) forgets = 1;
         else if (!strcmp(argv[i], "--from-zero")) is_from_zero = 1;
         else if (!strcmp(argv[i], "--nodes") && ++i < argc) nodes_of_each = atoi(argv[i]);
 #ifdef ON_DISK

@@ -36,7 +36,7 @@ fn hands_out(outbox: &mut Outbox, number: u64, bytes: &[u8]) -> bool {
 
 /// An outbox of so many places with messages 0, 5, 6 and 7.
 fn filled(alloc: Global, places: u32) -> Result<Option<Outbox>, Memory> {
-    let mut outbox = Outbox::make(alloc, places, 135)?;
+    let mut outbox = Outbox::make(alloc, places, 151)?;
     let put = is_put(&mut outbox, &HELLO)
         && is_put(&mut outbox, &TOLD)
         && is_put(&mut outbox, &REPORTED)

@@ -86,22 +86,22 @@ pub(crate) fn group() -> Group {
 
 /// Whether a message is written to the front of a slice as these bytes, and no byte behind them changes.
 fn is_written(message: &Message<'_>, bytes: &[u8]) -> bool {
-    let mut out = [0xee; 136];
+    let mut out = [0xee; 152];
     let Ok(len) = write(&mut out, message) else {
         return false;
     };
     len == bytes.len()
         && out.get(..len) == Some(bytes)
-        && (len == 136 || out.get(len) == Some(&0xee))
+        && (len == 152 || out.get(len) == Some(&0xee))
 }
 
 /// Whether a slice one byte too short is told the length, and stays as it is.
 fn wants_more(message: &Message<'_>, bytes: &[u8]) -> bool {
-    let mut out = [0xee; 136];
+    let mut out = [0xee; 152];
     let Some(short) = out.get_mut(1..bytes.len()) else {
         return false;
     };
-    write(short, message) == Err(WriteFault::Short(bytes.len())) && out == [0xee; 136]
+    write(short, message) == Err(WriteFault::Short(bytes.len())) && out == [0xee; 152]
 }
 
 fn spells(message: &Message<'_>, bytes: &[u8]) -> bool {
