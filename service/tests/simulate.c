@@ -926,19 +926,22 @@ static void run(void) {
 static const struct {
     uint64_t seed;
     const char *found;
+    int forgets;
 } rows[] = {
-    {18, "two lives of a node number their groups alike"},
-    {2, "a life of a node is sure once it is heard; an answer counts for another group"},
-    {228, "a life of a node is sure after half the age"},
-    {67, "a hub that is not the first is sure of the first life that it hears"},
-    {44, "a trace is called whole while a node is silent"},
-    {120, "a trace is called whole before all its pages came"},
-    {15, "a trace is called whole where no group has reached a node that wrote of it, or a life that wrote of it does not say that its part is whole"},
-    {16, "a trace without a page is called whole; a node that is reached late is not asked again"},
-    {3, "what is told again waits for what was saved"},
-    {1, "a page that comes again is acknowledged at once"},
-    {30, "a page is dropped at a limit"},
-    {197, "what is told is dropped at a limit"},
+    {18, "two lives of a node number their groups alike", 0},
+    {2, "a life of a node is sure once it is heard; an answer counts for another group", 0},
+    {228, "a life of a node is sure after half the age", 0},
+    {67, "a hub that is not the first is sure of the first life that it hears", 0},
+    {44, "a trace is called whole while a node is silent", 0},
+    {120, "a trace is called whole before all its pages came", 0},
+    {15, "a trace is called whole where no group has reached a node that wrote of it, or a life that wrote of it does not say that its part is whole", 0},
+    {16, "a trace without a page is called whole; a node that is reached late is not asked again", 0},
+    {3, "what is told again waits for what was saved", 0},
+    {1, "a page that comes again is acknowledged at once", 0},
+    {30, "a page is dropped at a limit", 0},
+    {197, "what is told is dropped at a limit", 0},
+    {29, "a node to which a crumb led says that it heard nothing, and has forgotten the trace", 1},
+    {40, "a crumb is told behind what its node says of the trace", 1},
 };
 
 static uint64_t runs;
@@ -975,6 +978,7 @@ int main(int argc, char **argv) {
     if (has_rows) {
         for (size_t i = 0; i < sizeof rows / sizeof *rows; i++) {
             if (is_loud) printf("%s: ", rows[i].found);
+            forgets = rows[i].forgets;
             run_of(rows[i].seed);
         }
     } else {
