@@ -1,7 +1,7 @@
 -- What a hub says of a trace: of each node whether it was asked and answered, of each life what it said last, and whether the trace is
 -- whole. Nothing more is to come of a trace where each node that was asked for it answered, the latest life of each is closed to it, and each
--- node to which a crumb of it led was asked for it. It is whole where, besides, no earlier life is open, no node to which a crumb of it led has
--- forgotten what it may have heard of it, all pages came that lives say they handed out, and each life that wrote a page of it says that its
+-- node to which a crumb of it led was asked for it. It is whole where, besides, no earlier life is open, no node to which a crumb of it led may
+-- have forgotten it, all pages came that lives say they handed out, and each life that wrote a page of it says that its
 -- part is whole.
 use Rattle.std.specs.Prelude.{◌≡◌, ℕ, Bool, true, false, not, ◌&&◌, ◌||◌, ◌==◌, List, [], ◌∷◌, length, nat_lt, filter, slice_get, fold, Option, Some, None, option_map, if◌then◌else◌, refl}
 use Rattle.std.specs.List.{list_all, list_any}
@@ -125,7 +125,7 @@ is_life_asked g trace entry = list_any (asks trace (record { 0 = entry.0.node })
 abbrev pub are_asked : PlainGroups → PlainStandings → TraceId → Bool
 are_asked g s trace = option_map_or (list_all (is_life_asked g trace)) (lives_of s.books trace) true
 
--- whether the latest life of a node is closed to the trace, and forgot nothing that it may have heard of it
+-- whether the latest life of a node is closed to the trace, and has notes of it if it ever had any
 abbrev pub is_node_known : PlainGroups → PlainStandings → TraceId → NodeId → Bool
 is_node_known g s trace node = option_map_or knows_all (latest_of s trace (latest_life g node)) false
 

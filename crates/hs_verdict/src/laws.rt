@@ -9,7 +9,7 @@ ghost use Rattle.hs_verdict.specs.Whole.{IsWhole};
 ghost use Rattle.hs_verdict.specs.Verdict.{is_whole};
 
 /// A trace is said to be whole only where each node that was asked for it answered, no life of a node is open to it, and each node to which
-/// crumbs of it led was asked and forgot nothing of it.
+/// crumbs of it led was asked and has notes of it if it ever had any.
 pub fn whole_is_said_of_closed_lives()
     ensures { (groups : PlainGroups) (standings : PlainStandings) (trace : TraceId) (pages : List PageKey)
         → is_whole groups standings trace pages ≡ true → IsWhole groups standings trace pages }

@@ -54,7 +54,7 @@ pub(crate) fn are_followed(groups: &Groups, standings: &Standings, trace: TraceI
     true
 }
 
-/// Whether the latest life of a node is closed to a trace, and forgot nothing that it may have heard of it.
+/// Whether the latest life of a node is closed to a trace, and has notes of it if it ever had any.
 fn is_node_known(groups: &Groups, standings: &Standings, trace: TraceId, node: NodeId) -> bool
     ensures { result ≡ is_node_known groups.now standings.now trace node }
 {

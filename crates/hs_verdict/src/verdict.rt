@@ -109,7 +109,7 @@ fn are_pages_whole(standings: &Standings, trace: TraceId, pages: &[PageKey]) -> 
 }
 
 /// Whether a trace with these pages is whole: there is one, nothing more is to come of it, each life that spoke of it is closed to it and of
-/// a node that was asked, each node to which crumbs of it led forgot nothing of it, these are all pages that lives say they handed out, and
+/// a node that was asked, no node to which crumbs of it led may have forgotten it, these are all pages that lives say they handed out, and
 /// each life that wrote one says that its part is whole.
 pub fn is_whole(groups: &Groups, standings: &Standings, trace: TraceId, pages: &[PageKey]) -> bool
     ensures { result ≡ is_whole groups.now standings.now trace pages.now }

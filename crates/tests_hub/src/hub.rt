@@ -197,6 +197,14 @@ fn a_node_that_forgot(alloc: Global, crumbs: u128, is_whole: bool) -> Result<boo
     Ok(taken == (Some(TraceId(1)), Some(is_whole)) && hub.why() == Some(Given::Complete))
 }
 
+/// Node 1 says unheard since its eightieth segment too, and that a crumb of the trace led to node 0: it has notes of the trace, and no segment.
+fn a_node_that_led_on(alloc: Global) -> Result<bool, Memory> {
+    let mut hub = told_of(alloc)?;
+    stand_so(&mut hub, 1, 3, Wholeness::UnheardSince, 80, 1);
+    stand_so(&mut hub, 0, 3, Wholeness::WholeSince, 80, 2);
+    Ok((hub.take(), whole(&hub)) == (Some(TraceId(1)), Some(true)))
+}
+
 /// Node 0 says that crumbs led to nodes 1 and 2 before it tells of node 2: the trace waits until node 2 answered and said that it heard nothing.
 fn a_crumb_that_is_told_late(alloc: Global) -> Result<bool, Memory> {
     let mut hub = told_of(alloc)?;
@@ -288,6 +296,7 @@ fn a_hub(rt: HostRuntime) {
     row(&rt, "open", an_open_life(alloc));
     row(&rt, "forgot", a_node_that_forgot(alloc, 2, false));
     row(&rt, "forgot another", a_node_that_forgot(alloc, 0, true));
+    row(&rt, "led on", a_node_that_led_on(alloc));
     row(&rt, "told late", a_crumb_that_is_told_late(alloc));
     row(&rt, "young", a_young_life(alloc, 9, false));
     row(&rt, "of age", a_young_life(alloc, 10, true));
