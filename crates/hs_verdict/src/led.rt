@@ -69,12 +69,7 @@ fn is_node_known(groups: &Groups, standings: &Standings, trace: TraceId, node: N
 }
 
 /// Whether that holds of each node to which a life says that crumbs of the trace led.
-fn leads_to_known(
-    groups: &Groups,
-    standings: &Standings,
-    trace: TraceId,
-    nodes: NodeSet,
-) -> bool
+fn leads_to_known(groups: &Groups, standings: &Standings, trace: TraceId, nodes: NodeSet) -> bool
     ensures { result ≡ list_all (λ node. is_node_known groups.now standings.now trace (record { 0 = node })) (nodes_of nodes) }
 {
     let mut rest = nodes;

@@ -68,7 +68,14 @@ fn report(hub: &mut Hub, number: u64) -> Option<Delivered> {
 
 /// A node says how whole its part of trace 1 is, since its first segment. Crumbs of node 0 led to node 1.
 fn stand(hub: &mut Hub, node: u16, number: u64, wholeness: Wholeness) -> Option<Delivered> {
-    stand_so(hub, node, number, wholeness, 0, if node == 0 { 2 } else { 0 })
+    stand_so(
+        hub,
+        node,
+        number,
+        wholeness,
+        0,
+        if node == 0 { 2 } else { 0 },
+    )
 }
 
 /// The same since a horizon. Crumbs led to the nodes of these bits.

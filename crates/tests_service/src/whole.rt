@@ -294,7 +294,10 @@ fn led(alloc: Global) -> Result<bool, Memory> {
     notes.closed(0, 1, NINE, page(0), &report)?;
     notes.led(0, 2, NINE, NodeSet(2))?;
     let whole = says(&notes, NINE, Wholeness::WholeSince, 0, 0);
-    let said = (standing(&notes, NINE).crumbs, standing(&notes, EIGHT).crumbs);
+    let said = (
+        standing(&notes, NINE).crumbs,
+        standing(&notes, EIGHT).crumbs,
+    );
     Ok(whole && notes.crumbs(NINE) == NodeSet(7) && said == (NodeSet(7), NodeSet(0)))
 }
 
