@@ -6,6 +6,7 @@ pub mod Counting
 pub mod Notes
 pub mod Clients
 pub mod Lives
+pub mod Pointing
 pub mod Answers
 pub mod Inside
 pub mod Fitting

@@ -1,5 +1,8 @@
 //! What the calls of a service's client answer.
 
+ghost use Rattle.std.specs.Prelude.{◌≡◌};
+ghost use Rattle.hs_node_client.specs.Pointing.{called_of};
+
 /// What a call answers.
 #[derive(Clone, Copy, Debug, PartialEq, Eq)]
 pub enum Called {
@@ -17,4 +20,37 @@ pub enum Called {
     Unknown,
     /// Numbers end: the calls of this trace, the draws of the client, or the numbers of its renewals and notes.
     Spent,
+}
+
+/// What a point answers where it is told of a pool that was empty.
+#[derive(Clone, Copy, Debug, PartialEq, Eq)]
+pub enum Pointed {
+    /// It was done, and each page that it drew for got a buffer.
+    Done,
+    /// It was done, but the pool was empty when it drew for a page. What was written to that page is lost, and so is all that still goes
+    /// to it.
+    Dry,
+    /// No trace is open.
+    NoTrace,
+    /// The payload is longer than a record may have.
+    TooWide,
+    /// The outbox has fewer places than the call asks for. The same call may be done later.
+    Full,
+    /// Numbers end: the calls of this trace, or the draws of the client.
+    Spent,
+}
+
+impl Pointed {
+    /// What the call answers where nobody asks whether the pool was empty.
+    pub fn called(self) -> Called
+        ensures { result ≡ called_of self }
+    {
+        match self {
+            Pointed::Done | Pointed::Dry => Called::Done,
+            Pointed::NoTrace => Called::NoTrace,
+            Pointed::TooWide => Called::TooWide,
+            Pointed::Full => Called::Full,
+            Pointed::Spent => Called::Spent,
+        }
+    }
 }

@@ -16,10 +16,11 @@ ghost use Rattle.hs_node_client.specs.Clients.{PutsThrough, KeepsEnds, NotesIt, 
 ghost use Rattle.hs_node_client.specs.Known.{AreDeclared, rules_in};
 ghost use Rattle.hs_node_client.specs.Notes.{PutsOn};
 ghost use Rattle.hs_node_client.specs.Paging.{place_in};
+ghost use Rattle.hs_node_client.specs.Pointing.{called_of, DriesBy};
 ghost use Rattle.hs_node_client.specs.Lives.{HasHalf, Lives, LivesByBegin, LivesOn, TurnsInto, RenewsInto};
 
 use crate::acts;
-use crate::called::Called;
+use crate::called::{Called, Pointed};
 use crate::counts::{Counts, Tally};
 use crate::notebook::Notebook;
 use crate::paged::Paged;
@@ -168,10 +169,23 @@ impl NodeClient {
         ensures counts { self.new.tally ≡ with_point result self.old.tally }
         ensures only { self.new ≡ record self.old { live = self.new.live; tally = self.new.tally } }
     {
+        self.point_told(moment, payload).called()
+    }
+
+    /// The same, and tells where it was done but found the pool empty.
+    pub fn point_told(&mut self, moment: u64, payload: &[u8]) -> Pointed
+        ensures answer { PointsBy self.old.live (length payload.now) (called_of result) self.new.live }
+        ensures dry { DriesBy result self.old.live.core self.new.live.core }
+        ensures does { Lives (Point moment payload.now) (called_of result) self.old.live self.new.live }
+        ensures refused { (called_of result ≡ Done → ⊥) → PutsThrough self.old.live self.new.live }
+        ensures keeps { KeepsEnds self.old.live self.new.live }
+        ensures counts { self.new.tally ≡ with_point (called_of result) self.old.tally }
+        ensures only { self.new ≡ record self.old { live = self.new.live; tally = self.new.tally } }
+    {
         if self.live.has_room(payload.len()) {
             self.live.point_here(moment, payload);
             self.tally.here.points += 1;
-            return Called::Done;
+            return Pointed::Done;
         }
         self.point_apart(moment, payload)
     }
@@ -179,18 +193,33 @@ impl NodeClient {
     /// Records a payload that the open page has no room for. It stands apart, since most payloads fit the open page.
     #[cold]
     #[inline(never)]
-    fn point_apart(&mut self, moment: u64, payload: &[u8]) -> Called
+    fn point_apart(&mut self, moment: u64, payload: &[u8]) -> Pointed
         requires { NeedsPage self.old.live.core (length payload.now) }
-        ensures answer { PointsBy self.old.live (length payload.now) result self.new.live }
-        ensures does { Lives (Point moment payload.now) result self.old.live self.new.live }
-        ensures refused { (result ≡ Done → ⊥) → PutsThrough self.old.live self.new.live }
+        ensures answer { PointsBy self.old.live (length payload.now) (called_of result) self.new.live }
+        ensures dry { DriesBy result self.old.live.core self.new.live.core }
+        ensures does { Lives (Point moment payload.now) (called_of result) self.old.live self.new.live }
+        ensures refused { (called_of result ≡ Done → ⊥) → PutsThrough self.old.live self.new.live }
         ensures keeps { KeepsEnds self.old.live self.new.live }
-        ensures counts { self.new.tally ≡ with_point result self.old.tally }
+        ensures counts { self.new.tally ≡ with_point (called_of result) self.old.tally }
         ensures only { self.new ≡ record self.old { live = self.new.live; tally = self.new.tally } }
     {
+        let nulls = self.live.nulls();
         let called = acts::point(&mut self.live, moment, payload);
         self.tally.point(called);
-        called
+        match called {
+            Called::Done => {
+                if nulls < self.live.nulls() {
+                    Pointed::Dry
+                } else {
+                    Pointed::Done
+                }
+            }
+            Called::NoTrace => Pointed::NoTrace,
+            Called::TooWide => Pointed::TooWide,
+            Called::Full => Pointed::Full,
+            Called::Spent => Pointed::Spent,
+            Called::AlreadyOpen | Called::Unknown => unreachable!(),
+        }
     }
 
     /// Leaves a crumb: the open trace goes on to this node.

@@ -16,7 +16,7 @@ mod paged;
 mod places;
 mod segment;
 
-pub use called::Called;
+pub use called::{Called, Pointed};
 pub use client::NodeClient;
 pub use counts::Counts;
 pub use laws::{notes_are_numbered, segments_name_their_pages};

@@ -3,7 +3,7 @@
 use crate::made::{Ends, ID, LEAST, make_ends};
 use crate::rows::row;
 use hs_base::{Crumb, Laterals, NodeId, NodeSet, TraceId, Trigger, TriggerId};
-use hs_node_client::{Called, ClientLimits, MakeFault, NodeClient, SegmentState};
+use hs_node_client::{Called, ClientLimits, MakeFault, NodeClient, Pointed, SegmentState};
 use std::alloc::Global;
 
 /// As much as a page of 64 bytes holds.
@@ -121,6 +121,8 @@ enum Row {
     NextCore,
     ThirdCrumb,
     Nodes,
+    Told,
+    Dry,
 }
 
 /// Whether a row comes out as wanted with a client that did nothing.
@@ -138,6 +140,8 @@ fn comes_out(ends: &mut Ends, row: Row) -> bool {
         Row::NextCore => names_the_next_core(ends),
         Row::ThirdCrumb => notes_a_refused_crumb(ends),
         Row::Nodes => names_its_nodes(ends),
+        Row::Told => tells_of_no_point(&mut ends.client),
+        Row::Dry => finds_the_pool_dry(&mut ends.client),
     }
 }
 
@@ -182,6 +186,59 @@ fn finds_no_place(client: &mut NodeClient) -> bool {
     let full = client.point(1, &THREE_PIECES);
     let counts = client.counts();
     is_done(begun) && full == Called::Full && counts.full_points == 1 && counts.points == 0
+}
+
+/// A point that is not done tells why.
+fn tells_of_no_point(client: &mut NodeClient) -> bool {
+    let stray = client.point_told(1, b"login");
+    let begun = client.begin(TraceId(1));
+    let full = client.point_told(1, &THREE_PIECES);
+    is_done(begun) && stray == Pointed::NoTrace && full == Pointed::Full
+}
+
+/// So many points of five bytes, of which each page of 64 bytes takes two: its header has 24, and each piece 10 beside its payload. How many were
+/// not done with a buffer.
+fn points(client: &mut NodeClient, count: u32) -> u32 {
+    let mut others = 0u32;
+    for _ in 0..count {
+        let pointed = client.point_told(5, b"login");
+        if pointed != Pointed::Done {
+            others = others.saturating_add(1);
+        }
+    }
+    others
+}
+
+/// The pool has two buffers, which four points fill. The fifth begins the third page and finds it empty. The sixth goes to the same page.
+fn finds_the_pool_dry(client: &mut NodeClient) -> bool {
+    let begun = client.begin(TraceId(1));
+    let others = points(client, 4);
+    let fifth = client.point_told(5, b"login");
+    let sixth = client.point_told(5, b"login");
+    let counts = client.counts();
+    is_done(begun)
+        && others == 0
+        && fifth == Pointed::Dry
+        && sixth == Pointed::Done
+        && counts.points == 6
+        && counts.null_pages == 1
+}
+
+/// With places for its chunks, a point of three pieces finds two buffers, and none for the third. Who does not ask is answered that it was done.
+fn lacks_the_last(client: &mut NodeClient) -> bool {
+    let begun = client.begin(TraceId(1));
+    let pointed = client.point_told(1, &THREE_PIECES);
+    let more = client.point(2, &FULL);
+    is_done(begun) && pointed == Pointed::Dry && is_done(more) && client.counts().null_pages == 2
+}
+
+fn with_places(alloc: Global) -> Result<bool, MakeFault> {
+    let limits = ClientLimits {
+        backlog: 4,
+        ..LEAST
+    };
+    let mut ends = make_ends(alloc, &limits)?;
+    Ok(lacks_the_last(&mut ends.client))
 }
 
 /// One trigger lies in the ring and one waits.
@@ -331,5 +388,8 @@ fn calls(rt: HostRuntime) {
     row(&rt, "next core", with_client(alloc, Row::NextCore));
     row(&rt, "third crumb", with_client(alloc, Row::ThirdCrumb));
     row(&rt, "nodes", with_client(alloc, Row::Nodes));
+    row(&rt, "told", with_client(alloc, Row::Told));
+    row(&rt, "dry", with_client(alloc, Row::Dry));
+    row(&rt, "three pieces, two buffers", with_places(alloc));
     row(&rt, "no buffer", no_buffer(alloc));
 }

@@ -2,7 +2,7 @@ use Rattle.std.proofs.Common.{ap, subst}
 use Rattle.hs_live.specs.declared.called.Called.{Called as LiveCalled}
 use Rattle.hs_node_client.proofs.Prelude.{Does, Point, PlainNodeClient}
 use Rattle.hs_node_client.proofs.Living.{lives_done, lives_same}
-use Rattle.hs_node_client.proofs.client.NodeClient.point.Goals as goal
+use Rattle.hs_node_client.proofs.client.NodeClient.point_told.Goals as goal
 
 pub returns-then-has_room-clause-does : goal.returns-then-has_room-clause-does
 returns-then-has_room-clause-does c =
