@@ -42,7 +42,7 @@ extern "C" {
 
 /* ---- answers ---- */
 
-/* What calls answer. 0 is success, below 0 nothing was done, above 0 is no error. The numbers never change. */
+/* What calls answer. 0 is success, below 0 nothing was done, but for HIND_DRY, above 0 is no error. The numbers never change. */
 typedef int hind_code;
 enum {
     HIND_OK = 0,
@@ -65,7 +65,8 @@ enum {
     HIND_SPENT = -15,       /* the numbers of this trace, or of this client, have come to their end */
     HIND_CLOSED = -16,      /* the node or the client was closed */
     HIND_TAKEN = -17,       /* another process has this name (hindsight_nats.h) */
-    HIND_AWAY = -18         /* the broker is not there, or does not answer as it should (hindsight_nats.h) */
+    HIND_AWAY = -18,        /* the broker is not there, or does not answer as it should (hindsight_nats.h) */
+    HIND_DRY = -19          /* of a point: no buffer was free, so the record is lost. The request goes on, and its trace will not be called whole */
 };
 
 /* A sentence on an answer, and its name, as "HIND_INVALID". Never NULL, static. For a number that is no answer: "unknown code". */
@@ -223,8 +224,11 @@ HIND_API hind_code hind_begin(hind_client *client, const hind_trace_id *trace);
  * told: it may have found no place, or the settings have no such node. */
 HIND_API hind_code hind_begin_from(hind_client *client, const hind_context *context);
 /* Records bytes in the open trace, now or at a moment in nanoseconds since 1970. `payload` may be NULL where `len` is 0. OK, NOTRACE, TOOLONG (above
- * 65,535 bytes), FULL, SPENT. Where no buffer is free the answer is OK too, since the core does not say so of a single record: what goes to the page that
- * found none is lost, hind_client_get_counts counts the page in null_pages, and a claimed trace says what it lost. */
+ * 65,535 bytes), FULL, SPENT, DRY.
+ * DRY: the record needed a buffer, and none was free. It is lost, or a part of it where it takes several buffers. Do not write it again. The trace is
+ * still open, and its request goes on; it will not be called whole, and says what it lost if it is claimed. Records behind it are lost as well and answer
+ * OK, as many as the buffer would have held. Where no point of a segment answers DRY, none of its records was lost for want of a buffer.
+ * hind_client_get_counts has the record in `points`, and what found no buffer in `null_pages`. */
 HIND_API hind_code hind_point(hind_client *client, const void *payload, size_t len);
 HIND_API hind_code hind_point_at(hind_client *client, uint64_t moment, const void *payload, size_t len);
 /* The same of pieces that lie in several places, as one record. `pieces` may be NULL where `count` is 0, a piece's base where its length is 0. Each
@@ -246,7 +250,7 @@ HIND_API hind_code hind_end(hind_client *client);
  * that makes none for a while. No pass takes what waits in a client that is in use. */
 HIND_API hind_code hind_flush(hind_client *client, uint64_t *waits);
 /* Many calls at once (docs/FORMATS.md, "Many calls in one"), for languages in which a call of C is dear. Goes on to the first that does not
- * answer OK, and answers what that one does; REFUSED where bytes spell no call. *calls, where not NULL, is how many were done, *used how many
+ * answer OK, and answers what that one does, DRY too: go on behind that point; REFUSED where bytes spell no call. *calls, where not NULL, is how many were done, *used how many
  * bytes they have. Any bytes may come. */
 HIND_API hind_code hind_write(hind_client *client, const void *bytes, size_t len, size_t *calls, size_t *used);
 

@@ -26,6 +26,7 @@ static const struct {
     {HIND_CLOSED, "HIND_CLOSED", "the node or the client was closed"},
     {HIND_TAKEN, "HIND_TAKEN", "another process has this name"},
     {HIND_AWAY, "HIND_AWAY", "the broker is not there, or does not answer as it should"},
+    {HIND_DRY, "HIND_DRY", "no buffer was free, so the record is lost"},
 };
 
 static const char *found(hind_code code, int is_name) {
@@ -49,6 +50,7 @@ hind_code hindlib_code(uint32_t answer) {
         [HINDCORE_SETTINGS] = HIND_SETTINGS, [HINDCORE_UNFIT] = HIND_UNDECLARED,  [HINDCORE_NO_TRACE] = HIND_NOTRACE,   [HINDCORE_OPEN] = HIND_OPEN,
         [HINDCORE_TOO_WIDE] = HIND_TOOLONG,  [HINDCORE_FULL] = HIND_FULL,         [HINDCORE_UNKNOWN] = HIND_UNDECLARED, [HINDCORE_SPENT] = HIND_SPENT,
         [HINDCORE_NOTHING] = HIND_NOTHING,   [HINDCORE_NO_MESSAGE] = HIND_REFUSED, [HINDCORE_SHORT] = HIND_TOOLONG,     [HINDCORE_HELD] = HIND_HELD,
+        [HINDCORE_DRY] = HIND_DRY,
     };
     return answer < sizeof codes / sizeof *codes ? codes[answer] : HIND_INVALID;
 }

@@ -1,8 +1,8 @@
 /* The calls of the proved core (crates/hs_c), as C sees them. The library's own C sources include this; services do not.
  *
  * A handle is zeroed before its first use, is never copied while it is in use, and takes one call at a time. A handle that was moved is
- * forgotten at its old place. Every call answers one of the codes below, and any answer but HINDCORE_DONE has done nothing but put what
- * waited in outboxes through. */
+ * forgotten at its old place. Every call answers one of the codes below, and any answer but HINDCORE_DONE and HINDCORE_DRY has done
+ * nothing but put what waited in outboxes through. */
 #ifndef HINDCORE_H
 #define HINDCORE_H
 #include <stddef.h>
@@ -27,7 +27,8 @@ enum {
     HINDCORE_NOTHING = 12,    /* nothing came */
     HINDCORE_NO_MESSAGE = 13, /* the bytes spell no message */
     HINDCORE_SHORT = 14,      /* the slice is too short for what it is to take */
-    HINDCORE_HELD = 15        /* the message waits until what it serves is saved */
+    HINDCORE_HELD = 15,       /* the message waits until what it serves is saved */
+    HINDCORE_DRY = 16         /* a point was done, but the pool had no buffer for a page of it: what goes to that page is lost */
 };
 
 /* A trace id, its highest byte first. */
@@ -82,7 +83,8 @@ uint32_t hindcore_client_open(hindcore_port *port, hindcore_client *client);
 
 /* Opens a trace: DONE, OPEN, SPENT. */
 uint32_t hindcore_begin(hindcore_client *client, const hindcore_trace *trace);
-/* Records a payload at a moment: DONE, NO_TRACE, TOO_WIDE (above 65,535 bytes), FULL, SPENT. */
+/* Records a payload at a moment: DONE, NO_TRACE, TOO_WIDE (above 65,535 bytes), FULL, SPENT, or DRY: it is counted and done, but a page that it began
+ * got no buffer. What goes to that page is lost, and a record behind that still fits there is DONE. */
 uint32_t hindcore_point(hindcore_client *client, uint64_t moment, const uint8_t *payload, size_t len);
 /* The open trace goes on to a node: DONE, NO_TRACE, FULL, UNKNOWN. */
 uint32_t hindcore_crumb(hindcore_client *client, uint16_t node);

@@ -54,7 +54,16 @@ static void is_thrown(const char *text, hind_node_id number, hind_code code, con
     }
 }
 
+// A header of 24 bytes and two records of 10 beside 10 are a page of 64 bytes: four buffers take eight records.
+static void empty_pool() {
+    hindsight::Node node("nodes 1\nclients 1\nbuffers 4\nsize 64\nthreshold 1\npins 1\ntriggerid 1\n", 0);
+    hindsight::Segment segment(node.get(), hindsight::new_trace());
+    for (int i = 0; i < 8; i++) HOLDS(segment.point("0123456789") == HIND_OK);
+    HOLDS(segment.point("0123456789") == HIND_DRY && segment.code() == HIND_OK);
+}
+
 int main() {
+    empty_pool();
     hindsight::Node node(settings, 0, "one");
     hindsight::Hub hub(settings, 0, true);
     hind_trace_id id = hindsight::new_trace();

@@ -80,6 +80,20 @@ def test_refusals(node):
     assert (counts["points"], counts["hellos"], counts["clients"], counts["refused_asks"]) == (1, 1, 4, 1), counts
 
 
+def test_empty_pool():
+    """A header of 24 bytes and two records of 10 beside 10 are a page of 64 bytes: four buffers take eight records. The ninth is lost, and the end is made."""
+    with hindsight.Node("nodes 1\nclients 1\nbuffers 4\nsize 64\nthreshold 1\npins 1\ntriggerid 1\n", name="few") as node:
+        with node.segment(hindsight.new_trace()) as segment:
+            for _ in range(9):
+                segment.point(b"0123456789")
+        assert node.lost == 1
+        counts = node.counts()
+        assert (counts["points"], counts["null_pages"]) == (9, 1), counts
+        with node.segment(hindsight.new_trace()) as segment:
+            segment.crumb(0)
+        assert node.lost == 1  # the trace was ended
+
+
 def test_first(node, hub):
     fine, failed = hindsight.new_trace(), hindsight.new_trace()
     assert len(fine) == 16 and fine != failed
@@ -204,6 +218,7 @@ def main():
     with hindsight.Node(SETTINGS, name="shop") as node, hindsight.Hub(SETTINGS, is_fresh=True) as hub:
         test_messages(node)
         test_refusals(node)
+        test_empty_pool()
         traces(node, hub)
         test_first(node, hub)
         test_exception(node, hub)

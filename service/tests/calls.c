@@ -144,6 +144,50 @@ static void a_full_outbox(void) {
     close_all();
 }
 
+/* A header of 24 bytes and two records of 10 beside 10 are a page of 64 bytes. There are 4 buffers: the ninth record begins the fifth page and finds none.
+ * The tenth goes to the page of the ninth. */
+static void an_empty_pool(void) {
+    static const char few[] = "triggerid 1\nnodes 4\nbuffers 4\nsize 64\nthreshold 1\npins 1\nclients 1\nbacklog 8\n";
+    hindcore_count counts;
+    hindcore_client *c = &clients[0];
+    uint64_t waits;
+    EXPECT(open_with(few, 0), HINDCORE_DONE);
+    EXPECT(hindcore_client_open(&port, c), HINDCORE_DONE);
+    EXPECT(hindcore_begin(c, &first), HINDCORE_DONE);
+    for (int i = 1; i <= 8; i++) EXPECT(hindcore_point(c, 1, bytes, 10), HINDCORE_DONE);
+    EXPECT(hindcore_point(c, 9, bytes, 10), HINDCORE_DRY);
+    EXPECT(hindcore_point(c, 10, bytes, 10), HINDCORE_DONE);
+    EXPECT(hindcore_point(c, 11, bytes, 10), HINDCORE_DRY);
+    EXPECT(hindcore_counts(c, &counts), HINDCORE_DONE);
+    EXPECT(counts.points, 11);
+    EXPECT(counts.null_pages, 2);
+    /* what is no point is as ever, and so is a point that is refused */
+    EXPECT(hindcore_crumb(c, 1), HINDCORE_DONE);
+    EXPECT(hindcore_trigger(c, 5, 1, &first, NULL, 0), HINDCORE_DONE);
+    static const uint8_t wide[65536];
+    EXPECT(hindcore_point(c, 12, wide, sizeof wide), HINDCORE_TOO_WIDE);
+    EXPECT(hindcore_end(c), HINDCORE_DONE);
+    EXPECT(hindcore_point(c, 13, bytes, 10), HINDCORE_NO_TRACE);
+    /* Two buffers come back. A record of 61 bytes has pieces of 30, 30 and 1, each on a page of its own: the last finds no buffer. */
+    EXPECT(hindcore_take(&port, 0), HINDCORE_DONE);
+    EXPECT(hindcore_take(&port, 0), HINDCORE_DONE);
+    EXPECT(hindcore_begin(c, &second), HINDCORE_DONE);
+    EXPECT(hindcore_point(c, 14, bytes, 61), HINDCORE_DRY);
+    EXPECT(hindcore_end(c), HINDCORE_DONE);
+    EXPECT(hindcore_flush(c, &waits), HINDCORE_DONE);
+    for (int i = 0; i < 4; i++) EXPECT(hindcore_take(&port, 0), HINDCORE_DONE);
+    EXPECT(hindcore_take(&port, 0), HINDCORE_NOTHING);
+    /* all four are free */
+    EXPECT(hindcore_begin(c, &first), HINDCORE_DONE);
+    for (int i = 1; i <= 8; i++) EXPECT(hindcore_point(c, 15, bytes, 10), HINDCORE_DONE);
+    EXPECT(hindcore_point(c, 16, bytes, 10), HINDCORE_DRY);
+    EXPECT(hindcore_counts(c, &counts), HINDCORE_DONE);
+    EXPECT(counts.points, 21);
+    EXPECT(counts.null_pages, 4);
+    EXPECT(hindcore_client_free(c), HINDCORE_DONE);
+    EXPECT(hindcore_port_free(&port), HINDCORE_DONE);
+}
+
 /* Each allocation of making is refused in turn: nothing is made, and nothing is kept. */
 static void refused_memory(void) {
     long before = live, tried = 0;
@@ -179,6 +223,7 @@ int main(void) {
     refused_settings();
     a_life();
     a_full_outbox();
+    an_empty_pool();
     refused_memory();
     if (failed) fprintf(stderr, "%d failed\n", failed);
     return failed != 0;

@@ -41,12 +41,14 @@ static hind_hub *opened_hub(void) {
 
 static void texts(void) {
     for (int code = -40; code < 40; code++) {
-        int known = code >= -18 && code <= 2;
+        int known = code >= -19 && code <= 2;
         EXPECT(strcmp(hind_errname(code), "unknown code") != 0, known);
         EXPECT(strcmp(hind_strerror(code), "unknown code") != 0, known);
-        for (int other = -18; known && other < code; other++) HOLDS(strcmp(hind_errname(code), hind_errname(other)) && strcmp(hind_strerror(code), hind_strerror(other)));
+        for (int other = -19; known && other < code; other++) HOLDS(strcmp(hind_errname(code), hind_errname(other)) && strcmp(hind_strerror(code), hind_strerror(other)));
     }
     EXPECT(strcmp(hind_errname(HIND_FULL), "HIND_FULL"), 0);
+    EXPECT(HIND_DRY, -19);
+    EXPECT(strcmp(hind_errname(HIND_DRY), "HIND_DRY"), 0);
     EXPECT(hind_version(), HIND_VERSION_NUMBER);
     EXPECT(strcmp(hind_version_string(), "0.2.0"), 0);
 }
@@ -324,6 +326,47 @@ static void full(hind_node *node, hind_client *c) {
     pass_all(node);
     EXPECT(hind_point(c, payload, sizeof payload), HIND_OK);
     EXPECT(hind_end(c), HIND_OK);
+}
+
+/* A header of 24 bytes and two records of 10 beside 10 are a page of 64 bytes. There are 4 buffers: the ninth record finds none, and the tenth goes to the
+ * page of the ninth. */
+static void dry(void) {
+    static const char few[] = "triggerid 1\nnodes 4\nbuffers 4\nsize 64\nthreshold 1\npins 1\nclients 1\nbacklog 8\n";
+    static const uint8_t two_and_end[] = "P" "\0\0\0\0\0\0\0\5" "\0\12" "0123456789" "P" "\0\0\0\0\0\0\0\6" "\0\12" "0123456789" "E";
+    hind_node_options o = HIND_NODE_OPTIONS_INIT;
+    hind_client_counts counts = {.size = sizeof counts};
+    const struct iovec halves[] = {{(void *)(uintptr_t)"01234", 5}, {(void *)(uintptr_t)"56789", 5}};
+    hind_trace_id open;
+    hind_node *node;
+    hind_client *c;
+    size_t calls, used;
+    o.settings = few;
+    o.settings_len = sizeof few - 1;
+    EXPECT(hind_node_open(&o, &node), HIND_OK);
+    EXPECT(hind_client_open(node, &c), HIND_OK);
+    EXPECT(hind_begin(c, &second), HIND_OK);
+    for (int i = 0; i < 8; i++) EXPECT(hind_point(c, "0123456789", 10), HIND_OK);
+    EXPECT(hind_point(c, "0123456789", 10), HIND_DRY);
+    EXPECT(hind_client_trace(c, &open), HIND_OK); /* the request goes on */
+    EXPECT(hind_crumb(c, 2), HIND_OK);
+    EXPECT(hind_point_at(c, 7, "0123456789", 10), HIND_OK);
+    EXPECT(hind_pointv(c, halves, 2), HIND_DRY);
+    EXPECT(hind_client_get_counts(c, &counts), HIND_OK);
+    HOLDS(counts.points == 11 && counts.null_pages == 2 && counts.full_points == 0);
+    /* many calls in one stop in front of the dry one, behind which they go on */
+    EXPECT(hind_write(c, two_and_end, sizeof two_and_end - 1, &calls, &used), HIND_DRY);
+    HOLDS(calls == 1 && used == 21);
+    EXPECT(hind_write(c, two_and_end + 42, 1, &calls, &used), HIND_OK);
+    EXPECT(hind_end(c), HIND_NOTRACE);
+    EXPECT(hind_client_get_counts(c, &counts), HIND_OK);
+    HOLDS(counts.points == 13 && counts.null_pages == 3);
+    /* after passes one page is kept at most, so three buffers are free */
+    pass_all(node);
+    EXPECT(hind_begin(c, &first), HIND_OK);
+    for (int i = 0; i < 6; i++) EXPECT(hind_point(c, "0123456789", 10), HIND_OK);
+    EXPECT(hind_end(c), HIND_OK);
+    EXPECT(hind_client_close(c), HIND_OK);
+    EXPECT(hind_node_close(node), HIND_OK);
 }
 
 /* Pieces are one record, as long as one may be. */
@@ -715,6 +758,7 @@ int main(void) {
     EXPECT(hind_node_close(node), HIND_OK);
     EXPECT(hind_hub_close(hub), HIND_OK);
     clients();
+    dry();
     messages();
     counts_of_messages();
     a_trace();

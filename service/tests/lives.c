@@ -838,7 +838,7 @@ static uint32_t write_point(client *c, uint64_t moment, size_t len) {
     is_touched = 1;
     uint32_t code = hindcore_point(&c->handle, moment, payload, len);
     unsigned began = 0, nulls;
-    int drops;
+    int drops, is_done = 0;
     if (c->open < 0) {
         must_be("point without a trace", HINDCORE_NO_TRACE, code);
         c->counts.stray_points++;
@@ -851,7 +851,8 @@ static uint32_t write_point(client *c, uint64_t moment, size_t len) {
         c->counts.full_points++;
         segments[c->open].fulls++;
     } else {
-        must_be("point", HINDCORE_DONE, code);
+        must("a point", code == HINDCORE_DONE || code == HINDCORE_DRY);
+        is_done = 1;
         c->counts.points++;
         unsigned before = page_count;
         size_t most = life.size - 34, from = 0;
@@ -868,7 +869,8 @@ static uint32_t write_point(client *c, uint64_t moment, size_t len) {
     for (unsigned k = 0; k < nulls; k++) pages[page_count - 1 - k].is_null = 1;
     if (nulls) segments[c->open].nulls += nulls;
     if (life.is_roomy) must_be("null pages where there is room", 0, nulls);
-    return code;
+    if (is_done) must_be("point, which is dry where a page of it is null", nulls ? HINDCORE_DRY : HINDCORE_DONE, code);
+    return is_done ? HINDCORE_DONE : code;
 }
 
 static void do_point(client *c) {

@@ -11,13 +11,14 @@ ghost use Rattle.hs_node_client.specs.Counting.{with_point, with_crumb_called, w
 ghost use Rattle.hs_node_client.specs.Lives.{HasHalf, Lives, LivesByBegin, LivesOn};
 ghost use Rattle.hs_node_client.specs.Notes.{PutsOn};
 ghost use Rattle.hs_node_client.specs.Paging.{place_in};
+ghost use Rattle.hs_node_client.specs.Pointing.{called_of, DriesBy};
 ghost use Rattle.hs_live.specs.Live.{Sends};
 ghost use Rattle.hs_node_client.specs.declared.called.Called.TheVariants.{Done, Full, Unknown};
 ghost use Rattle.hs_node_client.specs.declared.segment.SegmentState.TheVariants.{Opened, Refused, Led};
-ghost use Rattle.hs_c.specs.Calls.{IsIdle, Calls, DoesClient, Flushes, Counts};
+ghost use Rattle.hs_c.specs.Calls.{IsIdle, Calls, Points, DoesClient, Flushes, Counts};
 ghost use Rattle.hs_c.specs.Traces.{trace_in, trigger_in};
 
-use crate::codes::{DONE, UNFIT, VACANT, code_of};
+use crate::codes::{DONE, UNFIT, VACANT, code_of, code_of_point};
 use crate::handles::{HindClient, HindCounts, HindTrace};
 use crate::loose::Loose;
 use crate::slots::ClientSlot;
@@ -57,7 +58,7 @@ pub extern "C" fn hindcore_begin(alloc: Global, client: &mut HindClient, trace: 
     code_of(called)
 }
 
-/// Records a payload at a moment.
+/// Records a payload at a moment. It is DRY where it was done and a draw of it found the pool empty.
 #[unsafe(no_mangle)]
 pub extern "C" fn hindcore_point(
     alloc: Global,
@@ -66,12 +67,13 @@ pub extern "C" fn hindcore_point(
     payload: &[u8],
 ) -> u32
     ensures idle { IsIdle client.old result client.new }
-    ensures answer { Calls (λ old called new. PointsBy old.live (length payload.now) called new.live) client.old result client.new }
-    ensures does { Calls (λ old called new. Lives (Point moment payload.now) called old.live new.live) client.old result client.new }
-    ensures refused { Calls (λ old called new. (called ≡ Done → ⊥) → PutsThrough old.live new.live) client.old result client.new }
-    ensures keeps { Calls (λ old called new. KeepsEnds old.live new.live) client.old result client.new }
-    ensures counts { Calls (λ old called new. new.tally ≡ with_point called old.tally) client.old result client.new }
-    ensures only { Calls (λ old called new. new ≡ record old { live = new.live; tally = new.tally }) client.old result client.new }
+    ensures answer { Points (λ old pointed new. PointsBy old.live (length payload.now) (called_of pointed) new.live) client.old result client.new }
+    ensures dry { Points (λ old pointed new. DriesBy pointed old.live.core new.live.core) client.old result client.new }
+    ensures does { Points (λ old pointed new. Lives (Point moment payload.now) (called_of pointed) old.live new.live) client.old result client.new }
+    ensures refused { Points (λ old pointed new. (called_of pointed ≡ Done → ⊥) → PutsThrough old.live new.live) client.old result client.new }
+    ensures keeps { Points (λ old pointed new. KeepsEnds old.live new.live) client.old result client.new }
+    ensures counts { Points (λ old pointed new. new.tally ≡ with_point (called_of pointed) old.tally) client.old result client.new }
+    ensures only { Points (λ old pointed new. new ≡ record old { live = new.live; tally = new.tally }) client.old result client.new }
 {
     if client.live != 1 {
         return VACANT;
@@ -79,9 +81,9 @@ pub extern "C" fn hindcore_point(
     let mut cell = replace(&mut client.slot, ClientSlot::vacant())
         .open(alloc)
         .into_box();
-    let called = cell.client.point(moment, payload);
+    let pointed = cell.client.point_told(moment, payload);
     client.slot = ClientSlot::full(Loose::of(cell));
-    code_of(called)
+    code_of_point(pointed)
 }
 
 /// Leaves a crumb: the open trace goes on to this node.

@@ -1,9 +1,9 @@
 //! What calls answer to C.
 
 ghost use Rattle.std.specs.Prelude.{◌≡◌};
-ghost use Rattle.hs_c.specs.Codes.{code_of};
+ghost use Rattle.hs_c.specs.Codes.{code_of, code_of_point};
 
-use hs_node_client::Called;
+use hs_node_client::{Called, Pointed};
 
 /// The call was done.
 pub const DONE: u32 = 0;
@@ -53,6 +53,9 @@ pub const SHORT: u32 = 14;
 /// A message was taken, and waits until what it serves is saved.
 pub const HELD: u32 = 15;
 
+/// A point was done, but the pool was empty when it drew for a page: what goes to that page is lost.
+pub const DRY: u32 = 16;
+
 /// The code of a client's answer.
 pub(crate) fn code_of(called: Called) -> u32
     ensures { result ≡ code_of called }
@@ -65,5 +68,19 @@ pub(crate) fn code_of(called: Called) -> u32
         Called::Full => FULL,
         Called::Unknown => UNKNOWN,
         Called::Spent => SPENT,
+    }
+}
+
+/// The code of a point's answer.
+pub(crate) fn code_of_point(pointed: Pointed) -> u32
+    ensures { result ≡ code_of_point pointed }
+{
+    match pointed {
+        Pointed::Done => DONE,
+        Pointed::Dry => DRY,
+        Pointed::NoTrace => NO_TRACE,
+        Pointed::TooWide => TOO_WIDE,
+        Pointed::Full => FULL,
+        Pointed::Spent => SPENT,
     }
 }

@@ -43,6 +43,7 @@ const (
 	Settings   Error = C.HIND_SETTINGS
 	Refused    Error = C.HIND_REFUSED
 	Closed     Error = C.HIND_CLOSED
+	Dry        Error = C.HIND_DRY
 )
 
 func (e Error) Error() string { return "hindsight: " + C.GoString(C.hind_strerror(C.hind_code(e))) }

@@ -89,6 +89,26 @@ func TestRefusals(t *testing.T) {
 	}
 }
 
+// A header of 24 bytes and two records of 10 beside 10 are a page of 64 bytes: four buffers take eight records. The ninth is left out, and the end is made.
+func TestEmptyPool(t *testing.T) {
+	node, err := Open("nodes 2\nclients 1\nbuffers 4\nsize 64\nthreshold 1\npins 1\ntriggerid 1\n", 1, "go", 7)
+	if err != nil {
+		t.Fatal(err)
+	}
+	_, segment := node.Start(context.Background(), NewTrace())
+	for i := 0; i < 9; i++ {
+		segment.Point([]byte("0123456789"))
+	}
+	segment.End()
+	if node.Lost() != 1 {
+		t.Error(node.Lost(), "calls were lost")
+	}
+	if c, err := node.Counts(); err != nil || c.Points != 9 || c.NullPages != 1 || c.UsedClients != 1 {
+		t.Error(c, err)
+	}
+	node.Close()
+}
+
 func TestMessages(t *testing.T) {
 	node := opened(t)
 	if says, err := node.Pass(); !says || err != nil {

@@ -17,6 +17,7 @@ import time
 
 OK, NOTHING, HELD = 0, 1, 2
 INVALID, NOMEM, BUSY, FORKED, OPEN, NOTRACE, TOOLONG, FULL, MANY, UNDECLARED, SETTINGS, REFUSED, ABI_WRONG, SYSTEM, SPENT, CLOSED = range(-1, -17, -1)
+DRY = -19
 ABI, NO_NODE, GATHERED = 1, 0xFFFF, 32768
 
 _pointer, _size = ctypes.c_void_p, ctypes.c_size_t

@@ -77,6 +77,21 @@ fn refusals() {
 }
 
 #[test]
+fn a_pool_that_is_empty() {
+    // a header of 24 bytes and two records of 10 beside 10 are a page of 64 bytes: four buffers take eight records
+    let node = Node::open("nodes 2\nclients 1\nbuffers 4\nsize 64\nthreshold 1\npins 1\ntriggerid 1\n", 1, "rust", 7).unwrap();
+    let client = node.client().unwrap();
+    let segment = client.begin(TraceId([5; 16])).unwrap();
+    for _ in 0..8 {
+        segment.point(b"0123456789").unwrap();
+    }
+    assert_eq!(segment.point(b"0123456789"), Err(Error::Dry));
+    segment.end().unwrap();
+    assert_eq!(client.counts().unwrap().null_pages, 1);
+    assert_eq!((Error::Dry.code(), Error::Dry.to_string()), (-19, "no buffer was free, so the record is lost".to_string()));
+}
+
+#[test]
 fn clients_are_given_back() {
     let node = node();
     let first = node.client().unwrap();
