@@ -1,5 +1,5 @@
 -- From which pass on the latest life of a node is sure, over any calls of a hub.
-use Rattle.std.proofs.Common.{◌≡◌, ◌≢◌, ℕ, ◌<◌, ◌≤◌, ◌⊎◌, inl, inr, Bool, true, false, not, cond, ◌&&◌, ◌||◌, List, [], ◌∷◌, length, set, get_or, map, position, eqb, nat_le, nat_lt, Option, Some, None, refl, sym, ap, subst, ◌∙◌}
+use Rattle.std.proofs.Common.{◌≡◌, ◌≢◌, ℕ, ◌<◌, ◌≤◌, ◌⊎◌, inl, inr, Bool, true, false, not, cond, ◌&&◌, ◌||◌, List, [], ◌∷◌, length, set, map, position, eqb, nat_le, nat_lt, Option, Some, None, refl, sym, ap, subst, ◌∙◌}
 use Rattle.std.specs.Prelude.{slice_get, slice_set}
 use Rattle.std.specs.Option.{option_map_or}
 use Rattle.std.proofs.lemmas.Bool.{ltb-true, leb-true, eqb-true, eqb-false}
@@ -13,7 +13,6 @@ use Rattle.hs_base.specs.declared.told.Ask.{Ask}
 use Rattle.hs_base.specs.declared.told.Told.{Told}
 use Rattle.hs_base.specs.NodeSets.{nodes_of}
 use Rattle.hs_wire.specs.declared.message.Standing.{Standing}
-use Rattle.hs_groups.specs.declared.answers.Heard.{Heard}
 use Rattle.hs_groups.specs.declared.answers.Heard.TheVariants as hearing
 use Rattle.hs_groups.specs.declared.answers.Taken.TheVariants as of_group
 use Rattle.hs_groups.specs.Following.{answer_of, taken, renewed, sent_to}
@@ -35,7 +34,7 @@ use Rattle.hs_hub.specs.declared.answers.HubLimits.{HubLimits}
 use Rattle.hs_hub.specs.Births.{with_birth, is_sure, are_nodes_sure, is_group_sure, are_sure}
 use Rattle.hs_hub.specs.Hub.{PlainHub, no_hub, room, birth_of, node_of, life_of, after_answer_to_told, after_added, after_noted, after_ask, after_given, goes, after_saved_of, is_sure_of, is_whole_out}
 use Rattle.hs_hub.specs.Life.{Act, Hears, Tells, Reports, Says, Asks, Passes, Gives, LetsGo, Names, after, life}
-use Rattle.hs_hub.specs.SureLives.{latest_at, IsHeard, IsUnheard, IsSureIn, IsOfSureLives}
+use Rattle.hs_hub.specs.SureLives.{latest_at, IsHeard, IsUnheard, IsOfSureLives}
 
 -- ---- a list with one element set
 

@@ -1,6 +1,6 @@
 -- What it means that a trace is called whole, in words of the calls that a hub has had: what is out is the trace's first part, and when its
 -- first message came, each node that a group which claims it reached was in a life that was heard as long before as the age says.
-use Rattle.std.specs.Prelude.{◌≡◌, ◌≤◌, ◌<◌, ◌⊎◌, ℕ, Bool, true, List, [], ◌∷◌, ◌++◌, slice_get, Some}
+use Rattle.std.specs.Prelude.{◌≡◌, ◌≤◌, ◌<◌, ◌⊎◌, ℕ, true, List, ◌∷◌, ◌++◌, slice_get, Some}
 use Rattle.hs_base.specs.declared.ids.TraceId.{TraceId}
 use Rattle.hs_base.specs.NodeSets.{nodes_of}
 use Rattle.hs_groups.specs.declared.followed.Followed.{Followed}
