@@ -5,3 +5,4 @@ pub mod Firsts
 pub mod Slices
 pub mod SureLives
 pub mod Refusals
+pub mod Kept

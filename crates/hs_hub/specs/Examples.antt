@@ -16,13 +16,13 @@ use Rattle.hs_hub.specs.declared.answers.Given.TheVariants.{Complete, Aged, CutS
 use Rattle.hs_hub.specs.declared.answers.Delivered.TheVariants.{Held, Refused, Full}
 use Rattle.hs_hub.specs.Hub.{PlainHub, no_hub, after_hear, answer_to_told, after_told, answer_to_page, after_page, after_standing, answer_to_take, after_take, after_saved, after_pass, why_out, part_out, is_whole_out}
 
-abbrev few : HubLimits
+abbrev pub few : HubLimits
 few = record { nodes = 4; groups = 4; hold = 4; bytes = 100000; standings = 16; messages = 64; wait = 5; tries = 1; age = 1 }
 
-abbrev m : (node number : ℕ) → MessageId
+abbrev pub m : (node number : ℕ) → MessageId
 m node number = record { node = node; epoch = 5; number = number }
 
-abbrev page : List ℕ
+abbrev pub page : List ℕ
 page = 1 ∷ 2 ∷ 3 ∷ []
 
 abbrev whole : Standing

@@ -7,3 +7,4 @@ pub mod Life
 pub mod SureLives
 pub mod RowsOut
 pub mod ByService
+pub mod Kept

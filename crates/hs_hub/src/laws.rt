@@ -9,6 +9,7 @@ ghost use Rattle.hs_hub.specs.Hub.{PlainHub, no_hub, is_whole_out};
 ghost use Rattle.hs_hub.specs.Life.{Act, life, all_deeds};
 ghost use Rattle.hs_hub.specs.RowsOut.{AllBringPages, GivesRows};
 ghost use Rattle.hs_hub.specs.SureLives.{IsOfSureLives};
+ghost use Rattle.hs_hub.specs.Kept.{AreKept};
 
 /// Whatever calls a hub has had: its pages are those that came, less what was given out and saved.
 pub fn pages_come_and_go()
@@ -40,4 +41,10 @@ pub fn whole_is_said_of_sure_lives()
         → (life (no_hub epoch is_fresh limits) acts).receipts.out ≡ Some trace
         → is_whole_out (life (no_hub epoch is_fresh limits) acts) ≡ true
         → IsOfSureLives (no_hub epoch is_fresh limits) acts trace }
+{}
+
+/// Whatever calls a hub has had, each page that it holds came by a message that is kept: it waits for the page's trace, or the trace is out
+/// and was served by it. So a hub that is made anew and hears all that was not acknowledged hears of each of these pages again.
+pub fn held_pages_are_unacknowledged()
+    ensures { (epoch : ℕ) (is_fresh : Bool) (limits : HubLimits) (acts : List Act) → AreKept (life (no_hub epoch is_fresh limits) acts) acts }
 {}
