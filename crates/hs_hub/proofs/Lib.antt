@@ -6,3 +6,4 @@ pub mod Slices
 pub mod SureLives
 pub mod Refusals
 pub mod Kept
+pub mod Named

@@ -42,7 +42,7 @@ pub record AreKept (h : PlainHub) (acts : List Act) : Type 0 where
 
 -- ---- worked examples: a page comes, is given out after a pass, and is saved
 
-abbrev comes : Act
+abbrev pub comes : Act
 comes = Reports (m 0 2) (t 107) (key_at 0 5 0 0 0) page
 
 abbrev after_acts : List Act → PlainHub
@@ -61,7 +61,7 @@ unfolding nodes_of
 it_is_out = (refl, (refl, refl), refl)
 
 -- it is saved: the page is held no more, and its message may be acknowledged
-abbrev until_saved : List Act
+abbrev pub until_saved : List Act
 until_saved = comes ∷ Passes ∷ Gives ∷ LetsGo ∷ []
 
 it_is_saved : (page_in (after_acts until_saved).traces.out (t 107) (key_at 0 5 0 0 0) ≡ None) × ((after_acts until_saved).receipts.served ≡ []) × ((after_acts until_saved).receipts.done ≡ m 0 2 ∷ [])

@@ -8,3 +8,4 @@ pub mod SureLives
 pub mod RowsOut
 pub mod ByService
 pub mod Kept
+pub mod Named

@@ -1,6 +1,6 @@
 //! Laws of a hub. Each is the contract of a function that does nothing.
 
-ghost use Rattle.std.specs.Prelude.{◌≡◌, ℕ, Bool, true, List, Some};
+ghost use Rattle.std.specs.Prelude.{◌≡◌, ℕ, Bool, true, List, [], Some};
 ghost use Rattle.hs_base.specs.declared.ids.TraceId.{TraceId};
 ghost use Rattle.hs_traces.specs.Traces.{part_of};
 ghost use Rattle.hs_traces.specs.History.{HoldsNothing, HearsAll, AreSamePages, after_all, pages_of};
@@ -10,6 +10,7 @@ ghost use Rattle.hs_hub.specs.Life.{Act, life, all_deeds};
 ghost use Rattle.hs_hub.specs.RowsOut.{AllBringPages, GivesRows};
 ghost use Rattle.hs_hub.specs.SureLives.{IsOfSureLives};
 ghost use Rattle.hs_hub.specs.Kept.{AreKept};
+ghost use Rattle.hs_hub.specs.Named.{NoneAgain, AreNotNamed};
 
 /// Whatever calls a hub has had: its pages are those that came, less what was given out and saved.
 pub fn pages_come_and_go()
@@ -47,4 +48,11 @@ pub fn whole_is_said_of_sure_lives()
 /// and was served by it. So a hub that is made anew and hears all that was not acknowledged hears of each of these pages again.
 pub fn held_pages_are_unacknowledged()
     ensures { (epoch : ℕ) (is_fresh : Bool) (limits : HubLimits) (acts : List Act) → AreKept (life (no_hub epoch is_fresh limits) acts) acts }
+{}
+
+/// Where no message comes again that a hub has named, or may name, each message that it keeps is none of these, whatever calls the hub has
+/// had: so the broker still has it.
+pub fn kept_messages_are_not_named()
+    ensures { (epoch : ℕ) (is_fresh : Bool) (limits : HubLimits) (acts : List Act)
+        → NoneAgain (no_hub epoch is_fresh limits) [] acts → AreNotNamed (no_hub epoch is_fresh limits) acts }
 {}

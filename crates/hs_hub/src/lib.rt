@@ -12,7 +12,7 @@ mod ready;
 pub use answers::{Delivered, Given, HubCounts, HubLimits, MakeFault};
 pub use hub::Hub;
 pub use laws::{
-    held_pages_are_unacknowledged, messages_decide_the_part, pages_come_and_go,
+    held_pages_are_unacknowledged, kept_messages_are_not_named, messages_decide_the_part, pages_come_and_go,
     rows_are_of_what_came, whole_is_said_of_sure_lives,
 };
 pub use limits::{
