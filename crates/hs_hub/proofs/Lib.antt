@@ -7,3 +7,4 @@ pub mod SureLives
 pub mod Refusals
 pub mod Kept
 pub mod Named
+pub mod Restart

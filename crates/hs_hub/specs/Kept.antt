@@ -45,7 +45,7 @@ pub record AreKept (h : PlainHub) (acts : List Act) : Type 0 where
 abbrev pub comes : Act
 comes = Reports (m 0 2) (t 107) (key_at 0 5 0 0 0) page
 
-abbrev after_acts : List Act → PlainHub
+abbrev pub after_acts : List Act → PlainHub
 after_acts acts = life (no_hub 3 true few) acts
 
 -- it waits, and its message waits for its trace
@@ -53,7 +53,7 @@ it_waits : (page_in (after_acts (comes ∷ [])).traces.waiting (t 107) (key_at 0
 it_waits = (refl, (0, refl), refl)
 
 -- it is out, its trace was served by its message, and nothing may be acknowledged
-abbrev until_out : List Act
+abbrev pub until_out : List Act
 until_out = comes ∷ Passes ∷ Gives ∷ []
 
 it_is_out : (page_in (after_acts until_out).traces.out (t 107) (key_at 0 5 0 0 0) ≡ Some page) × Served (after_acts until_out).receipts (t 107) (m 0 2) × ((after_acts until_out).receipts.done ≡ [])

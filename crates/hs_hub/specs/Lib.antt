@@ -9,3 +9,4 @@ pub mod RowsOut
 pub mod ByService
 pub mod Kept
 pub mod Named
+pub mod Restart

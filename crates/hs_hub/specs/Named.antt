@@ -1,6 +1,6 @@
 -- Which messages a hub has named, so that they may be acknowledged. A message that is kept is none of them, where no message comes again
 -- that may be acknowledged already. So what is kept is what the broker still has.
-use Rattle.std.specs.Prelude.{◌≡◌, Bool, true, false, List, [], ◌∷◌, ◌++◌, take, Option, Some, None, refl}
+use Rattle.std.specs.Prelude.{◌≡◌, true, false, List, [], ◌∷◌, ◌++◌, take, Option, Some, None, refl}
 use Rattle.std.specs.List.{list_any}
 use Rattle.std.specs.Option.{IfSome}
 use Rattle.hs_base.specs.NodeSets.{nodes_of}

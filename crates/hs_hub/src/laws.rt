@@ -11,6 +11,7 @@ ghost use Rattle.hs_hub.specs.RowsOut.{AllBringPages, GivesRows};
 ghost use Rattle.hs_hub.specs.SureLives.{IsOfSureLives};
 ghost use Rattle.hs_hub.specs.Kept.{AreKept};
 ghost use Rattle.hs_hub.specs.Named.{NoneAgain, AreNotNamed};
+ghost use Rattle.hs_hub.specs.Restart.{HearsAgain, HoldsAgain};
 
 /// Whatever calls a hub has had: its pages are those that came, less what was given out and saved.
 pub fn pages_come_and_go()
@@ -55,4 +56,12 @@ pub fn held_pages_are_unacknowledged()
 pub fn kept_messages_are_not_named()
     ensures { (epoch : ℕ) (is_fresh : Bool) (limits : HubLimits) (acts : List Act)
         → NoneAgain (no_hub epoch is_fresh limits) [] acts → AreNotNamed (no_hub epoch is_fresh limits) acts }
+{}
+
+/// Whatever calls a hub has had: another one that hears again what the first keeps of a trace holds each page of it that the first held, with
+/// the same bytes, be it waiting or out there. That holds while the trace is not given out and none of its pages is too much.
+pub fn held_pages_come_again()
+    ensures { (epoch : ℕ) (is_fresh : Bool) (limits : HubLimits) (acts : List Act) (trace : TraceId) (new : PlainHub) (others : List Act)
+        → HearsAgain trace (life (no_hub epoch is_fresh limits) acts) acts new others
+        → HoldsAgain trace (life (no_hub epoch is_fresh limits) acts) (life new others) }
 {}

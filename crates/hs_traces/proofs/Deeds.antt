@@ -10,11 +10,11 @@ use Rattle.hs_traces.specs.declared.answers.Added.TheVariants.{Added, Repeated, 
 use Rattle.hs_traces.specs.declared.answers.Offered.{Offered}
 use Rattle.hs_traces.specs.declared.answers.Offered.TheVariants.{Given, Unknown, Unsaved, Busy}
 use Rattle.hs_traces.specs.declared.key.PageKey.{PageKey}
-use Rattle.hs_traces.specs.Parts.{Pages, has_key, with_page}
+use Rattle.hs_traces.specs.Parts.{Pages, has_key, page_with, with_page}
 use Rattle.hs_traces.specs.Traces.{Parts, PlainTraces, part_of, has_page, has_page_in, is_full, answer_to, with_page_in, with_page_of, answer_of_offer}
-use Rattle.hs_traces.specs.History.{Coming, Deed, Comes, Offers, Saves, after_answer, after_offer, after, after_all, pages_of, HoldsNothing, HearsAll, AreSamePages}
+use Rattle.hs_traces.specs.History.{Coming, Deed, Comes, Offers, Saves, after_answer, after_offer, after, after_all, pages_of, HoldsNothing, HearsAll, Brings, AreSamePages}
 use Rattle.hs_traces.proofs.Order.{same_trace-true, same_trace-refl, same_trace_laws}
-use Rattle.hs_traces.proofs.Parting.{joined, all_joined, wrapped, wrapped-new, unwrapped, one_part}
+use Rattle.hs_traces.proofs.Parting.{joined, all_joined, wrapped, wrapped-new, unwrapped, brought_stand, one_part}
 
 -- ---- another trace's part changes
 
@@ -166,3 +166,14 @@ pages_decide trace one other deeds others holds holds' heard heard' same =
     (all_follow trace one [] deeds (from_nothing trace one holds) heard).waiting
     ∙ ap wrapped (one_part (pages_of trace deeds) (pages_of trace others) same)
     ∙ sym (all_follow trace other [] others (from_nothing trace other holds') heard').waiting
+
+-- each page that comes of the trace waits with its bytes, where its key says which these are
+pub what_comes_waits : (trace : TraceId) (s : PlainTraces) (deeds : List Deed) → HoldsNothing trace s → HearsAll trace s deeds → (key : PageKey) (bytes : List ℕ)
+    → Brings (pages_of trace deeds) key bytes → ((other : List ℕ) → Brings (pages_of trace deeds) key other → other ≡ bytes) → page_with (unwrap_or (part_of (after_all s deeds).waiting trace) []) key ≡ Some bytes
+what_comes_waits trace s deeds holds heard key bytes brought alike =
+    let stand = brought_stand (pages_of trace deeds) in
+    let found = stand.all key bytes brought in
+    ap (λ (o : Option Pages). page_with (unwrap_or o []) key) (all_follow trace s [] deeds (from_nothing trace s holds) heard).waiting
+    ∙ ap (λ (pages : Pages). page_with pages key) (unwrapped (all_joined [] (pages_of trace deeds)))
+    ∙ found.1
+    ∙ ap Some (alike found.0 (stand.only key found.0 found.1))
