@@ -78,10 +78,10 @@ insert_found q key bytes new (x ∷ pages) e = at (key_cmp key x.0) refl e (inse
     at Equal is e rest = instead (same_key q x.0) (key_exact key x.0 is) refl e
     at Greater is e rest = later (same_key q x.0) e rest
 
-is_one : (trace x y : TraceId) → same_trace trace x ≡ true → same_trace trace y ≡ same_trace x y
+pub is_one : (trace x y : TraceId) → same_trace trace x ≡ true → same_trace trace y ≡ same_trace x y
 is_one trace x y here = ap (λ (z : TraceId). same_trace z y) (same_trace-true trace x here)
 
-joined_part : (parts : Parts) (trace other : TraceId) (key : PageKey) (bytes : List ℕ) (o : Option Pages) → part_of parts trace ≡ o
+pub joined_part : (parts : Parts) (trace other : TraceId) (key : PageKey) (bytes : List ℕ) (o : Option Pages) → part_of parts trace ≡ o
     → part_of (with_page_in parts trace key bytes o) other ≡ cond (same_trace trace other) (Some (with_page (unwrap_or o []) key bytes)) (part_of parts other)
 joined_part parts trace other key bytes None is = ap (λ b. cond b (Some ((key, bytes) ∷ [])) (part_of parts other)) (same_trace_laws.symm other trace)
 joined_part parts trace other key bytes (Some pages) is =
@@ -104,7 +104,7 @@ joined_found parts trace other key q new bytes e =
 
 -- ---- each trace has one part
 
-abbrev AreApart : Parts → Type 0
+abbrev pub AreApart : Parts → Type 0
 AreApart parts = IsDistinct same_trace (keys_of parts)
 
 joined_apart : (parts : Parts) (trace : TraceId) (key : PageKey) (bytes : List ℕ) (o : Option Pages) → part_of parts trace ≡ o → AreApart parts → AreApart (with_page_in parts trace key bytes o)
@@ -144,35 +144,35 @@ removed_found parts trace other q bytes apart e =
 any_first : {X : Type 0} (test : X → Bool) (xs ys : List X) → list_any test xs ≡ true → list_any test (xs ++ ys) ≡ true
 any_first test xs ys e = list_any-append test xs ys ∙ or_left (list_any test xs) (list_any test ys) e
 
-any_second : {X : Type 0} (test : X → Bool) (xs ys : List X) → list_any test ys ≡ true → list_any test (xs ++ ys) ≡ true
+pub any_second : {X : Type 0} (test : X → Bool) (xs ys : List X) → list_any test ys ≡ true → list_any test (xs ++ ys) ≡ true
 any_second test xs ys e = list_any-append test xs ys ∙ or_right (list_any test xs) (list_any test ys) e
 
 -- messages came, and none went
-record More (r then : PlainReceipts) : Type 0 where
-  out : then.out ≡ r.out
-  waiting : (test : Waiting → Bool) → list_any test r.waiting ≡ true → list_any test then.waiting ≡ true
-  served : (test : MessageId → Bool) → list_any test r.served ≡ true → list_any test then.served ≡ true
+pub record More (r then : PlainReceipts) : Type 0 where
+  pub out : then.out ≡ r.out
+  pub waiting : (test : Waiting → Bool) → list_any test r.waiting ≡ true → list_any test then.waiting ≡ true
+  pub served : (test : MessageId → Bool) → list_any test r.served ≡ true → list_any test then.served ≡ true
 
-no_more : (r : PlainReceipts) → More r r
+pub no_more : (r : PlainReceipts) → More r r
 no_more r = record { out = refl; waiting = λ test e. e; served = λ test e. e }
 
 more_again : (a b c : PlainReceipts) → More a b → More b c → More a c
 more_again a b c one other = record { out = other.out ∙ one.out; waiting = λ test e. other.waiting test (one.waiting test e); served = λ test e. other.served test (one.served test e) }
 
-more_if : (b : Bool) (r then : PlainReceipts) → More r then → More r (cond b r then)
+pub more_if : (b : Bool) (r then : PlainReceipts) → More r then → More r (cond b r then)
 more_if true r then more = no_more r
 more_if false r then more = more
 
-waits_more : (r : PlainReceipts) (waits : Waiting) → More r (after_wait r waits)
+pub waits_more : (r : PlainReceipts) (waits : Waiting) → More r (after_wait r waits)
 waits_more r waits =
     more_if (nat_le r.most (kept r)) r (record r { waiting = r.waiting ++ waits ∷ [] }) (record { out = refl; waiting = λ test e. any_first test r.waiting (waits ∷ []) e; served = λ test e. e })
 
-joins_more : (r : PlainReceipts) (message : MessageId) → More r (after_join r message)
+pub joins_more : (r : PlainReceipts) (message : MessageId) → More r (after_join r message)
 joins_more r message =
     more_if (is_none r.out || nat_le r.most (kept r)) r (record r { served = r.served ++ message ∷ [] })
     (record { out = refl; waiting = λ test e. e; served = λ test e. any_first test r.served (message ∷ []) e })
 
-noted_more : (now : ℕ) (message : MessageId) (r : PlainReceipts) (trace : TraceId) → More r (noted now message r trace)
+pub noted_more : (now : ℕ) (message : MessageId) (r : PlainReceipts) (trace : TraceId) → More r (noted now message r trace)
 noted_more now message r trace = more_if (is_noted r trace message) r (after_wait r (waits_at now message trace)) (waits_more r (waits_at now message trace))
 
 each_noted_more : (now : ℕ) (message : MessageId) (r : PlainReceipts) (ts : List TraceId) → More r (fold (noted now message) r ts)
@@ -180,27 +180,27 @@ each_noted_more now message r [] = no_more r
 each_noted_more now message r (trace ∷ ts) =
     more_again r (noted now message r trace) (fold (noted now message) (noted now message r trace) ts) (noted_more now message r trace) (each_noted_more now message (noted now message r trace) ts)
 
-all_noted_more : (now : ℕ) (message : MessageId) (r : PlainReceipts) (told : Told) → More r (all_noted now message r told)
+pub all_noted_more : (now : ℕ) (message : MessageId) (r : PlainReceipts) (told : Told) → More r (all_noted now message r told)
 all_noted_more now message r told = more_if (is_known r message) r (fold (noted now message) (noted now message r told.group.lead) told.laterals) (each_noted_more now message r (told.group.lead ∷ told.laterals))
 
 -- ---- what holds of pages and messages over all calls
 
-abbrev IsShelf : Option TraceId → Parts → Type 0
+abbrev pub IsShelf : Option TraceId → Parts → Type 0
 IsShelf None parts = parts ≡ []
 IsShelf (Some trace) parts = (parts ≡ []) ⊎ ((pages : Pages) × (parts ≡ (trace, pages) ∷ []))
 
-abbrev ByWaiting : List Act → PlainReceipts → TraceId → PageKey → List ℕ → Type 0
+abbrev pub ByWaiting : List Act → PlainReceipts → TraceId → PageKey → List ℕ → Type 0
 ByWaiting acts r trace key bytes = (message : MessageId) × IsReportedIn acts message trace key bytes × Waits r trace message
 
-abbrev ByServed : List Act → PlainReceipts → TraceId → PageKey → List ℕ → Type 0
+abbrev pub ByServed : List Act → PlainReceipts → TraceId → PageKey → List ℕ → Type 0
 ByServed acts r trace key bytes = (message : MessageId) × IsReportedIn acts message trace key bytes × Served r trace message
 
-record Keeps (acts : List Act) (s : PlainTraces) (r : PlainReceipts) : Type 0 where
-  outs : s.limits.outs ≡ 1
-  apart : AreApart s.waiting
-  shelf : IsShelf r.out s.out
-  waiting : (trace : TraceId) (key : PageKey) (bytes : List ℕ) → page_in s.waiting trace key ≡ Some bytes → ByWaiting acts r trace key bytes
-  out : (trace : TraceId) (key : PageKey) (bytes : List ℕ) → page_in s.out trace key ≡ Some bytes → ByServed acts r trace key bytes
+pub record Keeps (acts : List Act) (s : PlainTraces) (r : PlainReceipts) : Type 0 where
+  pub outs : s.limits.outs ≡ 1
+  pub apart : AreApart s.waiting
+  pub shelf : IsShelf r.out s.out
+  pub waiting : (trace : TraceId) (key : PageKey) (bytes : List ℕ) → page_in s.waiting trace key ≡ Some bytes → ByWaiting acts r trace key bytes
+  pub out : (trace : TraceId) (key : PageKey) (bytes : List ℕ) → page_in s.out trace key ≡ Some bytes → ByServed acts r trace key bytes
 
 waiting_more : (acts : List Act) (r then : PlainReceipts) (trace : TraceId) (key : PageKey) (bytes : List ℕ) → More r then → ByWaiting acts r trace key bytes → ByWaiting acts then trace key bytes
 waiting_more acts r then trace key bytes more (message, reported, waits) = (message, reported, more.waiting (waits_for trace message) waits)
@@ -219,7 +219,7 @@ keeps_more acts s r then more keeps = record {
 
 -- ---- a page comes
 
-waits_itself : (r : PlainReceipts) (now : ℕ) (message : MessageId) (trace : TraceId) → nat_le r.most (kept r) ≡ false → Waits (after_wait r (waits_at now message trace)) trace message
+pub waits_itself : (r : PlainReceipts) (now : ℕ) (message : MessageId) (trace : TraceId) → nat_le r.most (kept r) ≡ false → Waits (after_wait r (waits_at now message trace)) trace message
 waits_itself r now message trace room =
     ap (λ b. list_any (waits_for trace message) (cond b r (record r { waiting = r.waiting ++ waits_at now message trace ∷ [] })).waiting) room
     ∙ any_second (waits_for trace message) r.waiting (waits_at now message trace ∷ []) (or_left (waits_for trace message (waits_at now message trace)) false itself)
@@ -259,7 +259,7 @@ page_added acts s r now message trace key bytes reported room keeps = record {
 -- ---- a trace is given out
 
 -- the messages that wait for a trace are those that it is served by
-for_any : (trace : TraceId) (message : MessageId) (waiting : List Waiting) → list_any (waits_for trace message) waiting ≡ true → list_any (is_message message) (messages_for trace waiting) ≡ true
+pub for_any : (trace : TraceId) (message : MessageId) (waiting : List Waiting) → list_any (waits_for trace message) waiting ≡ true → list_any (is_message message) (messages_for trace waiting) ≡ true
 for_any trace message [] e = e
 for_any trace message (w ∷ ws) e = at (is_for trace w) e (for_any trace message ws)
   where
@@ -274,7 +274,7 @@ for_any trace message (w ∷ ws) e = at (is_for trace w) e (for_any trace messag
     at false e rest = rest e
 
 -- a message that waits for another trace waits still
-still_waits : (trace other : TraceId) (message : MessageId) (waiting : List Waiting) → same_trace trace other ≡ false → list_any (waits_for other message) waiting ≡ true
+pub still_waits : (trace other : TraceId) (message : MessageId) (waiting : List Waiting) → same_trace trace other ≡ false → list_any (waits_for other message) waiting ≡ true
     → list_any (waits_for other message) (filter (λ (waits : Waiting). not (is_for trace waits)) waiting) ≡ true
 still_waits trace other message waiting apart e = any-filter_same (waits_for other message) (λ (waits : Waiting). not (is_for trace waits)) true passes waiting ∙ e
   where
@@ -284,7 +284,7 @@ still_waits trace other message waiting apart e = any-filter_same (waits_for oth
         not_from_false (is_for trace w) (sym (ap (λ (x : TraceId). same_trace trace x) same) ∙ apart)
 
 -- the receipts where a trace is out, and none was
-abbrev given_out : PlainReceipts → TraceId → PlainReceipts
+abbrev pub given_out : PlainReceipts → TraceId → PlainReceipts
 given_out r trace = record r { waiting = filter (λ (waits : Waiting). not (is_for trace waits)) r.waiting; out = Some trace; served = r.served ++ messages_for trace r.waiting }
 
 -- what waited of the trace is out, or nothing did
@@ -334,15 +334,17 @@ nothing_given acts s r trace none waits_not keeps = record {
         absurd (no_page (part_of s.waiting trace) q b waits_not (subst (λ (x : TraceId). page_in s.waiting x q ≡ Some b) (sym (same_trace-true trace other y)) e))
     at other q b false n e (message, reported, here) = (message, reported, still_waits trace other message r.waiting n here)
 
-gives_one : (acts : List Act) (s : PlainTraces) (r : PlainReceipts) (trace : TraceId) → s.out ≡ [] → Keeps acts s r → Keeps acts (given s trace) (given_out r trace)
-gives_one acts s r trace none keeps =
-    subst (λ (b : Bool). Keeps acts (cond b s (offered s trace)) (given_out r trace)) (sym test) (at (traces.is_waiting s trace) refl)
+pub given_is : (s : PlainTraces) (trace : TraceId) → s.out ≡ [] → s.limits.outs ≡ 1 → given s trace ≡ cond (not (traces.is_waiting s trace)) s (offered s trace)
+given_is s trace none outs = ap (λ (b : Bool). cond b s (offered s trace)) test
   where
     test : (traces.is_out s trace || (nat_le s.limits.outs (length s.out) || not (traces.is_waiting s trace))) ≡ not (traces.is_waiting s trace)
     test =
         ap (λ (parts : Parts). is_some (part_of parts trace) || (nat_le s.limits.outs (length parts) || not (traces.is_waiting s trace))) none
-        ∙ ap (λ (n : ℕ). nat_le n 0 || not (traces.is_waiting s trace)) keeps.outs
+        ∙ ap (λ (n : ℕ). nat_le n 0 || not (traces.is_waiting s trace)) outs
 
+gives_one : (acts : List Act) (s : PlainTraces) (r : PlainReceipts) (trace : TraceId) → s.out ≡ [] → Keeps acts s r → Keeps acts (given s trace) (given_out r trace)
+gives_one acts s r trace none keeps = subst (λ (after : PlainTraces). Keeps acts after (given_out r trace)) (sym (given_is s trace none keeps.outs)) (at (traces.is_waiting s trace) refl)
+  where
     at : (b : Bool) → traces.is_waiting s trace ≡ b → Keeps acts (cond (not b) s (offered s trace)) (given_out r trace)
     at true is = part_given acts s r trace none keeps
     at false is = nothing_given acts s r trace none is keeps
@@ -368,7 +370,7 @@ emptied trace parts (inr (pages, one)) =
 
 -- ---- one call
 
-abbrev Holds : List Act → PlainHub → Type 0
+abbrev pub Holds : List Act → PlainHub → Type 0
 Holds acts h = Keeps acts h.traces h.receipts
 
 holds_if : (acts : List Act) (b : Bool) (h new : PlainHub) → Holds acts h → (b ≡ false → Holds acts new) → Holds acts (cond b h new)
@@ -380,7 +382,7 @@ tells acts h message told (of_group.Taken heard) holds = keeps_more acts h.trace
 tells acts h message told of_group.Refused holds = holds
 tells acts h message told of_group.Full holds = holds
 
-repeats_more : (h : PlainHub) (message : MessageId) (trace : TraceId) (key : PageKey) → More h.receipts (repeated h message trace key)
+pub repeats_more : (h : PlainHub) (message : MessageId) (trace : TraceId) (key : PageKey) → More h.receipts (repeated h message trace key)
 repeats_more h message trace key =
     more_if (is_noted h.receipts trace message) h.receipts (cond (traces.has_page_in h.traces.out trace key) (after_join h.receipts message) (after_wait h.receipts (waits_at h.passes message trace)))
     (either (traces.has_page_in h.traces.out trace key))
@@ -389,7 +391,7 @@ repeats_more h message trace key =
     either true = joins_more h.receipts message
     either false = waits_more h.receipts (waits_at h.passes message trace)
 
-has_room : (most kept : ℕ) → eqb (most - kept) 0 ≡ false → nat_le most kept ≡ false
+pub has_room : (most kept : ℕ) → eqb (most - kept) 0 ≡ false → nat_le most kept ≡ false
 has_room most kept e = lt-leb most kept (within (eqb-false (most - kept) 0 e))
   where
     within : (most - kept ≡ 0 → ⊥) → kept < most
@@ -433,7 +435,7 @@ lets_go acts h (Some trace) is holds =
     gone acts h.traces h.receipts (remove_entry (same_trace trace) h.traces.out) (receipts.after_saved h.receipts).done
     (emptied trace h.traces.out (subst (λ (o : Option TraceId). IsShelf o h.traces.out) is holds.shelf)) holds
 
-one_call : (acts : List Act) (h : PlainHub) (act : Act) (place : ℕ) → slice_get acts place ≡ Some act → Holds acts h → Holds acts (after h act)
+pub one_call : (acts : List Act) (h : PlainHub) (act : Act) (place : ℕ) → slice_get acts place ≡ Some act → Holds acts h → Holds acts (after h act)
 one_call acts h (Hears node epoch) place there holds = holds
 one_call acts h (Tells message told) place there holds =
     let answer = groups.answer_to h.groups (node_of message) message.epoch told in
@@ -457,24 +459,26 @@ one_call acts h Names place there holds =
 -- ---- all calls
 
 -- these calls are among all of them
-abbrev AreAmong : List Act → List Act → Type 0
+abbrev pub AreAmong : List Act → List Act → Type 0
 AreAmong some all = (place : ℕ) (act : Act) → slice_get some place ≡ Some act → (there : ℕ) × (slice_get all there ≡ Some act)
 
-all_calls : (all : List Act) (h : PlainHub) (acts : List Act) → AreAmong acts all → Holds all h → Holds all (life h acts)
+pub all_calls : (all : List Act) (h : PlainHub) (acts : List Act) → AreAmong acts all → Holds all h → Holds all (life h acts)
 all_calls all h [] among holds = holds
 all_calls all h (act ∷ acts) among holds =
     let first = among 0 act refl in
     all_calls all (after h act) acts (λ place other e. among (suc place) other e) (one_call all h act first.0 first.1 holds)
 
-pub are_kept : (epoch : ℕ) (is_fresh : Bool) (limits : HubLimits) (acts : List Act) → AreKept (life (no_hub epoch is_fresh limits) acts) acts
+pub at_start : (acts : List Act) (epoch : ℕ) (is_fresh : Bool) (limits : HubLimits) → Holds acts (no_hub epoch is_fresh limits)
 unfolding IsDistinct
+at_start acts epoch is_fresh limits = record {
+  outs = refl;
+  apart = tt;
+  shelf = refl;
+  waiting = λ trace key bytes e. let never : None ≡ Some bytes = e in absurd cc;
+  out = λ trace key bytes e. let never : None ≡ Some bytes = e in absurd cc;
+}
+
+pub are_kept : (epoch : ℕ) (is_fresh : Bool) (limits : HubLimits) (acts : List Act) → AreKept (life (no_hub epoch is_fresh limits) acts) acts
 are_kept epoch is_fresh limits acts =
-    let start : Holds acts (no_hub epoch is_fresh limits) = record {
-      outs = refl;
-      apart = tt;
-      shelf = refl;
-      waiting = λ trace key bytes e. let never : None ≡ Some bytes = e in absurd cc;
-      out = λ trace key bytes e. let never : None ≡ Some bytes = e in absurd cc;
-    } in
-    let holds = all_calls acts (no_hub epoch is_fresh limits) acts (λ place act e. (place, e)) start in
+    let holds = all_calls acts (no_hub epoch is_fresh limits) acts (λ place act e. (place, e)) (at_start acts epoch is_fresh limits) in
     record { waiting = holds.waiting; out = holds.out }

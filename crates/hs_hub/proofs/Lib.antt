@@ -8,3 +8,4 @@ pub mod Refusals
 pub mod Kept
 pub mod Named
 pub mod Restart
+pub mod Fate

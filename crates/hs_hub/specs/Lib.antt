@@ -10,3 +10,4 @@ pub mod ByService
 pub mod Kept
 pub mod Named
 pub mod Restart
+pub mod Fate

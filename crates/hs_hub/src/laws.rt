@@ -1,17 +1,21 @@
 //! Laws of a hub. Each is the contract of a function that does nothing.
 
-ghost use Rattle.std.specs.Prelude.{◌≡◌, ℕ, Bool, true, List, [], Some};
+ghost use Rattle.std.specs.Prelude.{◌≡◌, ◌⊎◌, ℕ, Bool, true, List, [], Some};
 ghost use Rattle.hs_base.specs.declared.ids.TraceId.{TraceId};
 ghost use Rattle.hs_traces.specs.Traces.{part_of};
 ghost use Rattle.hs_traces.specs.History.{HoldsNothing, HearsAll, AreSamePages, after_all, pages_of};
 ghost use Rattle.hs_hub.specs.declared.answers.HubLimits.{HubLimits};
-ghost use Rattle.hs_hub.specs.Hub.{PlainHub, no_hub, is_whole_out};
+ghost use Rattle.hs_hub.specs.Hub.{PlainHub, no_hub, answer_to_page, after_page, is_whole_out};
 ghost use Rattle.hs_hub.specs.Life.{Act, life, all_deeds};
 ghost use Rattle.hs_hub.specs.RowsOut.{AllBringPages, GivesRows};
 ghost use Rattle.hs_hub.specs.SureLives.{IsOfSureLives};
 ghost use Rattle.hs_hub.specs.Kept.{AreKept};
 ghost use Rattle.hs_hub.specs.Named.{NoneAgain, AreNotNamed};
 ghost use Rattle.hs_hub.specs.Restart.{HearsAgain, HoldsAgain};
+ghost use Rattle.hs_hub.specs.Fate.{SayThis, IsHeldBy, WasSaved};
+ghost use Rattle.hs_hub.specs.declared.answers.Delivered.TheVariants.{Held};
+ghost use Rattle.hs_receipts.specs.declared.answers.MessageId.{MessageId};
+ghost use Rattle.hs_traces.specs.declared.key.PageKey.{PageKey};
 
 /// Whatever calls a hub has had: its pages are those that came, less what was given out and saved.
 pub fn pages_come_and_go()
@@ -64,4 +68,15 @@ pub fn held_pages_come_again()
     ensures { (epoch : ℕ) (is_fresh : Bool) (limits : HubLimits) (acts : List Act) (trace : TraceId) (new : PlainHub) (others : List Act)
         → HearsAgain trace (life (no_hub epoch is_fresh limits) acts) acts new others
         → HoldsAgain trace (life (no_hub epoch is_fresh limits) acts) (life new others) }
+{}
+
+/// Whatever calls a hub has had before and has later: a page of which it said that it holds it is held, and the message that brought it is
+/// kept for it, or the page was saved. That holds where the message said nothing else before. So a message that is kept no more, and may be
+/// acknowledged, brought nothing that was not saved.
+pub fn held_pages_stay_until_they_are_saved()
+    ensures { (epoch : ℕ) (is_fresh : Bool) (limits : HubLimits) (before later : List Act) (message : MessageId) (trace : TraceId) (key : PageKey) (bytes : List ℕ)
+        → SayThis message trace key before
+        → answer_to_page (life (no_hub epoch is_fresh limits) before) message trace key bytes ≡ Held
+        → IsHeldBy (life (after_page (life (no_hub epoch is_fresh limits) before) message trace key bytes) later) message trace key
+        ⊎ WasSaved (after_page (life (no_hub epoch is_fresh limits) before) message trace key bytes) later trace key }
 {}
