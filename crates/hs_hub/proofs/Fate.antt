@@ -148,15 +148,15 @@ any_all {X} {Q} test P step (x ∷ xs) all e = at (test x) refl e (any_all test 
 -- ---- a message that says this page alone is kept for it alone
 
 module _ (message : MessageId) (trace : TraceId) (key : PageKey) where
-  abbrev TiedWaiting : PlainTraces → Waiting → Type 0
+  abbrev pub TiedWaiting : PlainTraces → Waiting → Type 0
   TiedWaiting s waits = is_message message waits.message ≡ true → (same_trace trace waits.trace ≡ true) × (has_page_in s.waiting trace key ≡ true)
 
-  abbrev TiedServed : PlainTraces → Option TraceId → MessageId → Type 0
+  abbrev pub TiedServed : PlainTraces → Option TraceId → MessageId → Type 0
   TiedServed s out x = is_message message x ≡ true → (out ≡ Some trace) × (has_page_in s.out trace key ≡ true)
 
-  record IsTied (s : PlainTraces) (r : PlainReceipts) : Type 0 where
-    waiting : AllByRecursion (TiedWaiting s) r.waiting
-    served : AllByRecursion (TiedServed s r.out) r.served
+  pub record IsTied (s : PlainTraces) (r : PlainReceipts) : Type 0 where
+    pub waiting : AllByRecursion (TiedWaiting s) r.waiting
+    pub served : AllByRecursion (TiedServed s r.out) r.served
 
   tied_if : (s : PlainTraces) (b : Bool) (r then : PlainReceipts) → IsTied s r → IsTied s then → IsTied s (cond b r then)
   tied_if s true r then tied more = tied
@@ -185,14 +185,14 @@ module _ (message : MessageId) (trace : TraceId) (key : PageKey) where
 
   -- ---- what holds of the page
 
-  abbrev Kept' : PlainTraces → PlainReceipts → Type 0
-  Kept' s r = ((has_page_in s.waiting trace key ≡ true) × Waits r trace message) ⊎ ((has_page_in s.out trace key ≡ true) × Served r trace message)
+  abbrev pub IsWith : PlainTraces → PlainReceipts → Type 0
+  IsWith s r = ((has_page_in s.waiting trace key ≡ true) × Waits r trace message) ⊎ ((has_page_in s.out trace key ≡ true) × Served r trace message)
 
-  kept_more : (s : PlainTraces) (r then : PlainReceipts) → More r then → Kept' s r → Kept' s then
+  kept_more : (s : PlainTraces) (r then : PlainReceipts) → More r then → IsWith s r → IsWith s then
   kept_more s r then more (inl (page, waits)) = inl (page, more.waiting (waits_for trace message) waits)
   kept_more s r then more (inr (page, served)) = inr (page, (more.out ∙ served.0, more.served (is_message message) served.1))
 
-  kept_grown : (s : PlainTraces) (r : PlainReceipts) (t : TraceId) (k : PageKey) (bytes : List ℕ) → Kept' s r → Kept' (with_page_of s t k bytes) r
+  kept_grown : (s : PlainTraces) (r : PlainReceipts) (t : TraceId) (k : PageKey) (bytes : List ℕ) → IsWith s r → IsWith (with_page_of s t k bytes) r
   kept_grown s r t k bytes (inl (page, waits)) = inl (joined_has s.waiting t trace k key bytes page, waits)
   kept_grown s r t k bytes (inr is) = inr is
 
@@ -284,26 +284,20 @@ module _ (message : MessageId) (trace : TraceId) (key : PageKey) where
           let same : t ≡ trace = same_trace-true t waits.trace for_t ∙ sym (same_trace-true trace waits.trace old.0) in
           (ap Some same, subst (λ (u : TraceId). has_page_in (given s u).out trace key ≡ true) (sym same) (goes_out s trace key none outs old.1))
 
-  kept_given : (s : PlainTraces) (r : PlainReceipts) (t : TraceId) → s.out ≡ [] → s.limits.outs ≡ 1 → AreApart s.waiting → r.out ≡ None → Kept' s r → Kept' (given s t) (given_out r t)
+  kept_given : (s : PlainTraces) (r : PlainReceipts) (t : TraceId) → s.out ≡ [] → s.limits.outs ≡ 1 → AreApart s.waiting → r.out ≡ None → IsWith s r → IsWith (given s t) (given_out r t)
   kept_given s r t none outs apart is_in (inr (page, served)) = let never : None ≡ Some trace = sym is_in ∙ served.0 in absurd cc
   kept_given s r t none outs apart is_in (inl (page, waits)) = by (same_trace t trace) refl
     where
-      at_it : Kept' (given s trace) (given_out r trace)
+      at_it : IsWith (given s trace) (given_out r trace)
       at_it = inr (goes_out s trace key none outs page, (refl, any_second (is_message message) r.served (messages_for trace r.waiting) (for_any trace message r.waiting waits)))
 
-      by : (b : Bool) → same_trace t trace ≡ b → Kept' (given s t) (given_out r t)
-      by true y = subst (λ (u : TraceId). Kept' (given s u) (given_out r u)) (sym (same_trace-true t trace y)) at_it
+      by : (b : Bool) → same_trace t trace ≡ b → IsWith (given s t) (given_out r t)
+      by true y = subst (λ (u : TraceId). IsWith (given s u) (given_out r u)) (sym (same_trace-true t trace y)) at_it
       by false n = inl (stays s t trace key none outs apart n page, still_waits t trace message r.waiting n waits)
 
   -- ---- one call
 
-  record IsGood (h : PlainHub) : Type 0 where
-    outs : h.traces.limits.outs ≡ 1
-    apart : AreApart h.traces.waiting
-    shelf : IsShelf h.receipts.out h.traces.out
-    tied : IsTied h.traces h.receipts
-
-  abbrev Ties : PlainHub → Type 0
+  abbrev pub Ties : PlainHub → Type 0
   Ties h = IsTied h.traces h.receipts
 
   ties_if : (b : Bool) (h new : PlainHub) → Ties h → Ties new → Ties (cond b h new)
@@ -372,10 +366,10 @@ module _ (message : MessageId) (trace : TraceId) (key : PageKey) where
   ties_on all h Names this holds ties = record { waiting = ties.waiting; served = ties.served }
 
   -- the page stays with its message, or is saved by this call
-  abbrev IsIn : PlainHub → Type 0
-  IsIn h = Kept' h.traces h.receipts
+  abbrev pub IsIn : PlainHub → Type 0
+  IsIn h = IsWith h.traces h.receipts
 
-  abbrev IsSavedBy : PlainHub → Act → Type 0
+  abbrev pub IsSavedBy : PlainHub → Act → Type 0
   IsSavedBy h act = (act ≡ LetsGo) × (h.receipts.out ≡ Some trace) × (has_page_in h.traces.out trace key ≡ true)
 
   in_if : (b : Bool) (h new : PlainHub) → IsIn h → IsIn new → IsIn (cond b h new)
@@ -410,10 +404,10 @@ module _ (message : MessageId) (trace : TraceId) (key : PageKey) where
   in_gives h (Some t) go is outs apart shelf within = within
   in_gives h None None is outs apart shelf within = within
   in_gives h None (Some (t, why)) is outs apart shelf within =
-      subst (λ (r : PlainReceipts). Kept' (given h.traces t) r) (sym (now_out h.receipts t is))
+      subst (λ (r : PlainReceipts). IsWith (given h.traces t) r) (sym (now_out h.receipts t is))
       (kept_given h.traces h.receipts t (subst (λ (o : Option TraceId). IsShelf o h.traces.out) is shelf) outs apart is within)
 
-  waits_on : (h : PlainHub) (out : Option TraceId) → (has_page_in h.traces.waiting trace key ≡ true) × Waits h.receipts trace message → IsIn (after_saved_of h out)
+  pub waits_on : (h : PlainHub) (out : Option TraceId) → (has_page_in h.traces.waiting trace key ≡ true) × Waits h.receipts trace message → IsIn (after_saved_of h out)
   waits_on h None is = inl is
   waits_on h (Some t) is = inl is
 
@@ -421,7 +415,7 @@ module _ (message : MessageId) (trace : TraceId) (key : PageKey) where
   in_lets_go h (inl is) = inl (waits_on h h.receipts.out is)
   in_lets_go h (inr (page, served)) = inr (refl, served.0, page)
 
-  in_on : (all : List Act) (h : PlainHub) (act : Act) → Holds all h → IsIn h → IsIn (after h act) ⊎ IsSavedBy h act
+  pub in_on : (all : List Act) (h : PlainHub) (act : Act) → Holds all h → IsIn h → IsIn (after h act) ⊎ IsSavedBy h act
   in_on all h (Hears node epoch) holds is = inl is
   in_on all h (Tells x told) holds is =
       let answer = groups.answer_to h.groups (node_of x) x.epoch told in
@@ -443,9 +437,9 @@ module _ (message : MessageId) (trace : TraceId) (key : PageKey) where
   -- ---- it is held from its report on
 
   abbrev ByAnswer : PlainHub → List ℕ → page_answers.Added → Type 0
-  ByAnswer h bytes a = Kept' (after_added h message trace key bytes a).traces (after_added h message trace key bytes a).receipts
+  ByAnswer h bytes a = IsWith (after_added h message trace key bytes a).traces (after_added h message trace key bytes a).receipts
 
-  begins_repeated : (h : PlainHub) → eqb (room h) 0 ≡ false → IsShelf h.receipts.out h.traces.out → has_page h.traces trace key ≡ true → Ties h → Kept' h.traces (repeated h message trace key)
+  begins_repeated : (h : PlainHub) → eqb (room h) 0 ≡ false → IsShelf h.receipts.out h.traces.out → has_page h.traces trace key ≡ true → Ties h → IsWith h.traces (repeated h message trace key)
   begins_repeated h free shelf has ties = noted_or (is_noted r trace message) refl
     where
       s : PlainTraces
@@ -457,7 +451,7 @@ module _ (message : MessageId) (trace : TraceId) (key : PageKey) where
       full : nat_le r.most (kept r) ≡ false
       full = has_room r.most (kept r) free
 
-      known : (list_any (waits_for trace message) r.waiting ≡ true) ⊎ ((receipts.is_out r trace && list_any (is_message message) r.served) ≡ true) → Kept' s r
+      known : (list_any (waits_for trace message) r.waiting ≡ true) ⊎ ((receipts.is_out r trace && list_any (is_message message) r.served) ≡ true) → IsWith s r
       known (inl waits) =
           inl (any_all (waits_for trace message) (TiedWaiting s) (λ w here tied. (tied (and_parts (is_for trace w) (is_message message w.message) here).1).1) r.waiting ties.waiting waits, waits)
       known (inr serves) =
@@ -465,12 +459,12 @@ module _ (message : MessageId) (trace : TraceId) (key : PageKey) where
           let tied = any_all (is_message message) (TiedServed s r.out) (λ x here tied. tied here) r.served ties.served here in
           inr (tied.1, (tied.0, here))
 
-      joined_now : has_page_in s.out trace key ≡ true → Kept' s (after_join r message)
+      joined_now : has_page_in s.out trace key ≡ true → IsWith s (after_join r message)
       joined_now page =
           let out = out_is r.out s.out shelf page in
           let then = record r { served = r.served ++ message ∷ [] } in
           let test : (is_none r.out || nat_le r.most (kept r)) ≡ false = ap (λ (o : Option TraceId). is_none o || nat_le r.most (kept r)) out ∙ full in
-          subst (λ (b : Bool). Kept' s (cond b r then)) (sym test) (inr (page, (out, any_second (is_message message) r.served (message ∷ []) (or_left (is_message message message) false own))))
+          subst (λ (b : Bool). IsWith s (cond b r then)) (sym test) (inr (page, (out, any_second (is_message message) r.served (message ∷ []) (or_left (is_message message message) false own))))
         where
           same : (n : ℕ) → eqb n n ≡ true
           same n = same_trace-refl (record { 0 = n })
@@ -480,11 +474,11 @@ module _ (message : MessageId) (trace : TraceId) (key : PageKey) where
               and_from (eqb message.node message.node) (eqb message.epoch message.epoch && eqb message.number message.number) (same message.node)
               (and_from (eqb message.epoch message.epoch) (eqb message.number message.number) (same message.epoch) (same message.number))
 
-      either : (b : Bool) → has_page_in s.out trace key ≡ b → Kept' s (cond b (after_join r message) (after_wait r (waits_at h.passes message trace)))
+      either : (b : Bool) → has_page_in s.out trace key ≡ b → IsWith s (cond b (after_join r message) (after_wait r (waits_at h.passes message trace)))
       either true page = joined_now page
       either false n = inl (was_waiting (has_page_in s.waiting trace key) (has_page_in s.out trace key) has n, waits_itself r h.passes message trace full)
 
-      noted_or : (b : Bool) → is_noted r trace message ≡ b → Kept' s (cond b r (cond (has_page_in s.out trace key) (after_join r message) (after_wait r (waits_at h.passes message trace))))
+      noted_or : (b : Bool) → is_noted r trace message ≡ b → IsWith s (cond b r (cond (has_page_in s.out trace key) (after_join r message) (after_wait r (waits_at h.passes message trace))))
       noted_or true y = known (or_cases (list_any (waits_for trace message) r.waiting) (receipts.is_out r trace && list_any (is_message message) r.served) y)
       noted_or false n = either (has_page_in s.out trace key) refl
 
@@ -496,7 +490,7 @@ module _ (message : MessageId) (trace : TraceId) (key : PageKey) where
   begins h bytes of_page.Foreign is free held shelf ties = let never : Refused ≡ Held = held in absurd cc
   begins h bytes of_page.Full is free held shelf ties = let never : Full ≡ Held = held in absurd cc
 
-  is_held : (h : PlainHub) (bytes : List ℕ) → answer_to_page h message trace key bytes ≡ Held → IsShelf h.receipts.out h.traces.out → Ties h → IsIn (after_page h message trace key bytes)
+  pub is_held : (h : PlainHub) (bytes : List ℕ) → answer_to_page h message trace key bytes ≡ Held → IsShelf h.receipts.out h.traces.out → Ties h → IsIn (after_page h message trace key bytes)
   is_held h bytes held shelf ties = by (nat_le h.limits.nodes message.node) (eqb (room h) 0) refl held
     where
       answer : page_answers.Added
@@ -509,11 +503,11 @@ module _ (message : MessageId) (trace : TraceId) (key : PageKey) where
 
   -- ---- all calls
 
-  record Stands (all : List Act) (h : PlainHub) : Type 0 where
-    holds : Holds all h
-    ties : Ties h
+  pub record Stands (all : List Act) (h : PlainHub) : Type 0 where
+    pub holds : Holds all h
+    pub ties : Ties h
 
-  stand_on : (all : List Act) (h : PlainHub) (acts : List Act) → AreAmong acts all → SayThis message trace key acts → Stands all h → Stands all (life h acts)
+  pub stand_on : (all : List Act) (h : PlainHub) (acts : List Act) → AreAmong acts all → SayThis message trace key acts → Stands all h → Stands all (life h acts)
   stand_on all h [] among this stands = stands
   stand_on all h (act ∷ acts) among this stands =
       let there = among 0 act refl in
@@ -538,14 +532,17 @@ module _ (message : MessageId) (trace : TraceId) (key : PageKey) where
 
 -- ---- calls among more
 
-among_first : (xs ys : List Act) → AreAmong xs (xs ++ ys)
+pub among_first : (xs ys : List Act) → AreAmong xs (xs ++ ys)
 among_first [] ys place act e = let never : None ≡ Some act = e in absurd cc
 among_first (x ∷ xs) ys zero act e = (0, e)
 among_first (x ∷ xs) ys (suc place) act e = let there = among_first xs ys place act e in (suc there.0, there.1)
 
-among_second : (xs ys : List Act) → AreAmong ys (xs ++ ys)
+pub among_second : (xs ys : List Act) → AreAmong ys (xs ++ ys)
 among_second [] ys place act e = (place, e)
 among_second (x ∷ xs) ys place act e = let there = among_second xs ys place act e in (suc there.0, there.1)
+
+pub starts : (message : MessageId) (trace : TraceId) (key : PageKey) (all : List Act) (epoch : ℕ) (is_fresh : Bool) (limits : HubLimits) → Stands message trace key all (no_hub epoch is_fresh limits)
+starts message trace key all epoch is_fresh limits = record { holds = at_start all epoch is_fresh limits; ties = record { waiting = tt; served = tt } }
 
 pub held_or_saved : (epoch : ℕ) (is_fresh : Bool) (limits : HubLimits) (before later : List Act) (message : MessageId) (trace : TraceId) (key : PageKey) (bytes : List ℕ)
     → SayThis message trace key before → answer_to_page (life (no_hub epoch is_fresh limits) before) message trace key bytes ≡ Held
@@ -553,8 +550,7 @@ pub held_or_saved : (epoch : ℕ) (is_fresh : Bool) (limits : HubLimits) (before
 held_or_saved epoch is_fresh limits before later message trace key bytes this held =
     let report = Reports message trace key bytes in
     let all = before ++ report ∷ later in
-    let start : Stands message trace key all (no_hub epoch is_fresh limits) = record { holds = at_start all epoch is_fresh limits; ties = record { waiting = tt; served = tt } } in
-    let stands = stand_on message trace key all (no_hub epoch is_fresh limits) before (among_first before (report ∷ later)) this start in
+    let stands = stand_on message trace key all (no_hub epoch is_fresh limits) before (among_first before (report ∷ later)) this (starts message trace key all epoch is_fresh limits) in
     let h = life (no_hub epoch is_fresh limits) before in
     let there = among_second before (report ∷ later) 0 report refl in
     in_or_saved message trace key all (after_page h message trace key bytes) later (λ place act e. among_second before (report ∷ later) (suc place) act e)

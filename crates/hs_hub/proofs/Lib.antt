@@ -9,3 +9,4 @@ pub mod Kept
 pub mod Named
 pub mod Restart
 pub mod Fate
+pub mod SavedFirst

@@ -44,9 +44,9 @@ same_message a b e =
 -- ---- a message comes
 
 -- what is kept then was kept, or is the message that came
-record Comes (message : MessageId) (r then : PlainReceipts) : Type 0 where
-  done : then.done ≡ r.done
-  known : (x : MessageId) → is_known then x ≡ true → (is_known r x ≡ true) ⊎ (is_message x message ≡ true)
+pub record Comes (message : MessageId) (r then : PlainReceipts) : Type 0 where
+  pub done : then.done ≡ r.done
+  pub known : (x : MessageId) → is_known then x ≡ true → (is_known r x ≡ true) ⊎ (is_message x message ≡ true)
 
 nothing_comes : (message : MessageId) (r : PlainReceipts) → Comes message r r
 nothing_comes message r = record { done = refl; known = λ x e. inl e }
@@ -74,7 +74,7 @@ one_more test xs y e = at (or_cases (list_any test xs) (list_any test (y ∷ [])
     at (inl was) = inl was
     at (inr is) = inr (last (test y) is)
 
-waits_come : (r : PlainReceipts) (now : ℕ) (message : MessageId) (trace : TraceId) → Comes message r (after_wait r (waits_at now message trace))
+pub waits_come : (r : PlainReceipts) (now : ℕ) (message : MessageId) (trace : TraceId) → Comes message r (after_wait r (waits_at now message trace))
 waits_come r now message trace =
     comes_if message (nat_le r.most (kept r)) r (record r { waiting = r.waiting ++ waits_at now message trace ∷ [] }) (record { done = refl; known = known })
   where
@@ -106,7 +106,7 @@ joins_come r message = comes_if message (is_none r.out || nat_le r.most (kept r)
     known : (x : MessageId) → (waits_elsewhere r.waiting x || list_any (is_message x) (r.served ++ message ∷ [])) ≡ true → (is_known r x ≡ true) ⊎ (is_message x message ≡ true)
     known x e = at x (or_cases (waits_elsewhere r.waiting x) (list_any (is_message x) (r.served ++ message ∷ [])) e)
 
-noted_comes : (now : ℕ) (message : MessageId) (r : PlainReceipts) (trace : TraceId) → Comes message r (noted now message r trace)
+pub noted_comes : (now : ℕ) (message : MessageId) (r : PlainReceipts) (trace : TraceId) → Comes message r (noted now message r trace)
 noted_comes now message r trace = comes_if message (is_noted r trace message) r (after_wait r (waits_at now message trace)) (waits_come r now message trace)
 
 each_noted_comes : (now : ℕ) (message : MessageId) (r : PlainReceipts) (ts : List TraceId) → Comes message r (fold (noted now message) r ts)
@@ -114,11 +114,11 @@ each_noted_comes now message r [] = nothing_comes message r
 each_noted_comes now message r (trace ∷ ts) =
     comes_again message r (noted now message r trace) (fold (noted now message) (noted now message r trace) ts) (noted_comes now message r trace) (each_noted_comes now message (noted now message r trace) ts)
 
-all_noted_comes : (now : ℕ) (message : MessageId) (r : PlainReceipts) (told : Told) → Comes message r (all_noted now message r told)
+pub all_noted_comes : (now : ℕ) (message : MessageId) (r : PlainReceipts) (told : Told) → Comes message r (all_noted now message r told)
 all_noted_comes now message r told =
     comes_if message (is_known r message) r (fold (noted now message) (noted now message r told.group.lead) told.laterals) (each_noted_comes now message r (told.group.lead ∷ told.laterals))
 
-repeat_comes : (h : PlainHub) (message : MessageId) (trace : TraceId) (key : PageKey) → Comes message h.receipts (repeated h message trace key)
+pub repeat_comes : (h : PlainHub) (message : MessageId) (trace : TraceId) (key : PageKey) → Comes message h.receipts (repeated h message trace key)
 repeat_comes h message trace key =
     comes_if message (is_noted h.receipts trace message) h.receipts (cond (traces.has_page_in h.traces.out trace key) (after_join h.receipts message) (after_wait h.receipts (waits_at h.passes message trace)))
     (either (traces.has_page_in h.traces.out trace key))
@@ -181,8 +181,9 @@ offer_keeps named r trace free = at (is_none r.out)
 
 -- ---- it is saved
 
-saved_keeps : (named : List MessageId) (r : PlainReceipts) → AreFree named r → AreFree named (receipts.after_saved r)
-saved_keeps named r free x e =
+-- a message that waits for another trace is not among those that may be acknowledged now
+pub saved_one : (named : List MessageId) (r : PlainReceipts) (x : MessageId) → waits_elsewhere r.waiting x ≡ true → list_any (is_message x) (named ++ r.done) ≡ false → list_any (is_message x) (named ++ (receipts.after_saved r).done) ≡ false
+saved_one named r x waits free =
     list_any-append (is_message x) named (r.done ++ gone)
     ∙ or_from (list_any (is_message x) named) (list_any (is_message x) (r.done ++ gone)) before.0
     (list_any-append (is_message x) r.done gone ∙ or_from (list_any (is_message x) r.done) (list_any (is_message x) gone) before.1 none)
@@ -190,22 +191,23 @@ saved_keeps named r free x e =
     gone : List MessageId
     gone = filter (λ (message : MessageId). not (waits_elsewhere r.waiting message)) r.served
 
-    waits : waits_elsewhere r.waiting x ≡ true
-    waits = last (waits_elsewhere r.waiting x) e
-      where
-        last : (b : Bool) → (b || false) ≡ true → b ≡ true
-        last true e = refl
-        last false e = e
-
     before : (list_any (is_message x) named ≡ false) × (list_any (is_message x) r.done ≡ false)
-    before =
-        or_parts (list_any (is_message x) named) (list_any (is_message x) r.done)
-        (sym (list_any-append (is_message x) named r.done) ∙ free x (or_left (waits_elsewhere r.waiting x) (list_any (is_message x) r.served) waits))
+    before = or_parts (list_any (is_message x) named) (list_any (is_message x) r.done) (sym (list_any-append (is_message x) named r.done) ∙ free)
 
     none : list_any (is_message x) gone ≡ false
     none =
         any-filter_same (is_message x) (λ (message : MessageId). not (waits_elsewhere r.waiting message)) false
         (λ y is. ap (λ (z : MessageId). not (waits_elsewhere r.waiting z)) (sym (same_message x y is)) ∙ ap not waits) r.served
+
+saved_keeps : (named : List MessageId) (r : PlainReceipts) → AreFree named r → AreFree named (receipts.after_saved r)
+saved_keeps named r free x e = saved_one named r x waits (free x (or_left (waits_elsewhere r.waiting x) (list_any (is_message x) r.served) waits))
+  where
+    last : (b : Bool) → (b || false) ≡ true → b ≡ true
+    last true e = refl
+    last false e = e
+
+    waits : waits_elsewhere r.waiting x ≡ true
+    waits = last (waits_elsewhere r.waiting x) e
 
 -- ---- one call
 
@@ -256,7 +258,7 @@ lets_go named h (Some trace) holds = saved_keeps named h.receipts holds
 nothing_named : (named : List MessageId) (r : PlainReceipts) → AreFree named r → AreFree (named ++ []) r
 nothing_named named r free = subst (λ (names : List MessageId). AreFree names r) (sym (append-nil named)) free
 
-names : (named done : List MessageId) → (named ++ take 1 done) ++ drop 1 done ≡ named ++ done
+pub names : (named done : List MessageId) → (named ++ take 1 done) ++ drop 1 done ≡ named ++ done
 names named [] = append-nil (named ++ [])
 names named (x ∷ done) = append_assoc named (x ∷ []) done
 

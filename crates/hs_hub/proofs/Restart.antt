@@ -18,7 +18,7 @@ use Rattle.hs_hub.specs.Restart.{IsHeld, HearsAgain, HoldsAgain}
 use Rattle.hs_hub.proofs.Kept.{are_kept}
 use Rattle.hs_hub.proofs.Lives.{all_calls}
 
-waits_somewhere : (trace : TraceId) (message : MessageId) (waiting : List Waiting) → list_any (waits_for trace message) waiting ≡ true → waits_elsewhere waiting message ≡ true
+pub waits_somewhere : (trace : TraceId) (message : MessageId) (waiting : List Waiting) → list_any (waits_for trace message) waiting ≡ true → waits_elsewhere waiting message ≡ true
 waits_somewhere trace message [] e = e
 waits_somewhere trace message (w ∷ ws) e = at (is_for trace w) (is_message message w.message) e (waits_somewhere trace message ws)
   where

@@ -1,6 +1,6 @@
 //! Laws of a hub. Each is the contract of a function that does nothing.
 
-ghost use Rattle.std.specs.Prelude.{◌≡◌, ◌⊎◌, ℕ, Bool, true, List, [], Some};
+ghost use Rattle.std.specs.Prelude.{◌≡◌, ◌⊎◌, ℕ, Bool, true, false, List, [], Some};
 ghost use Rattle.hs_base.specs.declared.ids.TraceId.{TraceId};
 ghost use Rattle.hs_traces.specs.Traces.{part_of};
 ghost use Rattle.hs_traces.specs.History.{HoldsNothing, HearsAll, AreSamePages, after_all, pages_of};
@@ -10,7 +10,9 @@ ghost use Rattle.hs_hub.specs.Life.{Act, life, all_deeds};
 ghost use Rattle.hs_hub.specs.RowsOut.{AllBringPages, GivesRows};
 ghost use Rattle.hs_hub.specs.SureLives.{IsOfSureLives};
 ghost use Rattle.hs_hub.specs.Kept.{AreKept};
-ghost use Rattle.hs_hub.specs.Named.{NoneAgain, AreNotNamed};
+ghost use Rattle.hs_hub.specs.Named.{NoneAgain, AreNotNamed, all_named};
+ghost use Rattle.hs_receipts.specs.Receipts.{is_message};
+ghost use Rattle.std.specs.List.{list_any};
 ghost use Rattle.hs_hub.specs.Restart.{HearsAgain, HoldsAgain};
 ghost use Rattle.hs_hub.specs.Fate.{SayThis, IsHeldBy, WasSaved};
 ghost use Rattle.hs_hub.specs.declared.answers.Delivered.TheVariants.{Held};
@@ -79,4 +81,15 @@ pub fn held_pages_stay_until_they_are_saved()
         → answer_to_page (life (no_hub epoch is_fresh limits) before) message trace key bytes ≡ Held
         → IsHeldBy (life (after_page (life (no_hub epoch is_fresh limits) before) message trace key bytes) later) message trace key
         ⊎ WasSaved (after_page (life (no_hub epoch is_fresh limits) before) message trace key bytes) later trace key }
+{}
+
+/// Whatever calls a hub has had before and has later: if a message is named, the page that it brought was saved. That holds of a page of
+/// which the hub said that it holds it, where the message said nothing else before and was not to be named already.
+pub fn named_messages_brought_what_was_saved()
+    ensures { (epoch : ℕ) (is_fresh : Bool) (limits : HubLimits) (before later : List Act) (message : MessageId) (trace : TraceId) (key : PageKey) (bytes : List ℕ)
+        → SayThis message trace key before
+        → answer_to_page (life (no_hub epoch is_fresh limits) before) message trace key bytes ≡ Held
+        → list_any (is_message message) (life (no_hub epoch is_fresh limits) before).receipts.done ≡ false
+        → list_any (is_message message) (all_named (after_page (life (no_hub epoch is_fresh limits) before) message trace key bytes) later) ≡ true
+        → WasSaved (after_page (life (no_hub epoch is_fresh limits) before) message trace key bytes) later trace key }
 {}

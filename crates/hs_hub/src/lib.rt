@@ -13,8 +13,8 @@ pub use answers::{Delivered, Given, HubCounts, HubLimits, MakeFault};
 pub use hub::Hub;
 pub use laws::{
     held_pages_are_unacknowledged, held_pages_come_again, held_pages_stay_until_they_are_saved,
-    kept_messages_are_not_named, messages_decide_the_part, pages_come_and_go,
-    rows_are_of_what_came, whole_is_said_of_sure_lives,
+    kept_messages_are_not_named, messages_decide_the_part, named_messages_brought_what_was_saved,
+    pages_come_and_go, rows_are_of_what_came, whole_is_said_of_sure_lives,
 };
 pub use limits::{
     DEFAULT_AGE, DEFAULT_TRIES, DEFAULT_WAIT, MESSAGES_OF_A_TRACE, STANDINGS_OF_A_TRACE, hub_limits,
