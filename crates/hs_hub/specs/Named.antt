@@ -39,7 +39,7 @@ abbrev pub all_named : PlainHub → List Act → List MessageId
 all_named h [] = []
 all_named h (act ∷ acts) = named_by h act ++ all_named (after h act) acts
 
--- no message comes that was named, these or others, or may be
+-- no message comes that was named, before these calls (`named`) or by one of them, or that may be named
 abbrev pub NoneAgain : PlainHub → List MessageId → List Act → Type 0
 NoneAgain h named [] = Unit {0}
 NoneAgain h named (act ∷ acts) = IfSome (message_of act) (λ message. list_any (is_message message) (named ++ h.receipts.done) ≡ false) × NoneAgain (after h act) (named ++ named_by h act) acts
