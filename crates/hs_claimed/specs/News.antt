@@ -1,5 +1,6 @@
--- What is news of a trace: whatever differs from the standing that was said last, but for the horizon. The horizon moves with the
--- segments of other traces, so a node would have to say it of each claimed trace again and again.
+-- What is news of a trace: whatever differs from the standing that was said last, but for the horizon, and but that the trace was forgotten.
+-- The horizon moves with the segments of other traces, so a node would have to say it of each claimed trace again and again. A trace of which
+-- something was said, and of which nothing is known any more, was forgotten: what was said of it stays true.
 use Rattle.std.specs.Prelude.{◌≡◌, ℕ, Bool, true, false, not, ◌&&◌, ◌==◌, Option, Some, None, refl}
 use Rattle.hs_base.specs.Samples.{t}
 use Rattle.hs_wire.specs.declared.message.Losses.{Losses}
@@ -21,10 +22,14 @@ same_losses a b =
 abbrev pub same_word : Standing → Standing → Bool
 same_word a b = same_wholeness a.wholeness b.wholeness && ((a.open_segments == b.open_segments) && ((a.pages == b.pages) && ((a.crumbs.0 == b.crumbs.0) && same_losses a.losses b.losses)))
 
+-- whether a standing says unheard, and names no node to which a crumb led: nothing is known of the trace
+abbrev pub knows_nothing : Standing → Bool
+knows_nothing standing = same_wholeness standing.wholeness UnheardSince && standing.crumbs.0 == 0
+
 -- whether a standing is news where this was said last
 abbrev pub is_news : Option Standing → Standing → Bool
 is_news None standing = true
-is_news (Some last) standing = not (same_word last standing)
+is_news (Some last) standing = not (same_word last standing) && not (knows_nothing standing)
 
 -- ---- worked examples: of trace 9, which group 7 of node 0 claims
 
@@ -37,6 +42,11 @@ word wholeness horizon pages = record { trace = t 9; group = record { node = 0; 
 
 first_word : is_news None (word UnheardSince 0 0) ≡ true
 first_word = refl
+
+-- a trace that was forgotten is nothing new, whatever was said of it; a crumb of it that comes then is
+forgotten : (is_news (Some (word WholeSince 4 2)) (word UnheardSince 9 0) ≡ false) × (is_news (Some (word Unknown 4 2)) (word UnheardSince 9 0) ≡ false)
+    × (is_news (Some (word WholeSince 4 2)) (record (word UnheardSince 9 0) { crumbs = record { 0 = 2 } }) ≡ true) × (is_news (Some (word UnheardSince 4 0)) (word WholeSince 4 2) ≡ true)
+forgotten = (refl, refl, refl, refl)
 
 -- a horizon that moved is nothing new; a page more is, and so is a crumb to another node, and a trace that is whole now
 nothing_new : (is_news (Some (word WholeSince 4 2)) (word WholeSince 4 2) ≡ false) × (is_news (Some (word WholeSince 4 2)) (word WholeSince 9 2) ≡ false)

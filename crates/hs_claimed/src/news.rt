@@ -1,7 +1,7 @@
 //! What is new in a standing.
 
 ghost use Rattle.std.specs.Prelude.{◌≡◌};
-ghost use Rattle.hs_claimed.specs.News.{same_wholeness, same_losses, same_word, is_news};
+ghost use Rattle.hs_claimed.specs.News.{same_wholeness, same_losses, same_word, knows_nothing, is_news};
 
 use hs_wire::{Losses, Standing, Wholeness};
 
@@ -44,12 +44,20 @@ fn same_word(one: &Standing, other: &Standing) -> bool
         && same_losses(&one.losses, &other.losses)
 }
 
-/// Whether a standing is news where this one was said last, or none: it says something else than that its horizon moved.
+/// Whether nothing is known of a trace: it is unheard, and no crumb of it led anywhere.
+fn knows_nothing(standing: &Standing) -> bool
+    ensures { result ≡ knows_nothing standing.now }
+{
+    same_wholeness(standing.wholeness, Wholeness::UnheardSince) && standing.crumbs.is_empty()
+}
+
+/// Whether a standing is news where this one was said last, or none: it says something else than that its horizon moved, or that its trace
+/// was forgotten.
 pub fn is_news(said: &Option<Standing>, standing: &Standing) -> bool
     ensures { result ≡ is_news said.now standing.now }
 {
     match said {
-        Some(last) => !same_word(last, standing),
+        Some(last) => !same_word(last, standing) && !knows_nothing(standing),
         None => true,
     }
 }
