@@ -166,19 +166,27 @@ static int put_life(store *s, const otlp_trace *trace, const otlp_part *part) {
     return step(s, to);
 }
 
-static int put_head(store *s, const otlp_trace *trace) {
+/* Whether each life says whole, or that it heard nothing. */
+static int are_whole(const otlp_trace *trace) {
+    for (size_t i = 0; i < trace->count; i++)
+        if (strncmp(trace->parts[i].wholeness, "whole ", 6) && strncmp(trace->parts[i].wholeness, "unheard ", 8)) return 0;
+    return 1;
+}
+
+/* A later part leaves its trace as whole as it was where it brings no record and tells of no loss, as that of a second trigger does. */
+static int put_head(store *s, const otlp_trace *trace, int brings_records) {
     sqlite3_stmt *to = s->statements[PUT_TRACE];
     sqlite3_bind_blob(to, 1, trace->id.bytes, 16, SQLITE_STATIC);
     sqlite3_bind_int64(to, 2, trace->part);
     sqlite3_bind_int64(to, 3, trace->trigger);
-    sqlite3_bind_int64(to, 4, trace->is_whole != 0);
+    sqlite3_bind_int64(to, 4, trace->is_whole || (trace->part && !brings_records && are_whole(trace)));
     sqlite3_bind_int64(to, 5, (sqlite3_int64)time(NULL));
     return step(s, to);
 }
 
-/* All rows of a trace: how many of its own and of its records are new, or -1. */
+/* All rows of a trace: how many are new that a line is to tell of, or -1. A later part without a record has none. */
 static long put_rows(store *s, const otlp_trace *trace) {
-    long fresh = put_head(s, trace);
+    long fresh = 0;
     for (size_t i = 0; fresh >= 0 && i < trace->count; i++) {
         const otlp_part *part = &trace->parts[i];
         if (put_life(s, trace, part) < 0) return -1;
@@ -187,7 +195,9 @@ static long put_rows(store *s, const otlp_trace *trace) {
             fresh = is_new < 0 ? -1 : fresh + is_new;
         }
     }
-    return fresh;
+    if (fresh < 0) return -1;
+    int is_first = put_head(s, trace, fresh > 0);
+    return is_first < 0 ? -1 : trace->part ? fresh : fresh + is_first;
 }
 
 int store_put(store *s, const otlp_trace *trace) {

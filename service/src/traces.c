@@ -81,7 +81,7 @@ static void print_found(sqlite3_stmt *row) {
 static int find(const wanted *w) {
     sqlite3_stmt *rows = prepared(
         "SELECT t.trace, min(t.trigger), max(t.saved) AS saved, (SELECT count(*) FROM records r WHERE r.trace = t.trace),"
-        " (SELECT count(*) = 1 AND min(whole) = 1 FROM traces a WHERE a.trace = t.trace) FROM traces t"
+        " (SELECT min(part) = 0 AND min(whole) = 1 FROM traces a WHERE a.trace = t.trace) FROM traces t"
         " WHERE (?1 < 0 OR t.trigger = ?1) AND (?2 IS NULL OR EXISTS (SELECT 1 FROM lives l WHERE l.trace = t.trace AND l.service = ?2)) AND t.saved >= ?3"
         " GROUP BY t.trace ORDER BY saved DESC, t.trace LIMIT ?4");
     int found = 0, status = FOUND;
@@ -344,9 +344,9 @@ static void free_picture(picture *p) {
     free(p->lives);
 }
 
-/* Whether the hub said so of its only part. */
+/* Whether the hub said so of its first part, and no later one says otherwise. */
 static int is_whole(const uint8_t *trace) {
-    sqlite3_stmt *parts = prepared("SELECT count(*) = 1 AND min(whole) = 1 FROM traces WHERE trace = ?");
+    sqlite3_stmt *parts = prepared("SELECT min(part) = 0 AND min(whole) = 1 FROM traces WHERE trace = ?");
     if (!parts) return 0;
     sqlite3_bind_blob(parts, 1, trace, 16, SQLITE_STATIC);
     int whole = sqlite3_step(parts) == SQLITE_ROW && sqlite3_column_int(parts, 0);

@@ -3,6 +3,7 @@
 #define _GNU_SOURCE
 #include "expect.h"
 #include "store.h"
+#include <inttypes.h>
 #include <signal.h>
 #include <sqlite3.h>
 #include <stdlib.h>
@@ -57,6 +58,14 @@ static int put(store *s, unsigned number, uint64_t epoch, size_t records, const 
     return store_put(s, &trace);
 }
 
+/* A part of trace 9 with so many records, of life 1 of node 3. */
+static void put_part(store *s, uint32_t which, int is_whole, size_t records, const char *wholeness) {
+    otlp_part part = {3, 1, "web", wholeness, two, records};
+    otlp_trace trace = {{{9}}, 1, which, is_whole, &part, 1};
+    EXPECT(store_put(s, &trace), 0);
+    EXPECT(store_save(s), 0);
+}
+
 static store *opened(uint64_t line_bytes, unsigned kept) {
     store_options options = {folder, line_bytes, kept};
     store *s = store_open(&options, fault, sizeof fault);
@@ -65,6 +74,33 @@ static store *opened(uint64_t line_bytes, unsigned kept) {
         exit(1);
     }
     return s;
+}
+
+/* A later part without a new record has no line, and leaves its trace as whole as it was, but where it tells of a loss or of an answer that is wanting. */
+static void later_parts(void) {
+    static const struct {
+        const char *wholeness;
+        size_t records;
+        int is_whole, lines;
+    } rows[] = {{"whole since 4", 1, 1, 0}, {"unheard since 90", 0, 1, 0}, {"lost: 1 page evicted", 0, 0, 0}, {"not answered", 0, 0, 0}, {"open: 1 segments", 0, 0, 0}, {"whole since 4", 2, 0, 1}};
+    size_t before = strlen(folder);
+    long lines = 1;
+    strcat(folder, "/later");
+    EXPECT(mkdir(folder, 0700), 0);
+    store *s = opened(0, 0);
+    put_part(s, 0, 1, 1, "whole since 4");
+    EXPECT(lines_in(1), lines);
+    for (uint32_t i = 0; i < sizeof rows / sizeof *rows; i++) {
+        char query[100];
+        put_part(s, i + 1, 0, rows[i].records, rows[i].wholeness);
+        snprintf(query, sizeof query, "SELECT whole FROM traces WHERE part = %" PRIu32, i + 1);
+        EXPECT(number(query), rows[i].is_whole);
+        lines += rows[i].lines;
+        EXPECT(lines_in(1), lines);
+    }
+    EXPECT(number("SELECT whole FROM traces WHERE part = 0"), 1);
+    store_close(s);
+    folder[before] = 0;
 }
 
 static void rows_stand_once(void) {
@@ -217,11 +253,12 @@ static void kills(long times) {
 }
 
 int main(int argc, char **argv) {
-    if (argc != 3 || strlen(argv[1]) > sizeof folder - 1) return 2;
+    if (argc != 3 || strlen(argv[1]) + sizeof "/later" > sizeof folder) return 2;
     strcpy(folder, argv[1]);
     refuses();
     is_there();
     rows_stand_once();
+    later_parts();
     files_rotate();
     disk_full();
     torn_line();

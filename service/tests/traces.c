@@ -47,6 +47,10 @@ int main(int argc, char **argv) {
     otlp_part failed[] = {{1, 5, "web", "whole since 12", records, web}, {2, 9, "stock", "whole since 3", records + web, count - web}};
     otlp_trace trace = {{{0, 0, 0, 0, 0, 0, 0, 0, 0, 0, 0, 0, 0, 0, 0xa1, 0xb0}}, 2, 0, 1, failed, 2};
     if (store_put(s, &trace)) return 1;
+    /* a second trigger of it, when its nodes have forgotten it: no record, and nothing that makes it less whole */
+    otlp_part again[] = {{1, 5, "web", "unheard since 90", records, 0}, {2, 9, "stock", "whole since 3", records, 0}};
+    otlp_trace later = {{{0, 0, 0, 0, 0, 0, 0, 0, 0, 0, 0, 0, 0, 0, 0xa1, 0xb0}}, 4, 1, 0, again, 2};
+    if (store_put(s, &later)) return 1;
 
     count = 0;
     add_text(0, 0, 0, 50, "first");
