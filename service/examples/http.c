@@ -68,13 +68,19 @@ static char *header(char *request, const char *name) {
     return NULL;
 }
 
+/* The same as a text of its own, empty where it is not there. */
+static void copy_header(char *request, const char *name, char *text, size_t room) {
+    const char *found = header(request, name);
+    snprintf(text, room, "%.*s", found ? (int)strcspn(found, "\r") : 0, found ? found : "");
+}
+
 /* What the request says of its trace, or a trace of its own. */
 static hind_context context_of(char *request) {
     hind_context context;
-    char parent[HIND_TRACEPARENT_SIZE] = "";
-    char *found = header(request, "traceparent");
-    if (found) snprintf(parent, sizeof parent, "%.*s", (int)strcspn(found, "\r"), found);
-    if (hind_context_read(parent, NULL, &context) != HIND_OK) hind_new_context(&context);
+    char parent[HIND_TRACEPARENT_SIZE], state[HIND_TRACESTATE_SIZE];
+    copy_header(request, "traceparent", parent, sizeof parent);
+    copy_header(request, "tracestate", state, sizeof state);
+    if (hind_context_read(parent, state, &context) != HIND_OK) hind_new_context(&context);
     return context;
 }
 

@@ -39,20 +39,18 @@ static const char *name_of(void *closure, uint16_t node) {
 
 /* ---- opening */
 
-static const char *reason(uint32_t number) {
-    static const char *const reasons[] = {"?",     "it has no end", "a byte that no text has", "spaces", "a word", "it stands twice", "too few or too many words",
-                                          "a number", "out of its range", "out of its order", "unknown", "all lines together leave no buffer"};
-    return reasons[number < sizeof reasons / sizeof *reasons ? number : 0];
-}
-
 /* A hub is fresh where its store is still to be made: no hub was before it. */
 static int open_hub(hubwork *h, const hubwork_options *options, char *fault, size_t room) {
     hindcore_fault at = {0, 0};
     h->is_fresh = !store_is_there(&options->store);
     uint32_t code = hindcore_hub_open((const uint8_t *)options->settings, options->settings_len, options->epoch, (uint32_t)h->is_fresh, &h->hub, &at);
     if (code == HINDCORE_DONE) return 1;
-    if (code == HINDCORE_SETTINGS) snprintf(fault, room, "settings, line %" PRIu64 ": %s", at.line, reason(at.reason));
-    else snprintf(fault, room, "no memory for a hub of these settings");
+    if (code == HINDCORE_SETTINGS) {
+        uint32_t line;
+        hindlib_note_fault(&at);
+        const char *why = hind_settings_error(&line);
+        snprintf(fault, room, "settings, line %" PRIu32 ": %s", line, why);
+    } else snprintf(fault, room, "no memory for a hub of these settings");
     return 0;
 }
 

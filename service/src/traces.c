@@ -89,8 +89,13 @@ static int find(const wanted *w) {
     sqlite3_bind_int64(rows, 1, w->trigger);
     if (w->service) sqlite3_bind_text(rows, 2, w->service, -1, SQLITE_STATIC);
     sqlite3_bind_int64(rows, 3, w->since ? (sqlite3_int64)time(NULL) - w->since : 0);
-    sqlite3_bind_int64(rows, 4, w->limit);
+    sqlite3_bind_int64(rows, 4, w->limit < LONG_MAX ? w->limit + 1 : w->limit);
     while (status == FOUND && sqlite3_step(rows) == SQLITE_ROW) {
+        if (found == w->limit) {
+            fflush(stdout);
+            fprintf(stderr, "hindsight-traces: there are more; --limit says how many are listed, %ld here\n", w->limit);
+            break;
+        }
         if (!found++) printf("%-32s  %-20s %7s %8s  %-5s  %s\n", "TRACE", "SAVED", "TRIGGER", "RECORDS", "WHOLE", "NODES");
         print_found(rows);
         status = print_lives(sqlite3_column_blob(rows, 0));
@@ -365,7 +370,7 @@ static int show(const uint8_t *trace) {
 /* ---- words */
 
 static int usage(void) {
-    fputs("usage: hindsight-traces FOLDER find [--trigger N] [--service NAME] [--since SECONDS] [--limit N]\n"
+    fputs("usage: hindsight-traces FOLDER find [--trigger N] [--service NAME] [--since SECONDS] [--limit N, 50 unless said]\n"
           "       hindsight-traces FOLDER show TRACE\n", stderr);
     return USAGE;
 }

@@ -103,7 +103,8 @@ fn a_round(alloc: Global) -> Result<bool, Memory> {
     Ok(first && second && third && is_at(&claims, ONE, SEVEN))
 }
 
-/// A standing is said once. Another horizon is no news; another count of pages is, and a crumb; another trace is not looked at.
+/// A standing is said once. Another horizon is no news, nor is a trace that was forgotten; another count of pages is, and a crumb; another trace
+/// is not looked at.
 fn said_once(alloc: Global) -> Result<bool, Memory> {
     let mut claims = three(alloc)?;
     let first = claims.said(&standing(ONE, SEVEN, 0, 1), 5);
@@ -114,9 +115,13 @@ fn said_once(alloc: Global) -> Result<bool, Memory> {
         crumbs: NodeSet::only(NodeId(2)),
         ..standing(ONE, SEVEN, 0, 1)
     });
+    let forgotten = claims.is_news(&Standing {
+        wholeness: Wholeness::UnheardSince,
+        ..standing(ONE, SEVEN, 9, 0)
+    });
     let elsewhere = claims.said(&standing(ONE, EIGHT, 0, 1), 7);
     let stranger = claims.is_news(&standing(TWO, SEVEN, 0, 2));
-    Ok(first && !again && !moved && more && led && !elsewhere && !stranger)
+    Ok(first && !again && !moved && more && led && !forgotten && !elsewhere && !stranger)
 }
 
 /// Whether this group claimed first, with so many traces and this last message.
