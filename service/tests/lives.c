@@ -484,7 +484,7 @@ static void learn_standing(const uint8_t *m, size_t len) {
     must("how whole is a word", said[0] <= 4);
     if (g->has_said[at] && !forgets() && !is_blind)
         must("a standing is news", memcmp(g->said[at], said, 5) || memcmp(g->said[at] + 13, said + 13, SAID - 13));
-    if (g->has_said[at] && said[0] == SAYS_UNHEARD) must("a trace that was forgotten is no news", number_at(said + CRUMBS, 8) || number_at(said + CRUMBS + 8, 8));
+    if (g->has_said[at] && !forgets() && !is_blind && said[0] == SAYS_UNHEARD) must("a trace that was forgotten is no news", number_at(said + CRUMBS, 8) || number_at(said + CRUMBS + 8, 8));
     memcpy(g->said[at], said, SAID);
     g->has_said[at] = 1;
     uint64_t out = number_at(m + 55, 8);
