@@ -1,6 +1,6 @@
 -- When a life of a node is closed to a trace: its latest standing says that its part is whole, or that it heard nothing of the trace,
 -- and no segment of the trace is open there. Only then nothing more is to come of it.
-use Rattle.std.specs.Prelude.{◌≡◌, ℕ, Bool, true, false, not, ◌&&◌, ◌||◌, ◌==◌, refl}
+use Rattle.std.specs.Prelude.{◌≡◌, ℕ, Bool, true, false, ◌&&◌, ◌||◌, ◌==◌, refl}
 use Rattle.std.specs.List.{list_all}
 use Rattle.std.specs.Option.{option_map_or}
 use Rattle.hs_base.specs.declared.ids.TraceId.{TraceId}
@@ -32,10 +32,10 @@ is_closed latest = is_closing_word latest.standing.wholeness && latest.standing.
 abbrev pub says_whole : Latest → Bool
 says_whole latest = is_whole_word latest.standing.wholeness && latest.standing.open_segments == 0
 
--- whether a life is closed, and has notes of the trace if it ever had any: it says whole, or unheard since its first segment, or unheard but
--- for crumbs that it names. One that says unheard since a later segment, and names no node, may have forgotten the trace.
+-- whether a life is closed, and has notes of the trace if it ever had any: it says whole, or unheard since its first segment. One that says
+-- unheard since a later segment may have forgotten the trace, though it names a node: a crumb outside of a segment may have come behind.
 abbrev pub knows_all : Latest → Bool
-knows_all latest = is_closed latest && (is_whole_word latest.standing.wholeness || (latest.standing.horizon == 0 || not (latest.standing.crumbs.0 == 0)))
+knows_all latest = is_closed latest && (is_whole_word latest.standing.wholeness || latest.standing.horizon == 0)
 
 -- whether each of these lives is closed
 abbrev pub all_closed : Lives → Bool
@@ -64,5 +64,5 @@ unheard_since horizon = latest_at 1 (record { trace = t 9; group = record { node
 abbrev led_on : Latest
 led_on = latest_at 1 (record { trace = t 9; group = record { node = 0; number = 7 }; wholeness = UnheardSince; open_segments = 0; horizon = 4; pages = 0; crumbs = record { 0 = 1 }; losses = none_lost })
 
-forgets : (knows_all (whole_at 6) ≡ true) × (knows_all (unheard_since 0) ≡ true) × (knows_all (unheard_since 4) ≡ false) × (is_closed (unheard_since 4) ≡ true) × (knows_all led_on ≡ true) × (knows_all (open_at 7) ≡ false)
+forgets : (knows_all (whole_at 6) ≡ true) × (knows_all (unheard_since 0) ≡ true) × (knows_all (unheard_since 4) ≡ false) × (is_closed (unheard_since 4) ≡ true) × (knows_all led_on ≡ false) × (knows_all (open_at 7) ≡ false)
 forgets = (refl, refl, refl, refl, refl, refl)

@@ -41,17 +41,14 @@ impl Latest {
         }
     }
 
-    /// Whether a life is closed to the trace, and has notes of it if it ever had any: it says whole, or unheard since its first segment, or
-    /// unheard but for crumbs that it names.
+    /// Whether a life is closed to the trace, and has notes of it if it ever had any: it says whole, or unheard since its first segment.
     pub fn knows_all(&self) -> bool
         ensures { result ≡ knows_all self.now }
     {
         match self.standing.wholeness {
             Wholeness::WholeSince => self.standing.open_segments == 0,
-            Wholeness::UnheardSince => {
-                self.standing.open_segments == 0
-                    && (self.standing.horizon == 0 || !self.standing.crumbs.is_empty())
-            }
+            Wholeness::UnheardSince => self.standing.open_segments == 0
+                && self.standing.horizon == 0,
             Wholeness::Lost | Wholeness::Unknown | Wholeness::Open => false,
         }
     }

@@ -40,7 +40,7 @@ pub record IsWhole (g : PlainGroups) (s : PlainStandings) (trace : TraceId) (pag
   -- a group that claims the trace has reached each node to which a life says that crumbs of it led
   pub led : (lives : Lives) → lives_of s.books trace ≡ Some lives → (at : ℕ) (entry : Life × Latest) → slice_get lives at ≡ Some entry
       → (node : ℕ) → has_node entry.1.standing.crumbs node ≡ true → IsReached g trace node
-  -- and the node's latest life says whole, or unheard since its first segment, or unheard but for crumbs that it names
+  -- and the node's latest life says whole, or unheard since its first segment
   pub known : (lives : Lives) → lives_of s.books trace ≡ Some lives → (at : ℕ) (entry : Life × Latest) → slice_get lives at ≡ Some entry
       → (here node : ℕ) → slice_get (nodes_of entry.1.standing.crumbs) here ≡ Some node
       → HasSaid s trace (latest_life g (record { 0 = node })) (λ latest. knows_all latest ≡ true)

@@ -204,12 +204,12 @@ fn a_node_that_forgot(alloc: Global, crumbs: u128, is_whole: bool) -> Result<boo
     Ok(taken == (Some(TraceId(1)), Some(is_whole)) && hub.why() == Some(Given::Complete))
 }
 
-/// Node 1 says unheard since its eightieth segment too, and that a crumb of the trace led to node 0: it has notes of the trace, and no segment.
+/// Node 1 says unheard since its eightieth segment too, and that a crumb of the trace led to node 0: what came before that crumb may be forgotten.
 fn a_node_that_led_on(alloc: Global) -> Result<bool, Memory> {
     let mut hub = told_of(alloc)?;
     stand_so(&mut hub, 1, 3, Wholeness::UnheardSince, 80, 1);
     stand_so(&mut hub, 0, 3, Wholeness::WholeSince, 80, 2);
-    Ok((hub.take(), whole(&hub)) == (Some(TraceId(1)), Some(true)))
+    Ok((hub.take(), whole(&hub)) == (Some(TraceId(1)), Some(false)))
 }
 
 /// Node 0 says that crumbs led to nodes 1 and 2 before it tells of node 2: the trace waits until node 2 answered and said that it heard nothing.
