@@ -1,2 +1,4 @@
 pub mod Orders
 pub mod Standing
+pub mod Acts
+pub mod Sparing

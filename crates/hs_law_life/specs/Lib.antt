@@ -1,1 +1,2 @@
 pub mod ClientLives
+pub mod NodeLives
