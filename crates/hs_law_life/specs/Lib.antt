@@ -1,2 +1,3 @@
 pub mod ClientLives
 pub mod NodeLives
+pub mod Following

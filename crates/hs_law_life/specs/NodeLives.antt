@@ -5,6 +5,7 @@ use Rattle.std.specs.List.{AllByRecursion}
 use Rattle.std.specs.Option.{option_map_or}
 use Rattle.hs_base.specs.declared.ids.TraceId.{TraceId}
 use Rattle.hs_base.specs.declared.told.Group.{Group}
+use Rattle.hs_base.specs.Samples.{one_rule, t}
 use Rattle.hs_records.specs.Plain.{PlainSettings}
 use Rattle.hs_words.specs.Buffers.{Buffer}
 use Rattle.hs_words.specs.Pages.{Sheet}
@@ -18,6 +19,7 @@ use Rattle.hs_law_agent.specs.Stepping as steps
 use Rattle.hs_law_agent.specs.Laws.{WasOver, claiming_group, count_of, given_places, sheets_of}
 use Rattle.hs_law_agent.specs.Lives.{is_settled, IsGood}
 use Rattle.hs_law_agent.specs.Lives as model
+use Rattle.hs_law_agent.specs.Samples.{settings_with, chunk, trigger, group}
 use Rattle.hs_agent.specs.Points.{sheet_in}
 use Rattle.hs_agent.specs.Runs.{Run, bare_run, state_of}
 use Rattle.hs_intake.specs.declared.took.Turned.{Turned}
@@ -175,3 +177,11 @@ each_its_own buffer = (refl, refl, refl)
 -- a group is forgotten in a life only where it is settled
 settled_first : (run : Run Leased) (group : Group) → AreSettled run (Turns ∷ Forgets group ∷ []) → is_settled group (state_of (after_act run Turns)) ≡ true
 settled_first run group settled = settled.1.0
+
+-- a chunk of a trace that nobody claims is indexed, and one of a claimed trace is pinned for the group
+abbrev few : PlainSettings
+few = settings_with 4 8 4 one_rule
+
+each_in_its_place : HasFate few (model.life few 0 (model.Does (chunk 1 0) ∷ [])) 0 (t 1) Indexed
+    × HasFate few (model.life few 0 (model.Does (trigger 1 1 1 []) ∷ model.Does (chunk 1 0) ∷ [])) 0 (t 1) (Pinned (group 0 0 1 1))
+each_in_its_place = ((refl, record { pinned_is = refl; gone_is = refl }), (refl, record { pinned_is = refl; gone_is = refl }))

@@ -1,15 +1,31 @@
 //! Laws of nodes. Each is the contract of a function that does nothing.
 
-ghost use Rattle.std.specs.Prelude.{◌≡◌, ℕ, List, ◌++◌, Some};
+ghost use Rattle.std.specs.Prelude.{◌≡◌, ℕ, List, [], ◌++◌, None, Some};
 ghost use Rattle.std.specs.List.{AllByRecursion};
 ghost use Rattle.hs_base.specs.declared.ids.TraceId.{TraceId};
 ghost use Rattle.hs_base.specs.declared.told.Group.{Group};
+ghost use Rattle.hs_inbox.specs.Delivering.{PlainInbox, Delivers};
+ghost use Rattle.hs_inbox.specs.declared.inbox.Delivered.{Delivered};
+ghost use Rattle.hs_link.specs.Contents.{Incoming, Contains};
+ghost use Rattle.hs_live.specs.Keys.{Key};
+ghost use Rattle.hs_live.specs.Live.{PlainClient, IsEnd};
+ghost use Rattle.hs_mail.specs.Letters.{Letters};
+ghost use Rattle.hs_node.specs.declared.making.MadeNode.{MadeNode};
+ghost use Rattle.hs_node.specs.Made.{IsMadeBy, run_settings};
+ghost use Rattle.hs_node.specs.Nodes.{PlainNode, with_mail};
+ghost use Rattle.hs_node_client.specs.Lives.{ClientLife, HasLife};
 ghost use Rattle.hs_records.specs.Plain.{PlainSettings};
+ghost use Rattle.hs_ring.specs.Parts.{Leased};
+ghost use Rattle.hs_settings.specs.Settings.{PlainService};
+ghost use Rattle.hs_words.specs.Buffers.{Buffer};
 ghost use Rattle.hs_agent.specs.Runs.{bare_run};
-ghost use Rattle.hs_intake.specs.Intakes.{Act};
+ghost use Rattle.hs_intake.specs.Intakes.{PlainIntake, Act};
 ghost use Rattle.hs_law_agent.specs.Laws.{claiming_group};
-ghost use Rattle.hs_law_life.specs.NodeLives.{AreSettled, IsWell, IsSpared, Keeps, state_by};
+ghost use Rattle.hs_law_life.specs.ClientLives.{IsInOrder};
+ghost use Rattle.hs_law_life.specs.Following.{IsFollowed};
+ghost use Rattle.hs_law_life.specs.NodeLives.{AreSettled, HasLived, IsWell, IsSpared, Keeps, Makes, run_by, state_by};
 
+use crate::clients::points_stand_on_pages;
 use hs_law_agent::laws::{
     claims_stand, events_add_this, events_lead_on, lives_go_on_well, nothing_claimed_goes,
 };
@@ -33,4 +49,29 @@ pub fn claimed_traces_are_spared()
     events_add_this();
     nothing_claimed_goes();
     claims_stand();
+}
+
+/// A node's life begins where nothing was taken. A pass whose turn did not spend the agent leads on by more acts, and no other call adds an act. So
+/// at every moment the chunks that came of a client are, in order, those that the agent took, and then the one that waits at the front.
+pub fn nodes_live_on()
+    // It asks that nothing waits at the front of a node that was just made.
+    ensures made { (s : PlainService) (number epoch : ℕ) (made : MadeNode) → IsMadeBy s number epoch made → made.node.intake.back ≡ None
+        → HasLived (run_settings s) number [] made.node.intake }
+    ensures pass { (settings : PlainSettings) (number : ℕ) (acts : List Act) (old new : PlainNode) → HasLived settings number acts old.intake
+        → Makes (run_by settings number acts) old new → (more : List Act) × HasLived settings number (acts ++ more) new.intake }
+    ensures says { (settings : PlainSettings) (number : ℕ) (acts : List Act) (node : PlainNode) (mail : Letters) → HasLived settings number acts node.intake
+        → HasLived settings number acts (with_mail node mail).intake }
+    ensures hears { (settings : PlainSettings) (number : ℕ) (acts : List Act) (d : PlainIntake) (bytes : List ℕ) (answer : Delivered) (inbox : PlainInbox)
+        → Delivers d.inbox bytes answer inbox → HasLived settings number acts d → HasLived settings number acts (record d { inbox = inbox }) }
+{}
+
+/// Over any number of renewals of a client, and any life of its node: each point of the client stands on a page, and each page is null, or in a chunk
+/// that is written, in the outbox, in the ring, at the front, or taken by the agent, where it has its fate.
+pub fn chunks_are_followed()
+    ensures { (life : ClientLife) (client : PlainClient) (number : ℕ) (port : Incoming (Buffer Leased) Key) (settings : PlainSettings) (node : ℕ) (acts : List Act) (d : PlainIntake)
+        → HasLife life client → IsInOrder life → Contains client.chunks port → IsEnd number d.port.chunks port → HasLived settings node acts d
+        → IsFollowed life client number settings node acts d }
+{
+    points_stand_on_pages();
+    acts_are_a_life_of_the_model();
 }

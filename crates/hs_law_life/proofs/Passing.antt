@@ -1,0 +1,284 @@
+-- How the life of a node goes on by each part of a pass.
+use Rattle.std.proofs.Common.{◌≡◌, ℕ, zero, suc, Bool, true, false, ◌&&◌, inl, inr, List, [], ◌∷◌, ◌++◌, map, length, Option, Some, None, refl, sym, ap, subst, ◌∙◌, append_assoc, append-nil, slice_get}
+use Rattle.std.specs.Prelude.{◌⊎◌}
+use Rattle.std.specs.Option.{option_map_or}
+use Rattle.hs_base.specs.declared.told.Told.{Told}
+use Rattle.hs_lists.proofs.Bools.{second_true}
+use Rattle.hs_records.specs.Plain.{PlainSettings}
+use Rattle.hs_words.specs.Buffers.{Buffer}
+use Rattle.hs_ring.specs.Parts.{Leased}
+use Rattle.hs_agent.specs.Runs.{Run, bare_run, state_of}
+use Rattle.hs_claimed.specs.Claims.{PlainClaims}
+use Rattle.hs_inbox.specs.Delivering.{PlainInbox}
+use Rattle.hs_mail.specs.Letters.{Letters}
+use Rattle.hs_law_agent.specs.Lives.{is_settled}
+use Rattle.hs_wire.specs.declared.message.Standing.{Standing}
+use Rattle.hs_intake.specs.declared.took.Turned.{Turned}
+use Rattle.hs_intake.specs.declared.took.Turned.TheVariants as turned
+use Rattle.hs_intake.specs.declared.took.Stated.{Stated}
+use Rattle.hs_intake.specs.declared.took.Stated.TheVariants as stated
+use Rattle.hs_intake.specs.declared.took.Took.{Took}
+use Rattle.hs_intake.specs.Intakes.{PlainIntake, Waiting, Chunk, Crumbs, Triggers, Act, TakesChunk, TakesCrumb, TakesTrigger, TakesAsk, Turns, LetsGo, Forgets, after_act, life, Line, Lines, chunk_line, crumb_line, late_line, trigger_line, acts_in, Stands}
+use Rattle.hs_intake.specs.Taking.{StopsBy, TakesMany, TakesLine, TakesTriggers, TakesBack, MakesTurn, ForgetsOldest, StatesIt, is_idle_in, is_heard_by}
+use Rattle.hs_intake.proofs.Acts.{life_append}
+use Rattle.hs_node.specs.Nodes.{PlainNode, is_unspent}
+use Rattle.hs_node.specs.declared.pass.TheConstants.{MOST_NOTES, MOST_OFFERS}
+use Rattle.hs_base.specs.declared.limits.TheConstants.{MAX_TAKEN}
+use Rattle.hs_node.specs.Passing.{Doing, Then, Each, Until, Hears, HearsFrom, HearsAll, TakesChunks, TakesCrumbs, TakesLates, TakesTriggersOf, TakesFrom, TakesAll, TakesAsked, SaysFirst, TakesFront, Takes, OffersOne, OffersAll, StatesNext, LooksOn, StatesOne, StatesAll, ForgetsOne, ForgetsAll, is_stated}
+use Rattle.hs_law_life.specs.NodeLives.{IsSettledAt, AreSettled, takings, chunks_of, front_of, received_of, run_by, HasLived, TurnsUnspent, Makes}
+use Rattle.hs_law_life.proofs.Sparing.{settled_both}
+use Rattle.hs_law_life.proofs.Counts.{Counts, counts_none, chunks_append, takings_none, chunk_stops, IsOther, other_same, other_stops}
+
+-- ---- the lines
+
+crumbs_other : IsOther crumb_line
+crumbs_other = record { takes = λ client x. refl; waits = λ k client x. refl; keeps = λ lines ends. refl }
+
+lates_other : IsOther late_line
+lates_other = record { takes = λ client x. refl; waits = λ k client x. refl; keeps = λ lines ends. refl }
+
+triggers_other : IsOther trigger_line
+triggers_other = record { takes = λ client x. refl; waits = λ k client x. refl; keeps = λ lines ends. refl }
+
+settled_map : {T : Type 0} (f : T → Act) → ((run : Run Leased) (x : T) → IsSettledAt run (f x)) → (xs : List T) (run : Run Leased) → AreSettled run (map f xs)
+settled_map f each [] run = tt
+settled_map f each (x ∷ xs) run = (each run x, settled_map f each xs (after_act run (f x)))
+
+settled_front_act : (back : Option Waiting) (run : Run Leased) → AreSettled run (acts_in back)
+settled_front_act None run = tt
+settled_front_act (Some (Chunk client buffer)) run = (tt, tt)
+settled_front_act (Some (Crumbs client crumb)) run = (tt, tt)
+settled_front_act (Some (Triggers client trigger)) run = (tt, tt)
+
+-- ---- a life goes on
+
+module _ (settings : PlainSettings) (node : ℕ) where
+  abbrev Lived : List Act → PlainIntake → Type 0
+  Lived acts d = HasLived settings node acts d
+
+  abbrev More : List Act → PlainIntake → Type 0
+  More acts d = (more : List Act) × HasLived settings node (acts ++ more) d
+
+  abbrev Leads : Doing → Type 0
+  Leads part = (acts : List Act) (old new : PlainNode) → Lived acts old.intake → part (run_by settings node acts) old new → More acts new.intake
+
+  lived_more : (acts more : List Act) (old new : PlainIntake) → Lived acts old → Stands (life (run_by settings node acts) more) new → AreSettled (run_by settings node acts) more → Counts more old new → More acts new
+  lived_more acts more old new lived stands settled counts = (
+    more,
+    record {
+      stands = subst (λ (r : Run Leased). Stands r new) (sym (life_append acts more (bare_run settings node))) stands;
+      settled = settled_both acts more (bare_run settings node) lived.settled settled;
+      took = λ client.
+          counts client (chunks_of client acts) (lived.took client) ∙ sym (append_assoc (chunks_of client acts) (chunks_of client more) (front_of client new))
+          ∙ ap (λ (l : List (Buffer Leased)). l ++ front_of client new) (sym (chunks_append client acts more));
+    },
+  )
+
+  still : (acts : List Act) (old new : PlainIntake) → Lived acts old → new ≡ old → More acts new
+  still acts old new lived same =
+      ([], subst (λ (l : List Act). HasLived settings node l new) (sym (append-nil acts)) (subst (λ (d : PlainIntake). HasLived settings node acts d) (sym same) lived))
+
+  -- what is said, claimed and asked is none of it
+  pub quiet : (acts : List Act) (d : PlainIntake) (mail : Letters) (inbox : PlainInbox) (claims : PlainClaims) (unsaid : Option Told) → inbox.rules ≡ d.inbox.rules → Lived acts d
+      → Lived acts (record d { mail = mail; inbox = inbox; claims = claims; unsaid = unsaid })
+  quiet acts d mail inbox claims unsaid rules lived =
+      let s = lived.stands in
+      record {
+        stands =
+            record {
+              follows = s.follows;
+              offered = s.offered;
+              size = s.size;
+              chunks = s.chunks;
+              crumbs = s.crumbs;
+              triggers = s.triggers;
+              late = s.late;
+              pooled = s.pooled;
+              waits = s.waits;
+              inbox = rules ∙ s.inbox;
+            };
+        settled = lived.settled;
+        took = lived.took;
+      }
+
+  still_quiet : (acts : List Act) (old new : PlainIntake) (mail : Letters) (claims : PlainClaims) (unsaid : Option Told) → Lived acts old → new ≡ record old { mail = mail; claims = claims; unsaid = unsaid } → More acts new
+  still_quiet acts old new mail claims unsaid lived is =
+      still acts (record old { mail = mail; claims = claims; unsaid = unsaid }) new (quiet acts old mail old.inbox claims unsaid refl lived) is
+
+  -- ---- one part after another
+
+  then_leads : (a b : Doing) → Leads a → Leads b → Leads (Then a b)
+  then_leads a b one two acts old new lived both =
+      let first = one acts old both.mid lived both.does in
+      let second = two (acts ++ first.0) both.mid new first.1 (both.next (run_by settings node (acts ++ first.0)) first.1.stands) in
+      (first.0 ++ second.0, subst (λ (l : List Act). HasLived settings node l new.intake) (append_assoc acts first.0 second.0) second.1)
+
+  each_leads : (part : ℕ → Doing) → ((n : ℕ) → Leads (part n)) → (n : ℕ) → Leads (Each part n)
+  each_leads part leads zero acts old new lived same = still acts old.intake new.intake lived (ap (λ (d : PlainNode). d.intake) same)
+  each_leads part leads (suc n) acts old new lived both = then_leads (Each part n) (part n) (each_leads part leads n) (leads n) acts old new lived both
+
+  until_leads : (part : Bool → Doing) (most : ℕ) → ((b : Bool) → Leads (part b)) → Leads (Until part most)
+  until_leads part most leads acts old new lived u = go u.ends
+    where
+      first : More acts u.mid.intake
+      first = each_leads (λ n. part true) (λ n. leads true) u.count acts old u.mid lived u.does
+
+      go : ((u.count ≡ most) × (new ≡ u.mid)) ⊎ ((later : Run Leased) → Stands later u.mid.intake → part false later u.mid new) → More acts new.intake
+      go (inl (full, same)) = (first.0, subst (λ (d : PlainNode). HasLived settings node (acts ++ first.0) d.intake) (sym same) first.1)
+      go (inr next) =
+          let second = leads false (acts ++ first.0) u.mid new first.1 (next (run_by settings node (acts ++ first.0)) first.1.stands) in
+          (first.0 ++ second.0, subst (λ (l : List Act). HasLived settings node l new.intake) (append_assoc acts first.0 second.0) second.1)
+
+  -- ---- notes
+
+  hears : (client : ℕ) (b : Bool) → Leads (Hears client b)
+  hears client true acts old new lived (segment, receives, notes, is) = still acts old.intake new.intake lived (ap (λ (d : PlainNode). d.intake) is)
+  hears client false acts old new lived (same, why) = still acts old.intake new.intake lived (ap (λ (d : PlainNode). d.intake) same)
+
+  hears_from : (client : ℕ) → Leads (HearsFrom client)
+  hears_from client = until_leads (Hears client) MOST_NOTES (hears client)
+
+  hears_all : Leads HearsAll
+  hears_all acts old new lived each = each_leads HearsFrom hears_from old.clients acts old new lived each
+
+  -- ---- what clients sent
+
+  chunks_lead : (client : ℕ) (acts : List Act) (old : PlainIntake) (took : Took) (new : PlainIntake) → Lived acts old → TakesLine (run_by settings node acts) chunk_line client old took new → More acts new
+  chunks_lead client acts old took new lived (inl (high, (is, same))) = still acts old new lived same
+  chunks_lead client acts old took new lived (inr (inl (low, (front, (is, same))))) = still acts old new lived same
+  chunks_lead client acts old took new lived (inr (inr (low, (front, many)))) =
+      lived_more acts (map (TakesChunk client) many.items) old new lived many.goes.stands (settled_map (TakesChunk client) (λ run x. tt) many.items (run_by settings node acts))
+      (chunk_stops client many.items old took.stop new front many.stops)
+
+  many_leads : {T : Type 0} (line : Line T) → IsOther line → ((client : ℕ) (run : Run Leased) (x : T) → IsSettledAt run (line.takes client x)) → (client : ℕ) (acts : List Act) (old : PlainIntake) (took : Took) (new : PlainIntake)
+      → Lived acts old → old.back ≡ None → TakesMany (run_by settings node acts) line client old took new → More acts new
+  many_leads line other settled client acts old took new lived front many =
+      lived_more acts (map (line.takes client) many.items) old new lived many.goes.stands (settled_map (line.takes client) (settled client) many.items (run_by settings node acts))
+      (other_stops line other client many.items old took.stop new front many.stops)
+
+  line_leads : {T : Type 0} (line : Line T) → IsOther line → ((client : ℕ) (run : Run Leased) (x : T) → IsSettledAt run (line.takes client x)) → (client : ℕ) (acts : List Act) (old : PlainIntake) (took : Took) (new : PlainIntake)
+      → Lived acts old → TakesLine (run_by settings node acts) line client old took new → More acts new
+  line_leads line other settled client acts old took new lived (inl (high, (is, same))) = still acts old new lived same
+  line_leads line other settled client acts old took new lived (inr (inl (low, (front, (is, same))))) = still acts old new lived same
+  line_leads line other settled client acts old took new lived (inr (inr (low, (front, many)))) = many_leads line other settled client acts old took new lived front many
+
+  takes_chunks : (client : ℕ) → Leads (TakesChunks client)
+  takes_chunks client acts old new lived (took, takes, is) = chunks_lead client acts old.intake took new.intake lived takes
+
+  takes_crumbs : (client : ℕ) → Leads (TakesCrumbs client)
+  takes_crumbs client acts old new lived (took, takes, is) = line_leads crumb_line crumbs_other (λ c run x. tt) client acts old.intake took new.intake lived takes
+
+  takes_lates : (client : ℕ) → Leads (TakesLates client)
+  takes_lates client acts old new lived (took, takes, is) = line_leads late_line lates_other (λ c run x. tt) client acts old.intake took new.intake lived takes
+
+  triggers_lead : (client : ℕ) (acts : List Act) (old : PlainIntake) (took : _) (new : PlainIntake) → Lived acts old → TakesTriggers (run_by settings node acts) client old took new → More acts new
+  triggers_lead client acts old took new lived (inl (high, (is, same))) = still acts old new lived same
+  triggers_lead client acts old took new lived (inr (inl (low, (front, (is, same))))) = still acts old new lived same
+  triggers_lead client acts old took new lived (inr (inr (low, (front, inl (room, (many, limited)))))) =
+      many_leads trigger_line triggers_other (λ c run x. tt) client acts old took.took new lived front many
+  triggers_lead client acts old took new lived (inr (inr (low, (front, inr (short, drops))))) =
+      lived_more acts [] old new lived drops.stands tt
+      (counts_none [] old new (other_same trigger_line triggers_other client drops.items old new drops.moves) (λ k. ap (λ (d : PlainIntake). front_of k d) drops.only) refl)
+
+  takes_triggers : (client : ℕ) → Leads (TakesTriggersOf client)
+  takes_triggers client acts old new lived (took, takes, is) = triggers_lead client acts old.intake took new.intake lived takes
+
+  takes_from : (client : ℕ) → Leads (TakesFrom client)
+  takes_from client =
+      then_leads (HearsFrom client) (Then (TakesChunks client) (Then (TakesCrumbs client) (Then (TakesLates client) (TakesTriggersOf client)))) (hears_from client)
+      (then_leads (TakesChunks client) (Then (TakesCrumbs client) (Then (TakesLates client) (TakesTriggersOf client))) (takes_chunks client)
+      (then_leads (TakesCrumbs client) (Then (TakesLates client) (TakesTriggersOf client)) (takes_crumbs client)
+      (then_leads (TakesLates client) (TakesTriggersOf client) (takes_lates client) (takes_triggers client))))
+
+  takes_all : Leads TakesAll
+  takes_all acts old new lived each = each_leads TakesFrom takes_from old.clients acts old new lived each
+
+  takes_asked : Leads TakesAsked
+  takes_asked acts old new lived (took, takes, is) =
+      lived_more acts (map TakesAsk takes.asks) old.intake new.intake lived takes.goes.stands (settled_map TakesAsk (λ run x. tt) takes.asks (run_by settings node acts))
+      (counts_none (map TakesAsk takes.asks) old.intake new.intake (ap (λ (d : PlainIntake). d.port.chunks) takes.only) (λ k. ap (λ (d : PlainIntake). front_of k d) takes.only)
+      (takings_none TakesAsk (λ x. refl) takes.asks))
+
+  says_first : Leads SaysFirst
+  says_first acts old new lived (says, is) =
+      still_quiet acts old.intake new.intake new.intake.mail new.intake.claims new.intake.unsaid lived (ap (λ (d : PlainNode). d.intake) is)
+
+  -- what waited at the front is taken
+  back_leads : (did : Bool) (acts : List Act) (old new : PlainIntake) → Lived acts old → TakesBack (run_by settings node acts) old did new → More acts new
+  back_leads true acts old new lived (free, (lines, (clients, goes))) =
+      lived_more acts (acts_in old.back) old new lived goes.stands (settled_front_act old.back (run_by settings node acts))
+      (λ client before is.
+      ap (λ (l : Lines). option_map_or (λ (r : _). r.received) (slice_get l.port.chunks client) []) lines ∙ is
+      ∙ ap (λ (l : List (Buffer Leased)). before ++ l) (sym (append-nil (front_of client old)) ∙ ap (λ (o : Option Waiting). front_of client old ++ chunks_of client (acts_in o)) (sym free)))
+  back_leads false acts old new lived (there, same) = still acts old new lived same
+
+  takes_front : Leads TakesFront
+  takes_front acts old new lived (did, takes, is) = back_leads did acts old.intake new.intake lived takes
+
+  takes : Leads Takes
+  takes =
+      then_leads SaysFirst (Then TakesFront (Then TakesAll (Then TakesAsked HearsAll))) says_first
+      (then_leads TakesFront (Then TakesAll (Then TakesAsked HearsAll)) takes_front
+      (then_leads TakesAll (Then TakesAsked HearsAll) takes_all (then_leads TakesAsked HearsAll takes_asked hears_all)))
+
+  -- ---- a turn, and the hand
+
+  turn_leads : (did : Turned) (acts : List Act) (old new : PlainIntake) → Lived acts old → is_unspent did ≡ true → MakesTurn (run_by settings node acts) old did new → More acts new
+  turn_leads turned.Done acts old new lived unspent (places, (is, goes)) =
+      lived_more acts (Turns ∷ []) old new lived goes.stands (tt, tt)
+      (counts_none (Turns ∷ []) old new (ap (λ (d : PlainIntake). d.port.chunks) is) (λ k. ap (λ (d : PlainIntake). front_of k d) is) refl)
+  turn_leads turned.Full acts old new lived unspent (none, same) = still acts old new lived same
+  turn_leads turned.Spent acts old new lived unspent makes = absurd cc
+
+  turns : Leads TurnsUnspent
+  turns acts old new lived (did, unspent, makes, is) = turn_leads did acts old.intake new.intake lived unspent makes
+
+  offers_one : (b : Bool) → Leads (OffersOne b)
+  offers_one true acts old new lived (parted, given, (only, (says, offers)), notes, is) =
+      lived_more acts (LetsGo offers.answer offers.back ∷ []) old.intake new.intake lived offers.stands (tt, tt)
+      (counts_none (LetsGo offers.answer offers.back ∷ []) old.intake new.intake (ap (λ (d : PlainIntake). d.port.chunks) only) (λ k. ap (λ (d : PlainIntake). front_of k d) only) refl)
+  offers_one false acts old new lived (same, why) = still acts old.intake new.intake lived (ap (λ (d : PlainNode). d.intake) same)
+
+  offers_all : Leads OffersAll
+  offers_all acts old new lived until = until_leads OffersOne MOST_OFFERS offers_one acts old new lived until
+
+  -- ---- claims
+
+  states_it : (standing : Standing) (did : Stated) (acts : List Act) (old new : PlainIntake) → Lived acts old → StatesIt old standing did new → More acts new
+  states_it standing stated.Said acts old new lived (news, (number, posts, is)) = still_quiet acts old new new.mail new.claims old.unsaid lived (is ∙ ap (λ (c : PlainClaims). record old { mail = new.mail; claims = c }) (sym (ap (λ (d : PlainIntake). d.claims) is)))
+  states_it standing stated.Known acts old new lived (known, same) = still acts old new lived same
+  states_it standing (stated.Waits fault) acts old new lived (news, (same, posts)) = still acts old new lived same
+
+  states_next : (b : Bool) → Leads (StatesNext b)
+  states_next true acts old new lived (claim, did, said, at, states, is) = states_it _ did acts old.intake new.intake lived states
+  states_next false acts old new lived (same, why) = still acts old.intake new.intake lived (ap (λ (d : PlainNode). d.intake) same)
+
+  looks_on : Leads LooksOn
+  looks_on acts old new lived is =
+      still_quiet acts old.intake new.intake old.intake.mail new.intake.claims old.intake.unsaid lived
+      (ap (λ (d : PlainNode). d.intake) is ∙ ap (λ (c : PlainClaims). record old.intake { claims = c }) (sym (ap (λ (d : PlainNode). d.intake.claims) is)))
+
+  states_one : (b : Bool) → Leads (StatesOne b)
+  states_one true = then_leads (StatesNext true) LooksOn (states_next true) looks_on
+  states_one false = states_next false
+
+  states_all : Leads StatesAll
+  states_all acts old new lived (inl (some, same)) = still acts old.intake new.intake lived (ap (λ (d : PlainNode). d.intake) same)
+  states_all acts old new lived (inr (none, until)) = until_leads StatesOne MAX_TAKEN states_one acts old new lived until
+
+  forgets_one : (b : Bool) → Leads (ForgetsOne b)
+  forgets_one true acts old new lived (above, (one, oldest, due, only, stands), is) =
+      lived_more acts (Forgets one.group ∷ []) old.intake new.intake lived stands (second_true _ (is_settled one.group (state_of (run_by settings node acts))) due, tt)
+      (counts_none (Forgets one.group ∷ []) old.intake new.intake (ap (λ (d : PlainIntake). d.port.chunks) only) (λ k. ap (λ (d : PlainIntake). front_of k d) only) refl)
+  forgets_one false acts old new lived (same, why) = still acts old.intake new.intake lived (ap (λ (d : PlainNode). d.intake) same)
+
+  forgets_all : Leads ForgetsAll
+  forgets_all = until_leads ForgetsOne MAX_TAKEN forgets_one
+
+  -- ---- a pass
+
+  pub makes : Leads Makes
+  makes =
+      then_leads Takes (Then TurnsUnspent (Then OffersAll (Then StatesAll ForgetsAll))) takes
+      (then_leads TurnsUnspent (Then OffersAll (Then StatesAll ForgetsAll)) turns
+      (then_leads OffersAll (Then StatesAll ForgetsAll) offers_all (then_leads StatesAll ForgetsAll states_all forgets_all)))
