@@ -1,7 +1,5 @@
 -- The acts of a node in its agent's model: they lead where the model's acts lead, and bring the pages of the chunks that they take.
-use Rattle.std.proofs.Common.{◌≡◌, ℕ, Bool, true, false, cond, List, [], ◌∷◌, ◌++◌, map, Option, Some, None, refl, sym, ap, subst, ◌∙◌, append_assoc, append-nil, slice_get}
-use Rattle.std.specs.Prelude.{fold}
-use Rattle.std.specs.List.{AllByRecursion}
+use Rattle.std.proofs.Common.{◌≡◌, ℕ, Bool, true, false, cond, List, [], ◌∷◌, ◌++◌, map, Option, Some, refl, sym, ap, subst, ◌∙◌, append_assoc, append-nil, slice_get}
 use Rattle.std.specs.Option.{option_map_or}
 use Rattle.std.proofs.lemmas.Bool.{cond-true}
 use Rattle.std.proofs.lemmas.List.Elements.{filter_map-append}
@@ -9,7 +7,6 @@ use Rattle.std.proofs.lemmas.List.Sums.{fold-append}
 use Rattle.hs_lists.proofs.Parts.{map_append}
 use Rattle.hs_lists.proofs.Alls.{all_at}
 use Rattle.hs_lists.proofs.Places.{get_map, get_unmap}
-use Rattle.hs_base.specs.declared.told.Group.{Group}
 use Rattle.hs_base.specs.declared.told.Trigger.{Trigger}
 use Rattle.hs_records.specs.Plain.{PlainSettings}
 use Rattle.hs_words.specs.Pages.{Sheet}
@@ -17,7 +14,7 @@ use Rattle.hs_ring.specs.Parts.{Leased}
 use Rattle.hs_law_agent.specs.Standings.{ChunkStanding, Indexed, Pinned, Reported, Evicted, Abandoned, Taken, trace_of, is_pinned, is_reported, is_let_go}
 use Rattle.hs_law_agent.specs.State.{AgentState, start}
 use Rattle.hs_law_agent.specs.Stepping.{AgentEvent, Took, Gave, Triggered, after_from}
-use Rattle.hs_law_agent.specs.Laws.{EventsAddThis, WasOver, brought_by, count_of, given_places, sheets_of}
+use Rattle.hs_law_agent.specs.Laws.{EventsAddThis, WasOver, brought_by, sheets_of}
 use Rattle.hs_law_agent.specs.Lives.{EventsLeadOn, GoesOnWell, HeldByClaim, IsGood, LivesGoOnWell, forget_group, is_settled}
 use Rattle.hs_law_agent.specs.Lives as model
 use Rattle.hs_agent.specs.Points.{sheet_in}
@@ -25,7 +22,7 @@ use Rattle.hs_agent.specs.Runs.{Run, bare_run, state_of}
 use Rattle.hs_agent.specs.Tries.{after_trigger}
 use Rattle.hs_intake.specs.Intakes.{Act, TakesChunk, TakesCrumb, TakesTrigger, TakesAsk, Turns, LetsGo, Forgets, after_act, life, has_left}
 use Rattle.hs_law_agent.specs.Stepping as steps
-use Rattle.hs_law_life.specs.NodeLives.{IsSettledAt, AreSettled, model_of, model_in, takings, taking_of, Taking, page_of, run_by, state_by, IsCounted, HasFate, IsFound, IsWell}
+use Rattle.hs_law_life.specs.NodeLives.{IsSettledAt, AreSettled, model_of, model_in, takings, taking_of, Taking, page_of, state_by, IsCounted, HasFate, IsFound, IsWell}
 
 -- ---- settings
 

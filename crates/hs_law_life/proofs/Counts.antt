@@ -1,5 +1,5 @@
 -- Which chunks of a client came, where its agent took these.
-use Rattle.std.proofs.Common.{◌≡◌, ℕ, zero, suc, ◌==◌, Bool, true, false, cond, List, [], ◌∷◌, ◌++◌, map, Option, Some, None, refl, sym, ap, subst, ◌∙◌, append_assoc, append-nil, slice_get}
+use Rattle.std.proofs.Common.{◌≡◌, ℕ, zero, suc, ◌==◌, Bool, true, false, cond, List, [], ◌∷◌, ◌++◌, map, Option, Some, None, refl, sym, ap, subst, ◌∙◌, append-nil, slice_get}
 use Rattle.std.specs.Prelude.{slice_set, filter_map}
 use Rattle.std.specs.Option.{option_map_or}
 use Rattle.std.proofs.lemmas.Bool.{eqb-true, eqb-false}
@@ -11,7 +11,7 @@ use Rattle.hs_link.specs.Contents.{Incoming}
 use Rattle.hs_live.specs.Keys.{Key}
 use Rattle.hs_intake.specs.declared.took.Stop.{Stop}
 use Rattle.hs_intake.specs.declared.took.Stop.TheVariants.{Empty, Most, Memory, Words, Claims}
-use Rattle.hs_intake.specs.Intakes.{PlainIntake, Waiting, Chunk, Act, TakesChunk, Line, Lines, lines_of, chunk_line, acts_in}
+use Rattle.hs_intake.specs.Intakes.{PlainIntake, Waiting, Act, TakesChunk, Line, Lines, lines_of, chunk_line, acts_in}
 use Rattle.hs_intake.specs.Taking.{Receives, Moves, StopsBy}
 use Rattle.hs_intake.proofs.Lines.{get_set}
 use Rattle.hs_law_life.specs.NodeLives.{Taking, taking_of, takings, of_client, chunks_of, front_of, received_of}

@@ -14,7 +14,7 @@ use Rattle.hs_live.specs.Live.{PlainClient, IsEnd}
 use Rattle.hs_node_client.specs.Lives.{ClientLife}
 use Rattle.hs_intake.specs.Intakes.{PlainIntake, Act}
 use Rattle.hs_law_life.specs.ClientLives.{AllStand, IsOnItsWay}
-use Rattle.hs_law_life.specs.NodeLives.{Taking, takings, of_client, chunks_of, front_of, received_of, HasLived, IsWell}
+use Rattle.hs_law_life.specs.NodeLives.{Taking, takings, of_client, chunks_of, front_of, HasLived, IsWell}
 use Rattle.hs_law_life.specs.Following.{IsFollowed}
 
 abbrev of : ℕ → Buffer Leased → Taking

@@ -1,5 +1,5 @@
 -- A life begins where nothing was taken, and what is said and delivered adds no act.
-use Rattle.std.proofs.Common.{◌≡◌, ℕ, ◌<◌, List, [], ◌++◌, length, Option, Some, None, refl, sym, ap, ◌∙◌, arith, slice_get}
+use Rattle.std.proofs.Common.{◌≡◌, ℕ, ◌<◌, List, [], length, Option, Some, None, refl, sym, ap, ◌∙◌, arith, slice_get}
 use Rattle.std.specs.Option.{option_map_or}
 use Rattle.hs_words.specs.Buffers.{Buffer}
 use Rattle.hs_ring.specs.Parts.{Leased}

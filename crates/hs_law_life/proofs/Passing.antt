@@ -1,5 +1,5 @@
 -- How the life of a node goes on by each part of a pass.
-use Rattle.std.proofs.Common.{◌≡◌, ℕ, zero, suc, Bool, true, false, ◌&&◌, inl, inr, List, [], ◌∷◌, ◌++◌, map, length, Option, Some, None, refl, sym, ap, subst, ◌∙◌, append_assoc, append-nil, slice_get}
+use Rattle.std.proofs.Common.{◌≡◌, ℕ, zero, suc, Bool, true, false, inl, inr, List, [], ◌∷◌, ◌++◌, map, Option, Some, None, refl, sym, ap, subst, ◌∙◌, append_assoc, append-nil, slice_get}
 use Rattle.std.specs.Prelude.{◌⊎◌}
 use Rattle.std.specs.Option.{option_map_or}
 use Rattle.hs_base.specs.declared.told.Told.{Told}
@@ -18,14 +18,14 @@ use Rattle.hs_intake.specs.declared.took.Turned.TheVariants as turned
 use Rattle.hs_intake.specs.declared.took.Stated.{Stated}
 use Rattle.hs_intake.specs.declared.took.Stated.TheVariants as stated
 use Rattle.hs_intake.specs.declared.took.Took.{Took}
-use Rattle.hs_intake.specs.Intakes.{PlainIntake, Waiting, Chunk, Crumbs, Triggers, Act, TakesChunk, TakesCrumb, TakesTrigger, TakesAsk, Turns, LetsGo, Forgets, after_act, life, Line, Lines, chunk_line, crumb_line, late_line, trigger_line, acts_in, Stands}
-use Rattle.hs_intake.specs.Taking.{StopsBy, TakesMany, TakesLine, TakesTriggers, TakesBack, MakesTurn, ForgetsOldest, StatesIt, is_idle_in, is_heard_by}
+use Rattle.hs_intake.specs.Intakes.{PlainIntake, Waiting, Chunk, Crumbs, Triggers, Act, TakesChunk, TakesAsk, Turns, LetsGo, Forgets, after_act, life, Line, Lines, chunk_line, crumb_line, late_line, trigger_line, acts_in, Stands}
+use Rattle.hs_intake.specs.Taking.{TakesMany, TakesLine, TakesTriggers, TakesBack, MakesTurn, StatesIt}
 use Rattle.hs_intake.proofs.Acts.{life_append}
 use Rattle.hs_node.specs.Nodes.{PlainNode, is_unspent}
 use Rattle.hs_node.specs.declared.pass.TheConstants.{MOST_NOTES, MOST_OFFERS}
 use Rattle.hs_base.specs.declared.limits.TheConstants.{MAX_TAKEN}
-use Rattle.hs_node.specs.Passing.{Doing, Then, Each, Until, Hears, HearsFrom, HearsAll, TakesChunks, TakesCrumbs, TakesLates, TakesTriggersOf, TakesFrom, TakesAll, TakesAsked, SaysFirst, TakesFront, Takes, OffersOne, OffersAll, StatesNext, LooksOn, StatesOne, StatesAll, ForgetsOne, ForgetsAll, is_stated}
-use Rattle.hs_law_life.specs.NodeLives.{IsSettledAt, AreSettled, takings, chunks_of, front_of, received_of, run_by, HasLived, TurnsUnspent, Makes}
+use Rattle.hs_node.specs.Passing.{Doing, Then, Each, Until, Hears, HearsFrom, HearsAll, TakesChunks, TakesCrumbs, TakesLates, TakesTriggersOf, TakesFrom, TakesAll, TakesAsked, SaysFirst, TakesFront, Takes, OffersOne, OffersAll, StatesNext, LooksOn, StatesOne, StatesAll, ForgetsOne, ForgetsAll, Passes}
+use Rattle.hs_law_life.specs.NodeLives.{IsSettledAt, AreSettled, chunks_of, front_of, run_by, HasLived, IsUnspent}
 use Rattle.hs_law_life.proofs.Sparing.{settled_both}
 use Rattle.hs_law_life.proofs.Counts.{Counts, counts_none, chunks_append, takings_none, chunk_stops, IsOther, other_same, other_stops}
 
@@ -230,9 +230,6 @@ module _ (settings : PlainSettings) (node : ℕ) where
   turn_leads turned.Full acts old new lived unspent (none, same) = still acts old new lived same
   turn_leads turned.Spent acts old new lived unspent makes = absurd cc
 
-  turns : Leads TurnsUnspent
-  turns acts old new lived (did, unspent, makes, is) = turn_leads did acts old.intake new.intake lived unspent makes
-
   offers_one : (b : Bool) → Leads (OffersOne b)
   offers_one true acts old new lived (parted, given, (only, (says, offers)), notes, is) =
       lived_more acts (LetsGo offers.answer offers.back ∷ []) old.intake new.intake lived offers.stands (tt, tt)
@@ -277,8 +274,18 @@ module _ (settings : PlainSettings) (node : ℕ) where
 
   -- ---- a pass
 
-  pub makes : Leads Makes
-  makes =
-      then_leads Takes (Then TurnsUnspent (Then OffersAll (Then StatesAll ForgetsAll))) takes
-      (then_leads TurnsUnspent (Then OffersAll (Then StatesAll ForgetsAll)) turns
-      (then_leads OffersAll (Then StatesAll ForgetsAll) offers_all (then_leads StatesAll ForgetsAll states_all forgets_all)))
+  -- what comes behind the turn
+  behind : Leads (Then OffersAll (Then StatesAll ForgetsAll))
+  behind = then_leads OffersAll (Then StatesAll ForgetsAll) offers_all (then_leads StatesAll ForgetsAll states_all forgets_all)
+
+  pub passes_lead : (acts : List Act) (old new : PlainNode) → Lived acts old.intake → (passes : Passes (run_by settings node acts) old new) → IsUnspent (run_by settings node acts) old new passes → More acts new.intake
+  passes_lead acts old new lived passes unspent =
+      let first = takes acts old passes.mid lived passes.does in
+      let one = acts ++ first.0 in
+      let turn = passes.next (run_by settings node one) first.1.stands in
+      let second = turn_leads turn.does.0 one passes.mid.intake turn.mid.intake first.1 (unspent (run_by settings node one) first.1.stands) turn.does.1 in
+      let two = one ++ second.0 in
+      let third = behind two turn.mid new second.1 (turn.next (run_by settings node two) second.1.stands) in (
+        first.0 ++ (second.0 ++ third.0),
+        subst (λ (l : List Act). HasLived settings node l new.intake) (append_assoc one second.0 third.0 ∙ append_assoc acts first.0 (second.0 ++ third.0)) third.1,
+      )

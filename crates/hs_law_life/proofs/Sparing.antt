@@ -12,11 +12,11 @@ use Rattle.hs_records.specs.Plain.{PlainSettings}
 use Rattle.hs_words.specs.Pages.{Sheet}
 use Rattle.hs_ring.specs.Parts.{Leased}
 use Rattle.hs_law_agent.specs.Standings.{Taken, trace_of, is_of_trace, is_evicted, stands}
-use Rattle.hs_law_agent.specs.State.{AgentState, ClaimedTrace, claim_of, is_claimed, start}
-use Rattle.hs_law_agent.specs.Stepping.{AgentEvent, Took, Gave, Triggered, after_event, after_from}
+use Rattle.hs_law_agent.specs.State.{AgentState, ClaimedTrace, claim_of, is_claimed}
+use Rattle.hs_law_agent.specs.Stepping.{AgentEvent, Took, Gave, Triggered, after_from}
 use Rattle.hs_law_agent.specs.Stepping as steps
 use Rattle.hs_law_agent.specs.Laws.{EventsAddThis, claiming_group, sheets_of}
-use Rattle.hs_law_agent.specs.Lives.{ClaimsStand, EventsLeadOn, GoesOnWell, IsGood, LivesGoOnWell, NothingClaimedGoes}
+use Rattle.hs_law_agent.specs.Lives.{ClaimsStand, EventsLeadOn, IsGood, LivesGoOnWell, NothingClaimedGoes}
 use Rattle.hs_law_agent.specs.Lives as model
 use Rattle.hs_agent.specs.Points.{sheet_in}
 use Rattle.hs_agent.specs.Runs.{Run, bare_run, state_of}
@@ -24,7 +24,7 @@ use Rattle.hs_agent.specs.Tries.{after_trigger}
 use Rattle.hs_intake.specs.Intakes.{Act, TakesChunk, TakesCrumb, TakesTrigger, TakesAsk, Turns, LetsGo, Forgets, after_act, life, has_left}
 use Rattle.hs_intake.proofs.Acts.{life_append}
 use Rattle.hs_law_life.specs.NodeLives.{AreSettled, IsSettledAt, model_of, takings, page_of, run_by, state_by, Keeps, IsSpared}
-use Rattle.hs_law_life.proofs.Acts.{settings_kept, node_kept, state_step, good_life, good_by, act_pages}
+use Rattle.hs_law_life.proofs.Acts.{settings_kept, state_step, good_life, good_by, act_pages}
 
 -- ---- settled acts in two parts
 

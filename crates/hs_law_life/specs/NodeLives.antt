@@ -1,7 +1,6 @@
 -- The life of a node: the acts of its agent since the node was made. What they come to in the agent's model, which chunks they took of each
 -- client, and what holds of these.
 use Rattle.std.specs.Prelude.{◌≡◌, ℕ, ◌==◌, true, false, List, [], ◌∷◌, ◌++◌, map, filter_map, slice_get, Option, Some, None, if◌then◌else◌, refl}
-use Rattle.std.specs.List.{AllByRecursion}
 use Rattle.std.specs.Option.{option_map_or}
 use Rattle.hs_base.specs.declared.ids.TraceId.{TraceId}
 use Rattle.hs_base.specs.declared.told.Group.{Group}
@@ -22,11 +21,9 @@ use Rattle.hs_law_agent.specs.Lives as model
 use Rattle.hs_law_agent.specs.Samples.{settings_with, chunk, trigger, group}
 use Rattle.hs_agent.specs.Points.{sheet_in}
 use Rattle.hs_agent.specs.Runs.{Run, bare_run, state_of}
-use Rattle.hs_intake.specs.declared.took.Turned.{Turned}
 use Rattle.hs_intake.specs.Intakes.{PlainIntake, Act, TakesChunk, TakesCrumb, TakesTrigger, TakesAsk, Turns, LetsGo, Forgets, after_act, life, has_left, acts_in, Stands}
-use Rattle.hs_intake.specs.Taking.{MakesTurn}
-use Rattle.hs_node.specs.Nodes.{is_unspent}
-use Rattle.hs_node.specs.Passing.{Doing, Then, Takes, OffersAll, StatesAll, ForgetsAll}
+use Rattle.hs_node.specs.Nodes.{PlainNode, is_unspent}
+use Rattle.hs_node.specs.Passing.{Passes}
 
 -- ---- acts in the agent's model
 
@@ -111,13 +108,9 @@ pub record HasLived (settings : PlainSettings) (node : ℕ) (acts : List Act) (d
   pub settled : AreSettled (bare_run settings node) acts
   pub took : (client : ℕ) → received_of client d ≡ chunks_of client acts ++ front_of client d
 
--- A turn that did not spend the agent.
-abbrev pub TurnsUnspent : Doing
-TurnsUnspent run old new = (did : Turned) × (is_unspent did ≡ true) × MakesTurn run old.intake did new.intake × (new ≡ record old { intake = new.intake })
-
--- A pass whose turn did not spend the agent.
-abbrev pub Makes : Doing
-Makes = Then Takes (Then TurnsUnspent (Then OffersAll (Then StatesAll ForgetsAll)))
+-- The turn of a pass did not spend the agent.
+abbrev pub IsUnspent : (run : Run Leased) (old new : PlainNode) → Passes run old new → Type 0
+IsUnspent run old new passes = (later : Run Leased) (stands : Stands later passes.mid.intake) → is_unspent (passes.next later stands).does.0 ≡ true
 
 -- ---- what holds in a life
 

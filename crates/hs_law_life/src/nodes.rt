@@ -12,23 +12,37 @@ ghost use Rattle.hs_live.specs.Live.{PlainClient, IsEnd};
 ghost use Rattle.hs_mail.specs.Letters.{Letters};
 ghost use Rattle.hs_node.specs.declared.making.MadeNode.{MadeNode};
 ghost use Rattle.hs_node.specs.Made.{IsMadeBy, run_settings};
-ghost use Rattle.hs_node.specs.Nodes.{PlainNode, with_mail};
+ghost use Rattle.hs_node.specs.Nodes.{PlainNode, GoesOn, with_mail};
+ghost use Rattle.hs_node.specs.Passing.{Passes};
 ghost use Rattle.hs_node_client.specs.Lives.{ClientLife, HasLife};
 ghost use Rattle.hs_records.specs.Plain.{PlainSettings};
 ghost use Rattle.hs_ring.specs.Parts.{Leased};
 ghost use Rattle.hs_settings.specs.Settings.{PlainService};
 ghost use Rattle.hs_words.specs.Buffers.{Buffer};
-ghost use Rattle.hs_agent.specs.Runs.{bare_run};
-ghost use Rattle.hs_intake.specs.Intakes.{PlainIntake, Act};
-ghost use Rattle.hs_law_agent.specs.Laws.{claiming_group};
+ghost use Rattle.hs_agent.specs.Runs.{Run, bare_run, state_of};
+ghost use Rattle.hs_intake.specs.Intakes.{PlainIntake, Act, Stands};
+ghost use Rattle.hs_law_agent.specs.Laws.{IsInOnePlace, claiming_group};
 ghost use Rattle.hs_law_life.specs.ClientLives.{IsInOrder};
 ghost use Rattle.hs_law_life.specs.Following.{IsFollowed};
-ghost use Rattle.hs_law_life.specs.NodeLives.{AreSettled, HasLived, IsWell, IsSpared, Keeps, Makes, run_by, state_by};
+ghost use Rattle.hs_law_life.specs.NodeLives.{AreSettled, HasLived, IsWell, IsSpared, IsUnspent, Keeps, run_by, state_by};
 
 use crate::clients::points_stand_on_pages;
 use hs_law_agent::laws::{
-    claims_stand, events_add_this, events_lead_on, lives_go_on_well, nothing_claimed_goes,
+    claims_stand, events_add_this, events_lead_on, lists_go_on, lives_go_on_well,
+    nothing_claimed_goes,
 };
+
+/// However a node goes on by one call after another, it goes on so by all of them: the acts of each follow those of the one before.
+pub fn calls_go_on()
+    ensures { (run : Run Leased) (old mid new : PlainNode) → GoesOn run old mid → ((later : Run Leased) → Stands later mid.intake → GoesOn later mid new) → GoesOn run old new }
+{}
+
+/// Wherever a node stands, each chunk that its agent took is in one place: indexed, pinned, in the hand, or given back.
+pub fn taken_chunks_are_in_one_place()
+    ensures { (run : Run Leased) (d : PlainIntake) (place : ℕ) → Stands run d → IsInOnePlace (state_of run) place }
+{
+    lists_go_on();
+}
 
 /// What a node's agent did since the node was made is a life of its model, whose states are good. Each chunk that it took has its fate there.
 pub fn acts_are_a_life_of_the_model()
@@ -54,11 +68,11 @@ pub fn claimed_traces_are_spared()
 /// A node's life begins where nothing was taken. A pass whose turn did not spend the agent leads on by more acts, and no other call adds an act. So
 /// at every moment the chunks that came of a client are, in order, those that the agent took, and then the one that waits at the front.
 pub fn nodes_live_on()
-    // It asks that nothing waits at the front of a node that was just made.
+    // It asks that nothing waits at the front of the node.
     ensures made { (s : PlainService) (number epoch : ℕ) (made : MadeNode) → IsMadeBy s number epoch made → made.node.intake.back ≡ None
         → HasLived (run_settings s) number [] made.node.intake }
     ensures pass { (settings : PlainSettings) (number : ℕ) (acts : List Act) (old new : PlainNode) → HasLived settings number acts old.intake
-        → Makes (run_by settings number acts) old new → (more : List Act) × HasLived settings number (acts ++ more) new.intake }
+        → (passes : Passes (run_by settings number acts) old new) → IsUnspent (run_by settings number acts) old new passes → (more : List Act) × HasLived settings number (acts ++ more) new.intake }
     ensures says { (settings : PlainSettings) (number : ℕ) (acts : List Act) (node : PlainNode) (mail : Letters) → HasLived settings number acts node.intake
         → HasLived settings number acts (with_mail node mail).intake }
     ensures hears { (settings : PlainSettings) (number : ℕ) (acts : List Act) (d : PlainIntake) (bytes : List ℕ) (answer : Delivered) (inbox : PlainInbox)

@@ -1,5 +1,5 @@
 use Rattle.std.proofs.Common.{refl}
-use Rattle.hs_law_life.proofs.Passing.{makes, quiet}
+use Rattle.hs_law_life.proofs.Passing.{passes_lead, quiet}
 use Rattle.hs_law_life.proofs.Living.{begins_by, same_rules}
 use Rattle.hs_law_life.proofs.nodes.nodes_live_on.Goals as goal
 
@@ -7,7 +7,7 @@ pub returns-clause-made : goal.returns-clause-made
 returns-clause-made c = begins_by
 
 pub returns-clause-pass : goal.returns-clause-pass
-returns-clause-pass c = λ settings number acts old new lived made. makes settings number acts old new lived made
+returns-clause-pass c = λ settings number acts old new lived passes unspent. passes_lead settings number acts old new lived passes unspent
 
 pub returns-clause-says : goal.returns-clause-says
 returns-clause-says c = λ settings number acts node mail lived. quiet settings number acts node.intake mail node.intake.inbox node.intake.claims node.intake.unsaid refl lived
