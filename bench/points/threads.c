@@ -18,6 +18,7 @@ enum {
     CLIENTS = 2,
     MOST_POINTS = 30,  /* of a segment */
     MOST_LEN = 600,    /* of a record, in pages of 1,024 bytes */
+    AHEAD = 500,       /* segments of one client before the other, at most: a node forgets claims of traces, and both claim the traces that they share */
     UNDER_WAY = 8000,  /* records that were written and not saved, at most: the pool has room for them */
     PATIENCE = 30      /* seconds in which something is saved, or nothing comes any more */
 };
@@ -39,7 +40,7 @@ typedef struct {
 static writer writers[CLIENTS];
 static hindcore_node node;
 static hindcore_hub hub;
-static _Atomic uint64_t written, saved;
+static _Atomic uint64_t written, saved, begun[CLIENTS]; /* records; segments */
 static _Atomic int ends, writing;
 static uint8_t bytes[65536];
 static uint64_t traces, whole;
@@ -96,12 +97,19 @@ static void segment(writer *w, uint64_t *draws) {
     if (number % 2 == 0) UNTIL_DONE(w, "trigger", hindcore_trigger(&w->client, microseconds(), (uint8_t)(1 + w->number), &trace, NULL, 0));
 }
 
+/* Whether a client has to wait: for the other one, or until more is saved. */
+static int has_to_wait(const writer *w) {
+    uint64_t under_way = atomic_load_explicit(&written, memory_order_relaxed) - atomic_load_explicit(&saved, memory_order_relaxed);
+    return under_way > UNDER_WAY || w->segments > atomic_load_explicit(&begun[1 - w->number], memory_order_relaxed) + AHEAD;
+}
+
 static void *writes(void *of) {
     writer *w = of;
     uint64_t draws = (uint64_t)w->number << 32, left;
     while (!atomic_load_explicit(&ends, memory_order_relaxed)) {
         segment(w, &draws);
-        while (atomic_load_explicit(&written, memory_order_relaxed) - atomic_load_explicit(&saved, memory_order_relaxed) > UNDER_WAY) {
+        atomic_store_explicit(&begun[w->number], w->segments, memory_order_relaxed);
+        while (has_to_wait(w)) {
             must("flush", hindcore_flush(&w->client, &left), HINDCORE_DONE);
             if (atomic_load_explicit(&ends, memory_order_relaxed)) break;
             sched_yield();
