@@ -1,5 +1,5 @@
 -- An intake as it was made, with the clients of its node.
-use Rattle.std.specs.Prelude.{◌≡◌, ℕ}
+use Rattle.std.specs.Prelude.{◌≡◌, ℕ, None}
 use Rattle.hs_records.specs.Plain.{PlainSettings}
 use Rattle.hs_agent.specs.Runs.{bare_run}
 use Rattle.hs_inbox.specs.Delivering.{no_asks}
@@ -21,3 +21,5 @@ pub record IsMade (settings : PlainSettings) (limits : ClientLimits) (mail : Let
   pub mail_is : made.intake.mail ≡ mail
   pub inbox_is : made.intake.inbox ≡ no_asks (record { 0 = limits.node }) settings.triggers asks
   pub claims_is : made.intake.claims ≡ no_claims claims
+  -- nothing waits at the front
+  pub back_is : made.intake.back ≡ None

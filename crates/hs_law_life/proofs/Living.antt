@@ -35,10 +35,10 @@ nothing_came s number epoch made is client = go (slice_get made.node.intake.port
         let begins = are.each client one.0 one.1 in
         ap (λ (x : Incoming (Buffer Leased) Key). x.received) (same_there made.node.intake.port.chunks client r begins.ends.chunks at begins.stand.chunks) ∙ begins.linked.chunks.receiver.0
 
-pub begins_by : (s : PlainService) (number epoch : ℕ) (made : MadeNode) → IsMadeBy s number epoch made → made.node.intake.back ≡ None → HasLived (run_settings s) number [] made.node.intake
-begins_by s number epoch made is none =
+pub begins_by : (s : PlainService) (number epoch : ℕ) (made : MadeNode) → IsMadeBy s number epoch made → HasLived (run_settings s) number [] made.node.intake
+begins_by s number epoch made is =
     record {
       stands = is.intake.stands;
       settled = tt;
-      took = λ client. nothing_came s number epoch made is client ∙ sym (ap (λ (o : Option Waiting). chunks_of client (acts_in o)) none);
+      took = λ client. nothing_came s number epoch made is client ∙ sym (ap (λ (o : Option Waiting). chunks_of client (acts_in o)) is.intake.back_is);
     }

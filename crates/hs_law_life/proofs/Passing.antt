@@ -25,7 +25,7 @@ use Rattle.hs_node.specs.Nodes.{PlainNode, is_unspent}
 use Rattle.hs_node.specs.declared.pass.TheConstants.{MOST_NOTES, MOST_OFFERS}
 use Rattle.hs_base.specs.declared.limits.TheConstants.{MAX_TAKEN}
 use Rattle.hs_node.specs.Passing.{Doing, Then, Each, Until, Hears, HearsFrom, HearsAll, TakesChunks, TakesCrumbs, TakesLates, TakesTriggersOf, TakesFrom, TakesAll, TakesAsked, SaysFirst, TakesFront, Takes, OffersOne, OffersAll, StatesNext, LooksOn, StatesOne, StatesAll, ForgetsOne, ForgetsAll, Passes}
-use Rattle.hs_law_life.specs.NodeLives.{IsSettledAt, AreSettled, chunks_of, front_of, run_by, HasLived, IsUnspent}
+use Rattle.hs_law_life.specs.NodeLives.{IsSettledAt, AreSettled, chunks_of, front_of, run_by, HasLived}
 use Rattle.hs_law_life.proofs.Sparing.{settled_both}
 use Rattle.hs_law_life.proofs.Counts.{Counts, counts_none, chunks_append, takings_none, chunk_stops, IsOther, other_same, other_stops}
 
@@ -278,12 +278,12 @@ module _ (settings : PlainSettings) (node : ℕ) where
   behind : Leads (Then OffersAll (Then StatesAll ForgetsAll))
   behind = then_leads OffersAll (Then StatesAll ForgetsAll) offers_all (then_leads StatesAll ForgetsAll states_all forgets_all)
 
-  pub passes_lead : (acts : List Act) (old new : PlainNode) → Lived acts old.intake → (passes : Passes (run_by settings node acts) old new) → IsUnspent (run_by settings node acts) old new passes → More acts new.intake
-  passes_lead acts old new lived passes unspent =
+  pub passes_lead : (acts : List Act) (old new : PlainNode) → Lived acts old.intake → Passes (run_by settings node acts) old new → More acts new.intake
+  passes_lead acts old new lived passes =
       let first = takes acts old passes.mid lived passes.does in
       let one = acts ++ first.0 in
       let turn = passes.next (run_by settings node one) first.1.stands in
-      let second = turn_leads turn.does.0 one passes.mid.intake turn.mid.intake first.1 (unspent (run_by settings node one) first.1.stands) turn.does.1 in
+      let second = turn_leads turn.does.0 one passes.mid.intake turn.mid.intake first.1 turn.does.1 turn.does.2 in
       let two = one ++ second.0 in
       let third = behind two turn.mid new second.1 (turn.next (run_by settings node two) second.1.stands) in (
         first.0 ++ (second.0 ++ third.0),

@@ -22,8 +22,6 @@ use Rattle.hs_law_agent.specs.Samples.{settings_with, chunk, trigger, group}
 use Rattle.hs_agent.specs.Points.{sheet_in}
 use Rattle.hs_agent.specs.Runs.{Run, bare_run, state_of}
 use Rattle.hs_intake.specs.Intakes.{PlainIntake, Act, TakesChunk, TakesCrumb, TakesTrigger, TakesAsk, Turns, LetsGo, Forgets, after_act, life, has_left, acts_in, Stands}
-use Rattle.hs_node.specs.Nodes.{PlainNode, is_unspent}
-use Rattle.hs_node.specs.Passing.{Passes}
 
 -- ---- acts in the agent's model
 
@@ -107,10 +105,6 @@ pub record HasLived (settings : PlainSettings) (node : ℕ) (acts : List Act) (d
   pub stands : Stands (run_by settings node acts) d
   pub settled : AreSettled (bare_run settings node) acts
   pub took : (client : ℕ) → received_of client d ≡ chunks_of client acts ++ front_of client d
-
--- The turn of a pass did not spend the agent.
-abbrev pub IsUnspent : (run : Run Leased) (old new : PlainNode) → Passes run old new → Type 0
-IsUnspent run old new passes = (later : Run Leased) (stands : Stands later passes.mid.intake) → is_unspent (passes.next later stands).does.0 ≡ true
 
 -- ---- what holds in a life
 

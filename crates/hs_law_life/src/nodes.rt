@@ -1,6 +1,6 @@
 //! Laws of nodes. Each is the contract of a function that does nothing.
 
-ghost use Rattle.std.specs.Prelude.{◌≡◌, ℕ, List, [], ◌++◌, None, Some};
+ghost use Rattle.std.specs.Prelude.{◌≡◌, ℕ, List, [], ◌++◌, Some};
 ghost use Rattle.std.specs.List.{AllByRecursion};
 ghost use Rattle.hs_base.specs.declared.ids.TraceId.{TraceId};
 ghost use Rattle.hs_base.specs.declared.told.Group.{Group};
@@ -24,7 +24,7 @@ ghost use Rattle.hs_intake.specs.Intakes.{PlainIntake, Act, Stands};
 ghost use Rattle.hs_law_agent.specs.Laws.{IsInOnePlace, claiming_group};
 ghost use Rattle.hs_law_life.specs.ClientLives.{IsInOrder};
 ghost use Rattle.hs_law_life.specs.Following.{IsFollowed};
-ghost use Rattle.hs_law_life.specs.NodeLives.{AreSettled, HasLived, IsWell, IsSpared, IsUnspent, Keeps, run_by, state_by};
+ghost use Rattle.hs_law_life.specs.NodeLives.{AreSettled, HasLived, IsWell, IsSpared, Keeps, run_by, state_by};
 
 use crate::clients::points_stand_on_pages;
 use hs_law_agent::laws::{
@@ -65,14 +65,12 @@ pub fn claimed_traces_are_spared()
     claims_stand();
 }
 
-/// A node's life begins where nothing was taken. A pass whose turn did not spend the agent leads on by more acts, and no other call adds an act. So
+/// A node's life begins where nothing was taken. A pass that is made leads on by more acts, and no other call adds an act. So
 /// at every moment the chunks that came of a client are, in order, those that the agent took, and then the one that waits at the front.
 pub fn nodes_live_on()
-    // It asks that nothing waits at the front of the node.
-    ensures made { (s : PlainService) (number epoch : ℕ) (made : MadeNode) → IsMadeBy s number epoch made → made.node.intake.back ≡ None
-        → HasLived (run_settings s) number [] made.node.intake }
+    ensures made { (s : PlainService) (number epoch : ℕ) (made : MadeNode) → IsMadeBy s number epoch made → HasLived (run_settings s) number [] made.node.intake }
     ensures pass { (settings : PlainSettings) (number : ℕ) (acts : List Act) (old new : PlainNode) → HasLived settings number acts old.intake
-        → (passes : Passes (run_by settings number acts) old new) → IsUnspent (run_by settings number acts) old new passes → (more : List Act) × HasLived settings number (acts ++ more) new.intake }
+        → Passes (run_by settings number acts) old new → (more : List Act) × HasLived settings number (acts ++ more) new.intake }
     ensures says { (settings : PlainSettings) (number : ℕ) (acts : List Act) (node : PlainNode) (mail : Letters) → HasLived settings number acts node.intake
         → HasLived settings number acts (with_mail node mail).intake }
     ensures hears { (settings : PlainSettings) (number : ℕ) (acts : List Act) (d : PlainIntake) (bytes : List ℕ) (answer : Delivered) (inbox : PlainInbox)

@@ -25,7 +25,7 @@ use Rattle.hs_intake.specs.declared.took.Stated.TheVariants as stated
 use Rattle.hs_intake.specs.Intakes.{Stands, SaysIt, chunk_line, crumb_line, late_line}
 use Rattle.hs_intake.specs.Taking.{TakesLine, TakesTriggers, TakesAsks, TakesBack, MakesTurn, ForgetsOldest, StatesIt}
 use Rattle.hs_intake.specs.Handing.{HandsOut}
-use Rattle.hs_node.specs.Nodes.{PlainNode, Receives, NotesIt, deed_for}
+use Rattle.hs_node.specs.Nodes.{PlainNode, Receives, NotesIt, deed_for, is_unspent}
 use Rattle.hs_node.specs.declared.pass.Offer.{Offer}
 use Rattle.hs_node.specs.declared.pass.Offer.TheVariants as offers
 
@@ -108,8 +108,9 @@ Takes = Then SaysFirst (Then TakesFront (Then TakesAll (Then TakesAsked HearsAll
 
 -- ---- a turn, and the hand
 
+-- It did not spend the agent.
 abbrev pub Turns : Doing
-Turns run old new = (did : Turned) × MakesTurn run old.intake did new.intake × (new ≡ record old { intake = new.intake })
+Turns run old new = (did : Turned) × (is_unspent did ≡ true) × MakesTurn run old.intake did new.intake × (new ≡ record old { intake = new.intake })
 
 -- The first of the hand is offered, and it is heard what became of its page; or the hand is empty, or its first waits.
 abbrev pub OffersOne : Bool → Doing

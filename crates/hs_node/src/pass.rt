@@ -179,7 +179,7 @@ impl Node {
     /// Makes a fair turn, if the mail has a place for each chunk that is pinned. Answers whether the agent is not spent.
     fn turn(&mut self) -> bool
         ensures on { (run : Run Leased) → Stands run self.old.intake → GoesOnIf run result self.old self.new }
-        ensures does { (run : Run Leased) → Stands run self.old.intake → Turns run self.old self.new }
+        ensures does { (run : Run Leased) → Stands run self.old.intake → result ≡ true → Turns run self.old self.new }
     {
         let turned = self.intake.turn();
         is_unspent(turned)

@@ -27,4 +27,5 @@ returns-clause-made c =
       mail_is = refl;
       inbox_is = c.in-Ok-make.ensures;
       claims_is = c.in-Ok-make-2.ensures;
+      back_is = refl;
     })

@@ -7,7 +7,7 @@ pub returns-clause-made : goal.returns-clause-made
 returns-clause-made c = begins_by
 
 pub returns-clause-pass : goal.returns-clause-pass
-returns-clause-pass c = λ settings number acts old new lived passes unspent. passes_lead settings number acts old new lived passes unspent
+returns-clause-pass c = λ settings number acts old new lived passes. passes_lead settings number acts old new lived passes
 
 pub returns-clause-says : goal.returns-clause-says
 returns-clause-says c = λ settings number acts node mail lived. quiet settings number acts node.intake mail node.intake.inbox node.intake.claims node.intake.unsaid refl lived

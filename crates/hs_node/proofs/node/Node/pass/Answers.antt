@@ -21,7 +21,7 @@ returns-clause-does c = λ run stands done.
       next = (λ r at.
           record {
             mid = c.turn.new.self;
-            does = c.turn.ensures.does r at;
+            does = c.turn.ensures.does r at c.if-not-turn.false;
             next = (λ r at.
                 record {
                   mid = c.offer_all.new.self;
