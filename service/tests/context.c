@@ -118,8 +118,17 @@ static const char *written(hind_node_id node, const char *before) {
     return state;
 }
 
+enum { ROOM = 1000 };
+
+/* Puts a text behind another one. */
+static void add(char text[ROOM], const char *more) {
+    size_t len = strlen(text), n = strlen(more);
+    EXPECT(len + n < ROOM, 1);
+    if (len + n < ROOM) memcpy(text + len, more, n + 1);
+}
+
 static void writes(void) {
-    char before[1000], wanted[1000];
+    char before[ROOM] = "", wanted[ROOM] = "";
     hind_context none = {{{0}}, {{1}}, 0, 1}, no_span = {{{1}}, {{0}}, 0, 1}, good = {{{1}}, {{1}}, 0, 1};
     EXPECT(strcmp(written(3, NULL), "hind=1-0003"), 0);
     EXPECT(strcmp(written(0xa3, "other=x"), "hind=1-00a3,other=x"), 0);
@@ -128,25 +137,26 @@ static void writes(void) {
     EXPECT(strcmp(written(HIND_NO_NODE, NULL), ""), 0);
     EXPECT(strcmp(written(3, "a=1,b"), "hind=1-0003"), 0);
     /* 32 others: the last one goes */
-    snprintf(before, sizeof before, "a=1");
-    strcpy(wanted, "hind=1-0003,a=1");
+    add(before, "a=1");
+    add(wanted, "hind=1-0003,a=1");
     for (int i = 1; i < 32; i++) {
-        strcat(before, i < 31 ? ",b=2" : ",c=3");
-        if (i < 31) strcat(wanted, ",b=2");
+        add(before, i < 31 ? ",b=2" : ",c=3");
+        if (i < 31) add(wanted, ",b=2");
     }
     EXPECT(strcmp(written(3, before), wanted), 0);
     /* 12 bytes of ours with its comma, and 501 of others: the one of 130 bytes goes, and not the last one */
-    strcpy(before, "l=");
+    *before = *wanted = 0;
+    add(before, "l=");
     memset(before + 2, 'v', 128);
     before[130] = 0;
-    strcpy(wanted, "hind=1-0003");
+    add(wanted, "hind=1-0003");
     for (int i = 0; i < 4; i++) {
         char more[100] = ",k=";
         size_t n = i < 3 ? 92 : 95;
         memset(more + 3, '0' + i, n - 3);
         more[n] = 0;
-        strcat(before, more);
-        strcat(wanted, more);
+        add(before, more);
+        add(wanted, more);
     }
     EXPECT(strlen(before) + 12, 513);
     EXPECT(strcmp(written(3, before), wanted), 0);
