@@ -28,7 +28,8 @@ enum {
     HINDCORE_NO_MESSAGE = 13, /* the bytes spell no message */
     HINDCORE_SHORT = 14,      /* the slice is too short for what it is to take */
     HINDCORE_HELD = 15,       /* the message waits until what it serves is saved */
-    HINDCORE_DRY = 16         /* a point was done, but the pool had no buffer for a page of it: what goes to that page is lost */
+    HINDCORE_DRY = 16,        /* a point was done, but the pool had no buffer for a page of it: what goes to that page is lost */
+    HINDCORE_TORN = 17        /* the bytes do not show the page that their counts speak of */
 };
 
 /* A trace id, its highest byte first. */
@@ -168,6 +169,31 @@ typedef struct {
 uint32_t hindcore_message_head(const uint8_t *bytes, size_t len, hindcore_head *head);
 /* Reads a message and writes it to the front of `out`: DONE, NO_MESSAGE, or SHORT. What is written is what was read, byte for byte. */
 uint32_t hindcore_message_copy(const uint8_t *bytes, size_t len, uint8_t *out, size_t room);
+
+/* ---- pages as they lie in buffers ---- */
+
+/* A page at the front of a buffer: its trace, its number among the pages of its client, the number of the record that its first piece is of, the node
+ * and the client that wrote it, how many pieces it has, and how many bytes of the buffer are its. */
+typedef struct {
+    hindcore_trace trace;
+    uint32_t page;
+    uint32_t record;
+    uint16_t node;
+    uint16_t client;
+    uint32_t pieces;
+    uint64_t len;
+} hindcore_page;
+
+/* A piece of a page: the moment of its record, and how many bytes its payload has. */
+typedef struct {
+    uint64_t moment;
+    uint64_t len;
+} hindcore_piece;
+
+/* Reads a buffer as it lies there, also as it was left between any two steps of writing (docs/FORMATS.md, "The page"): DONE, SHORT (the bytes have no
+ * room for a header), NOTHING (no byte is used), TORN (no page of as many used bytes and pieces as the counts say stands there), MEMORY. DONE writes
+ * the page, which may have no piece yet, and its first pieces to the front of `pieces`, as far as there is room. Any other answer writes nothing. */
+uint32_t hindcore_page_read(const uint8_t *bytes, size_t len, hindcore_page *page, hindcore_piece *pieces, size_t room);
 
 /* ---- the hub: what hears nodes, and gives traces out ---- */
 

@@ -5,5 +5,6 @@ pub mod Hubs
 pub mod Messages
 pub mod Nodes
 pub mod Opening
+pub mod Pages
 pub mod Ports
 pub mod Traces

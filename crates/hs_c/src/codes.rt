@@ -56,6 +56,9 @@ pub const HELD: u32 = 15;
 /// A point was done, but the pool was empty when it drew for a page: what goes to that page is lost.
 pub const DRY: u32 = 16;
 
+/// The bytes do not show the page that their counts speak of.
+pub const TORN: u32 = 17;
+
 /// The code of a client's answer.
 pub(crate) fn code_of(called: Called) -> u32
     ensures { result ≡ code_of called }

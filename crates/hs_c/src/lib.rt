@@ -11,6 +11,7 @@ mod loose;
 mod messages;
 mod nodes;
 mod opening;
+mod pages;
 mod ports;
 mod slots;
 
@@ -33,4 +34,5 @@ pub use nodes::{
     hindcore_node_open, hindcore_node_pass, hindcore_node_sent,
 };
 pub use opening::{hindcore_client_open, hindcore_open};
+pub use pages::{HindPage, HindPiece, hindcore_page_read};
 pub use ports::{hindcore_port_free, hindcore_take, hindcore_take_notes};
