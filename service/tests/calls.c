@@ -1,5 +1,5 @@
 /* Each call of the core, as C makes it: what it answers where all is well, what it answers to each misuse that it tests for, and what is left
- * where memory is refused. Expected values are from docs/RULES.md and the header. */
+ * where memory is refused. Expected values are from docs/RULES.md, docs/FORMATS.md and the header. */
 #include "expect.h"
 #include "hindcore.h"
 #include "refusing.h"
@@ -218,6 +218,141 @@ static void refused_memory(void) {
     printf("%ld allocations refused\n", tried);
 }
 
+/* ---- pages as they lie in buffers (docs/FORMATS.md, "The page") ---- */
+
+/* the worked page there: trace 1, node 0, client 0, page 0, record 0, and a piece of one byte at moment 5 */
+static const uint8_t worked[43] = {
+    0, 0, 0, 0, 0, 0, 0, 0, 0, 0, 0, 0, 0, 0, 0, 1, 0, 0, 0, 0, 0, 0, 0, 0, 0, 0, 0, 0, 0x00, 0x01, 0x00, 0x23, /* one piece, 35 used bytes */
+    0x00, 0x01, 0, 0, 0, 0, 0, 0, 0, 5, 0xaa,
+};
+
+/* Each field has a value of its own. The pieces cost 12, 10 and 13, so 59 bytes are used and the page has 67. Two bytes behind it are no part of it. */
+static const uint8_t three[69] = {
+    1, 2, 3, 4, 5, 6, 7, 8, 9, 10, 11, 12, 13, 14, 15, 16,      /* trace */
+    0x21, 0x22, 0x23, 0x24,                                     /* node, client */
+    0x31, 0x32, 0x33, 0x34, 0x41, 0x42, 0x43, 0x44,             /* page, record */
+    0x00, 0x03, 0x00, 0x3b,                                     /* three pieces, 59 used bytes */
+    0x00, 0x02, 0, 0, 0, 0, 0, 0, 0x01, 0x00, 7, 8,             /* two bytes at moment 256 */
+    0x00, 0x00, 0, 0, 0, 0, 0, 0, 0, 9,                         /* none at moment 9 */
+    0x00, 0x03, 0x01, 0, 0, 0, 0, 0, 0, 0x02, 0xaa, 0xbb, 0xcc, /* three at moment 2^56 + 2 */
+    0xee, 0xee,
+};
+
+static hindcore_page page;
+static hindcore_piece pieces[4];
+
+static int is_blank(const void *at, size_t size) {
+    const uint8_t *byte = at;
+    for (size_t i = 0; i < size; i++)
+        if (byte[i] != 0x55) return 0;
+    return 1;
+}
+
+/* Reads bytes with room for so many pieces. Any answer but DONE writes nothing, and none writes behind the room. */
+static uint32_t read_page(const uint8_t *at, size_t len, size_t room) {
+    memset(&page, 0x55, sizeof page);
+    memset(pieces, 0x55, sizeof pieces);
+    uint32_t code = hindcore_page_read(at, len, &page, pieces, room);
+    HOLDS(is_blank(pieces + room, sizeof pieces - room * sizeof *pieces));
+    if (code != HINDCORE_DONE) HOLDS(is_blank(&page, sizeof page) && is_blank(pieces, sizeof pieces));
+    return code;
+}
+
+/* The same of a buffer that ends where the bytes end. */
+static uint32_t read_copy(const uint8_t *from, size_t len, size_t room) {
+    uint8_t *copy = malloc(len + !len);
+    if (!copy) abort();
+    memcpy(copy, from, len);
+    uint32_t code = read_page(copy, len, room);
+    free(copy);
+    return code;
+}
+
+/* The worked page with other counts. */
+static uint32_t read_counts(uint16_t count, uint16_t used, size_t len) {
+    uint8_t copy[sizeof worked + 1] = {0};
+    memcpy(copy, worked, sizeof worked);
+    copy[28] = (uint8_t)(count >> 8);
+    copy[29] = (uint8_t)count;
+    copy[30] = (uint8_t)(used >> 8);
+    copy[31] = (uint8_t)used;
+    return read_copy(copy, len, 4);
+}
+
+static void pages_in_buffers(void) {
+    static const uint8_t one[16] = {0, 0, 0, 0, 0, 0, 0, 0, 0, 0, 0, 0, 0, 0, 0, 1};
+    EXPECT(read_copy(worked, sizeof worked, 4), HINDCORE_DONE);
+    HOLDS(memcmp(page.trace.bytes, one, sizeof one) == 0);
+    EXPECT(page.page, 0);
+    EXPECT(page.record, 0);
+    EXPECT(page.node, 0);
+    EXPECT(page.client, 0);
+    EXPECT(page.pieces, 1);
+    EXPECT(page.len, 43);
+    EXPECT(pieces[0].moment, 5);
+    EXPECT(pieces[0].len, 1);
+    HOLDS(is_blank(pieces + 1, 3 * sizeof *pieces));
+    /* more pieces than there is room for, as many, and fewer */
+    for (size_t room = 0; room <= 4; room++) {
+        EXPECT(read_copy(three, sizeof three, room), HINDCORE_DONE);
+        HOLDS(memcmp(page.trace.bytes, three, sizeof page.trace.bytes) == 0);
+        EXPECT(page.page, 0x31323334);
+        EXPECT(page.record, 0x41424344);
+        EXPECT(page.node, 0x2122);
+        EXPECT(page.client, 0x2324);
+        EXPECT(page.pieces, 3);
+        EXPECT(page.len, 67);
+        if (room > 0) EXPECT(pieces[0].moment, 256);
+        if (room > 0) EXPECT(pieces[0].len, 2);
+        if (room > 1) EXPECT(pieces[1].moment, 9);
+        if (room > 1) EXPECT(pieces[1].len, 0);
+        if (room > 2) EXPECT(pieces[2].moment, (UINT64_C(1) << 56) + 2);
+        if (room > 2) EXPECT(pieces[2].len, 3);
+        HOLDS(is_blank(pieces + 3, sizeof *pieces));
+    }
+    /* the counts show a page without pieces, though the bytes of one stand behind it already */
+    EXPECT(read_counts(0, 24, sizeof worked), HINDCORE_DONE);
+    EXPECT(page.pieces, 0);
+    EXPECT(page.len, 32);
+    HOLDS(is_blank(pieces, sizeof pieces));
+    EXPECT(read_counts(0, 24, 32), HINDCORE_DONE);
+    /* no room for a header, whatever the counts say */
+    for (size_t len = 0; len < 32; len++) EXPECT(read_copy(three, len, 4), HINDCORE_SHORT);
+    EXPECT(read_counts(0, 0, 31), HINDCORE_SHORT);
+    /* no byte is used */
+    EXPECT(read_counts(0, 0, sizeof worked), HINDCORE_NOTHING);
+    EXPECT(read_counts(1, 0, sizeof worked), HINDCORE_NOTHING);
+    EXPECT(read_counts(0, 0, 32), HINDCORE_NOTHING);
+    /* counts and pieces that do not go together */
+    EXPECT(read_counts(0, 35, sizeof worked), HINDCORE_TORN);
+    EXPECT(read_counts(2, 35, sizeof worked), HINDCORE_TORN);
+    EXPECT(read_counts(1, 34, sizeof worked), HINDCORE_TORN);
+    EXPECT(read_counts(1, 36, sizeof worked + 1), HINDCORE_TORN);
+    EXPECT(read_counts(1, 24, sizeof worked), HINDCORE_TORN);
+    EXPECT(read_counts(0, 23, sizeof worked), HINDCORE_TORN);
+    EXPECT(read_counts(1, 65535, sizeof worked), HINDCORE_TORN);
+    /* the page goes beyond the bytes */
+    for (size_t len = 32; len < 67; len++) EXPECT(read_copy(three, len, 4), HINDCORE_TORN);
+    /* each allocation is refused in turn: nothing is written, and nothing is kept */
+    long before = live, tried = 0;
+    for (;; tried++) {
+        allocations = 0;
+        refused_at = tried;
+        uint32_t code = read_page(three, sizeof three, 4);
+        refused_at = -1;
+        EXPECT(live, before);
+        if (code == HINDCORE_DONE) break;
+        EXPECT(code, HINDCORE_MEMORY);
+        if (failed || tried > 1000) return;
+    }
+    HOLDS(tried > 0);
+    /* nothing but a page takes memory */
+    allocations = 0;
+    EXPECT(read_page(three, 31, 4), HINDCORE_SHORT);
+    EXPECT(read_page(three, 66, 4), HINDCORE_TORN);
+    EXPECT(allocations, 0);
+}
+
 int main(void) {
     vacant_handles();
     refused_settings();
@@ -225,6 +360,7 @@ int main(void) {
     a_full_outbox();
     an_empty_pool();
     refused_memory();
+    pages_in_buffers();
     if (failed) fprintf(stderr, "%d failed\n", failed);
     return failed != 0;
 }
