@@ -23,7 +23,7 @@
 #include <sys/uio.h> /* struct iovec */
 
 #define HIND_VERSION_MAJOR 0
-#define HIND_VERSION_MINOR 2
+#define HIND_VERSION_MINOR 3
 #define HIND_VERSION_PATCH 0
 #define HIND_VERSION_NUMBER (HIND_VERSION_MAJOR * 1000000 + HIND_VERSION_MINOR * 1000 + HIND_VERSION_PATCH)
 #define HIND_ABI 1
@@ -64,7 +64,7 @@ enum {
     HIND_SYSTEM = -14,      /* a call of the system failed: see errno */
     HIND_SPENT = -15,       /* the numbers of this trace, or of this client, have come to their end */
     HIND_CLOSED = -16,      /* the node or the client was closed */
-    HIND_TAKEN = -17,       /* another process has this name (hindsight_nats.h) */
+    HIND_TAKEN = -17,       /* another process has this name (hindsight_nats.h), or this pool file */
     HIND_AWAY = -18,        /* the broker is not there, or does not answer as it should (hindsight_nats.h) */
     HIND_DRY = -19          /* of a point: no buffer was free, so the record is lost. The request goes on, and its trace will not be called whole */
 };
@@ -136,10 +136,16 @@ typedef struct {
     const char *settings; /* docs/FORMATS.md, "Settings of a service" */
     size_t settings_len;
     const char *name;     /* of the node, where its records are shown: at most 64 bytes. NULL: none. It is copied */
+    const char *pool_file; /* where the node's buffers lie, so that they outlive the process: best on a tmpfs, as /dev/shm/NAME. NULL: in memory alone */
+    uint32_t pool_kept;   /* how many files of earlier lives are kept beside it, each as large as the pool, at most 64. 0: 2 */
+    uint32_t spare;       /* 0 */
 } hind_node_options;
-#define HIND_NODE_OPTIONS_INIT { sizeof(hind_node_options), HIND_ABI, 0, 0, NULL, 0, NULL }
+#define HIND_NODE_OPTIONS_INIT { sizeof(hind_node_options), HIND_ABI, 0, 0, NULL, 0, NULL, NULL, 0, 0 }
 
-/* Opens a node: OK, INVALID, ABI_WRONG, TOOLONG (the name), SETTINGS, UNDECLARED (no such node), NOMEM. *node is NULL on any answer but OK. */
+/* Opens a node: OK, INVALID (also where `pool_file` is another file), ABI_WRONG, TOOLONG (the name, or the pool file's), SETTINGS, UNDECLARED (no such
+ * node), NOMEM, and where there is a pool file TAKEN, MANY (64 pool files are open), SYSTEM. *node is NULL on any answer but OK.
+ * What lies at the pool file's path is set aside as PATH.EPOCH, unless it shows no page, and nothing of it is written over. The pages that earlier
+ * lives of this node left there are handed out as theirs where what the node tells of a group names their trace. */
 HIND_API HIND_CHECK hind_code hind_node_open(const hind_node_options *options, hind_node **node);
 /* Closes a node, while no other call on the node itself is under way; its clients may be inside calls. What was not handed out is lost. Its
  * clients answer HIND_CLOSED from now on; the memory goes with the last of them. OK, also for NULL, and FORKED. */
@@ -199,6 +205,9 @@ typedef struct {
     uint64_t asks;              /* messages of the hub that were taken, */
     uint64_t full_asks;         /* .. that found no place, */
     uint64_t refused_asks;      /* .. and bytes that were no ask for this node */
+    uint64_t salvaged;          /* pages that earlier lives left: those that were handed out and are not kept any more, */
+    uint64_t torn;              /* .. those that do not read, */
+    uint64_t salvaging;         /* .. and messages of earlier lives that were handed out and are kept: now. `messages` and the like have none of these */
 } hind_node_counts;
 /* OK, INVALID (`size` is none that this library knows), FORKED. */
 HIND_API hind_code hind_node_get_counts(hind_node *node, hind_node_counts *counts);
@@ -394,7 +403,7 @@ typedef struct {
     hind_node_id node;
     uint16_t client;
     uint64_t epoch;
-    uint64_t core;    /* which renewal of the client wrote it */
+    uint64_t core;    /* which renewal of the client wrote it; UINT64_MAX of one that its process left: no page says */
     uint64_t number;  /* among the core's records, of this trace and others */
     uint64_t missing; /* numbers of the core that are missing in front of it, of this trace or of others */
     uint64_t moment;
@@ -407,6 +416,39 @@ HIND_API hind_code hind_trace_get_record(const hind_trace *trace, size_t at, hin
  * until `take` returns. */
 HIND_API hind_code hind_trace_otlp(const hind_trace *trace, void (*take)(void *closure, const char *line, size_t len), void *closure);
 HIND_API void hind_trace_free(hind_trace *trace);
+
+/* ---- what a process left: the pool file of a node that has ended, which is only read (docs/FORMATS.md, "The pool file") ---- */
+
+typedef struct hind_salvage hind_salvage;
+
+/* Opens a pool file: OK, INVALID (it is none), TAKEN (a process has it), NOMEM, SYSTEM. *salvage is NULL on any answer but OK. */
+HIND_API HIND_CHECK hind_code hind_salvage_open(const char *pool_file, hind_salvage **salvage);
+/* NULL is none. */
+HIND_API void hind_salvage_close(hind_salvage *salvage);
+
+typedef struct {
+    size_t size;       /* sizeof(hind_salvage_info), set by the caller */
+    hind_node_id node;
+    uint64_t epoch;
+    const char *name;  /* of the node. It stands, as all that these calls give, until hind_salvage_close */
+    uint64_t opened;   /* when the life began, in nanoseconds since 1970 */
+    size_t buffers;    /* of the pool. Of them these many */
+    size_t pages;      /* .. show a page with a record, */
+    size_t torn;       /* .. show something that is no page; the others show nothing */
+} hind_salvage_info;
+HIND_API hind_code hind_salvage_get_info(const hind_salvage *salvage, hind_salvage_info *info);
+
+typedef struct {
+    hind_trace_id trace;
+    uint16_t client;
+    uint32_t page;    /* among those of the client's core */
+    uint32_t first;   /* the number of its first record; each next record on the page has the next one */
+    size_t records;   /* of a record that takes several pages each has a piece */
+} hind_salvaged_page;
+/* By their places from 0 on, those of a trace together: OK, INVALID. */
+HIND_API hind_code hind_salvage_get_page(const hind_salvage *salvage, size_t at, hind_salvaged_page *page);
+/* A record of the page at this place: OK, INVALID. Its `missing` is 0. */
+HIND_API hind_code hind_salvage_get_record(hind_salvage *salvage, size_t page, size_t at, hind_record *record);
 
 #ifdef __cplusplus
 }

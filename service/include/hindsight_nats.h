@@ -24,11 +24,14 @@ typedef struct {
     uint32_t wait_ms;     /* for which hind_nats_start seeks the server */
     uint32_t pass_ms;     /* from one pass to the next while nothing comes, at most 1,000. 0: 1. A pass looks at each client of the settings, and takes some two
                            * microseconds for it; what clients write meanwhile has to find a place in `backlog` */
+    const char *pool_file; /* as of hind_node_options */
+    uint32_t pool_kept;
+    uint32_t spare;       /* 0 */
 } hind_nats_options;
-#define HIND_NATS_OPTIONS_INIT { sizeof(hind_nats_options), HIND_ABI, NULL, NULL, NULL, NULL, 0, 0, 0, 0 }
+#define HIND_NATS_OPTIONS_INIT { sizeof(hind_nats_options), HIND_ABI, NULL, NULL, NULL, NULL, 0, 0, 0, 0, NULL, 0, 0 }
 
 /* Takes the name, opens its node, and starts the thread that makes the node's passes and carries its messages. The server gives the node its number
- * and its epoch. OK, INVALID, ABI_WRONG, TOOLONG (the name), TAKEN, MANY (each number of the settings has another name), AWAY, SETTINGS, NOMEM. *nats
+ * and its epoch. OK, INVALID, ABI_WRONG, TOOLONG (the name, or the pool file's), SYSTEM (of a pool file), TAKEN (the name, or the pool file), MANY (each number of the settings has another name), AWAY, SETTINGS, NOMEM. *nats
  * is NULL on any answer but OK. */
 HIND_API HIND_CHECK hind_code hind_nats_start(const hind_nats_options *options, hind_nats **nats);
 /* Why the last hind_nats_start of this thread failed, in a sentence: "" before the first that did. */

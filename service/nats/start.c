@@ -92,6 +92,8 @@ static hind_code open_node(hind_nats *n, const hind_nats_options *o) {
     options.settings = o->settings;
     options.settings_len = o->settings_len;
     options.name = o->name;
+    options.pool_file = o->pool_file;
+    options.pool_kept = o->pool_kept;
     return hind_node_open(&options, &n->node);
 }
 
@@ -127,6 +129,7 @@ hind_code hind_nats_start(const hind_nats_options *options, hind_nats **nats) {
     if (nats) *nats = NULL;
     hind_code code = nats ? hindlib_read_options(&o, sizeof o, options) : HIND_INVALID;
     if (code) return failed(code);
+    if (o.spare) return failed(HIND_ABI_WRONG);
     if (!o.name || !*o.name || (!o.settings && o.settings_len) || o.pass_ms > 1000) return failed(HIND_INVALID);
     if (strnlen(o.name, HINDLIB_NAME + 1) > HINDLIB_NAME) return failed(HIND_TOOLONG);
     if (!o.settings) o.settings = "";
@@ -196,6 +199,8 @@ static void put_work(metrics *m, const hind_node_counts *c) {
     metrics_put(m, METRICS_GAUGE, "hindsight_node_unacknowledged", "Messages that were handed out and are kept.", c->unacknowledged);
     metrics_put(m, METRICS_COUNTER, "hindsight_node_full_asks_total", "Asks that found no place.", c->full_asks);
     metrics_put(m, METRICS_COUNTER, "hindsight_node_refused_asks_total", "Asks that are none.", c->refused_asks);
+    metrics_put(m, METRICS_COUNTER, "hindsight_node_salvaged_pages_total", "Pages that earlier lives left and that were handed out.", c->salvaged);
+    metrics_put(m, METRICS_COUNTER, "hindsight_node_torn_pages_total", "Pages that earlier lives left and that do not read.", c->torn);
 }
 
 hind_code hind_nats_metrics(hind_nats *nats, char *text, size_t room, size_t *len) {

@@ -16,7 +16,7 @@ static const struct {
     {HIND_NOTRACE, "HIND_NOTRACE", "the client has no open trace"},
     {HIND_TOOLONG, "HIND_TOOLONG", "a payload or a text is longer than it may be"},
     {HIND_FULL, "HIND_FULL", "too much waits; call again after a pass"},
-    {HIND_MANY, "HIND_MANY", "all clients of the settings are in use"},
+    {HIND_MANY, "HIND_MANY", "all clients of the settings, or all pool files of a process, are in use"},
     {HIND_UNDECLARED, "HIND_UNDECLARED", "the settings have no node, trigger id or autotrigger of this number"},
     {HIND_SETTINGS, "HIND_SETTINGS", "the settings are refused; hind_settings_error says where and why"},
     {HIND_REFUSED, "HIND_REFUSED", "the bytes are no message that is taken here"},
@@ -24,7 +24,7 @@ static const struct {
     {HIND_SYSTEM, "HIND_SYSTEM", "a call of the system failed"},
     {HIND_SPENT, "HIND_SPENT", "the numbers of this trace or client have come to their end"},
     {HIND_CLOSED, "HIND_CLOSED", "the node or the client was closed"},
-    {HIND_TAKEN, "HIND_TAKEN", "another process has this name"},
+    {HIND_TAKEN, "HIND_TAKEN", "another process has this name or this pool file"},
     {HIND_AWAY, "HIND_AWAY", "the broker is not there, or does not answer as it should"},
     {HIND_DRY, "HIND_DRY", "no buffer was free, so the record is lost"},
 };
@@ -50,7 +50,7 @@ hind_code hindlib_code(uint32_t answer) {
         [HINDCORE_SETTINGS] = HIND_SETTINGS, [HINDCORE_UNFIT] = HIND_UNDECLARED,  [HINDCORE_NO_TRACE] = HIND_NOTRACE,   [HINDCORE_OPEN] = HIND_OPEN,
         [HINDCORE_TOO_WIDE] = HIND_TOOLONG,  [HINDCORE_FULL] = HIND_FULL,         [HINDCORE_UNKNOWN] = HIND_UNDECLARED, [HINDCORE_SPENT] = HIND_SPENT,
         [HINDCORE_NOTHING] = HIND_NOTHING,   [HINDCORE_NO_MESSAGE] = HIND_REFUSED, [HINDCORE_SHORT] = HIND_TOOLONG,     [HINDCORE_HELD] = HIND_HELD,
-        [HINDCORE_DRY] = HIND_DRY,
+        [HINDCORE_DRY] = HIND_DRY,           [HINDCORE_TORN] = HIND_INVALID,
     };
     return answer < sizeof codes / sizeof *codes ? codes[answer] : HIND_INVALID;
 }

@@ -1,5 +1,7 @@
 /* A node: the core's, behind a lock, with its clients. */
 #define _GNU_SOURCE
+#include "past.h"
+#include "pool.h"
 #include "within.h"
 #include <errno.h>
 #include <stdio.h>
@@ -16,6 +18,7 @@ typedef struct {
     uint64_t handed;     /* the number that the next message has at least which was not handed out before */
     uint64_t number;     /* of the message that hind_node_next gave last, */
     unsigned kind;       /* .. and its kind; 0 before the first */
+    uint64_t looked;     /* messages below this number were looked at for what they name */
 } node_work;
 
 struct hind_node {
@@ -23,13 +26,15 @@ struct hind_node {
     unsigned forks; /* of the process that opened it */
     uint16_t number;
     uint32_t first_group; /* groups.c */
+    hindlib_pool *pool;  /* the file of its buffers, or NULL */
+    past *past;          /* what earlier lives left, or NULL */
     pthread_mutex_t lock; /* around the core, and what follows */
     node_work work;
     int fd, is_signalled; /* -1: nobody asked for it */
     char name[HINDLIB_NAME + 1];
     hindcore_digest digest;
     uint8_t message[HINDLIB_MESSAGE];
-    pthread_mutex_t pool; /* around what follows */
+    pthread_mutex_t sharing; /* around what follows */
     int is_closed;
     hind_client *clients, *waiting; /* all, and those that nobody has */
     uint8_t *pieces; /* of all clients: untouched, and so without memory of the system, where hind_pointv is not called */
@@ -60,7 +65,7 @@ static hind_client *first_waiting(hind_node *n) {
 
 hind_code hindlib_take(hind_node *n, int owner, hind_client **client) {
     if (n->forks != hindlib_forks) return HIND_FORKED;
-    pthread_mutex_lock(&n->pool);
+    pthread_mutex_lock(&n->sharing);
     hind_client *c = n->is_closed ? NULL : first_waiting(n);
     hind_code code = c ? HIND_OK : n->is_closed ? HIND_CLOSED : n->waiting ? HIND_FULL : HIND_MANY;
     if (c) {
@@ -71,15 +76,16 @@ hind_code hindlib_take(hind_node *n, int owner, hind_client **client) {
         hindlib_store(&c->is_closed, 0);
         *client = c;
     }
-    pthread_mutex_unlock(&n->pool);
+    pthread_mutex_unlock(&n->sharing);
     return code;
 }
 
 /* Frees a node that nobody has any more. */
 static void destroy(hind_node *n) {
     for (size_t i = 0; i < n->count; i++) hindcore_client_free(&n->clients[i].core);
+    hindlib_pool_free(n->pool);
     pthread_mutex_destroy(&n->lock);
-    pthread_mutex_destroy(&n->pool);
+    pthread_mutex_destroy(&n->sharing);
     free(n->pieces);
     free(n->clients);
     free(n);
@@ -98,22 +104,22 @@ void hindlib_give_back(hind_client *c) {
     __atomic_signal_fence(__ATOMIC_SEQ_CST);
     hindlib_store(&c->owner, HINDLIB_NOBODY);
     settle(c);
-    pthread_mutex_lock(&n->pool);
+    pthread_mutex_lock(&n->sharing);
     put_back(n, c);
     size_t users = --n->users;
-    pthread_mutex_unlock(&n->pool);
+    pthread_mutex_unlock(&n->sharing);
     if (!users) destroy(n);
 }
 
 /* What waits at clients that nobody has goes on by passes. */
 static void settle_waiting(hind_node *n) {
-    pthread_mutex_lock(&n->pool);
+    pthread_mutex_lock(&n->sharing);
     for (hind_client *c = n->unsettled ? n->waiting : NULL; c; c = c->next) {
         if (!c->is_unsettled) continue;
         settle(c);
         n->unsettled -= !c->is_unsettled;
     }
-    pthread_mutex_unlock(&n->pool);
+    pthread_mutex_unlock(&n->sharing);
 }
 
 /* ---- opening */
@@ -133,17 +139,34 @@ static hind_code say_hello(hind_node *n) {
     return hindlib_code(hindcore_node_hello(&n->core, &n->digest, (const uint8_t *)n->name, strlen(n->name)));
 }
 
+/* The core, with its buffers in the pool's file where there is one. */
 static hind_code open_core(hind_node *n, const hind_node_options *o) {
     hindcore_fault fault = {0, 0};
+    hindheap_place(n->pool ? hindlib_pool_places(n->pool) : NULL);
     uint32_t answer = hindcore_node_open((const uint8_t *)o->settings, o->settings_len, o->node, o->epoch, &n->core, &fault);
+    hindheap_place(NULL);
     if (answer == HINDCORE_SETTINGS) hindlib_note_fault(&fault);
     return hindlib_code(answer);
+}
+
+/* The file lies at its path, and what lay there before is looked at. */
+static hind_code settle_pool(hind_node *n) {
+    hind_code code = n->pool ? hindlib_pool_settle(n->pool) : HIND_OK;
+    return code || !n->pool ? code : past_open(n->pool, &n->past);
+}
+
+/* The core behind its pool, if it has one. */
+static hind_code make_core(hind_node *n, const hind_node_options *o) {
+    hind_code code = o->pool_file ? hindlib_pool_make(o, n->digest.bytes, &n->pool) : HIND_OK;
+    if (!code) code = open_core(n, o);
+    return code;
 }
 
 /* All of a node but its handle. What was made is freed where the rest fails. */
 static hind_code make(hind_node *n, const hind_node_options *o) {
     size_t most = hindlib_setting(o->settings, o->settings_len, "clients", 64);
-    hind_code code = open_core(n, o);
+    hindlib_digest(o->settings, o->settings_len, n->digest.bytes);
+    hind_code code = make_core(n, o);
     if (code) return code;
     n->pieces = malloc(most * (HINDLIB_PAYLOAD + 1));
     if (!n->pieces || posix_memalign((void **)&n->clients, HINDLIB_APART, most * sizeof *n->clients)) {
@@ -153,8 +176,8 @@ static hind_code make(hind_node *n, const hind_node_options *o) {
     }
     memset(n->clients, 0, most * sizeof *n->clients);
     take_clients(n, most);
-    hindlib_digest(o->settings, o->settings_len, n->digest.bytes);
     code = say_hello(n);
+    if (!code) code = settle_pool(n);
     if (code) hindcore_node_free(&n->core);
     return code;
 }
@@ -170,7 +193,7 @@ static hind_code open_with(const hind_node_options *o, hind_node **node) {
     n->first_group = hindlib_first_group(o->epoch);
     snprintf(n->name, sizeof n->name, "%s", o->name);
     pthread_mutex_init(&n->lock, NULL);
-    pthread_mutex_init(&n->pool, NULL);
+    pthread_mutex_init(&n->sharing, NULL);
     hind_code code = make(n, o);
     if (code) destroy(n);
     else *node = n;
@@ -182,7 +205,8 @@ hind_code hind_node_open(const hind_node_options *options, hind_node **node) {
     if (node) *node = NULL;
     hind_code code = node ? hindlib_read_options(&o, sizeof o, options) : HIND_INVALID;
     if (code) return code;
-    if (!o.settings && o.settings_len) return HIND_INVALID;
+    if ((!o.settings && o.settings_len) || (o.pool_file && !*o.pool_file)) return HIND_INVALID;
+    if (o.spare) return HIND_ABI_WRONG;
     if (!o.settings) o.settings = "";
     if (!o.name) o.name = "";
     if (strnlen(o.name, HINDLIB_NAME + 1) > HINDLIB_NAME) return HIND_TOOLONG;
@@ -194,16 +218,19 @@ hind_code hind_node_open(const hind_node_options *options, hind_node **node) {
 hind_code hind_node_close(hind_node *node) {
     if (!node) return HIND_OK;
     if (node->forks != hindlib_forks) return HIND_FORKED;
-    pthread_mutex_lock(&node->pool);
+    pthread_mutex_lock(&node->sharing);
     node->is_closed = 1;
     for (size_t i = 0; i < node->count; i++) hindlib_store(&node->clients[i].is_closed, 1);
-    pthread_mutex_unlock(&node->pool);
+    pthread_mutex_unlock(&node->sharing);
     hindlib_sweep();
     if (node->fd >= 0) close(node->fd);
     hindcore_node_free(&node->core);
-    pthread_mutex_lock(&node->pool);
+    past_close(node->past);
+    node->past = NULL;
+    hindlib_pool_end(node->pool);
+    pthread_mutex_lock(&node->sharing);
     size_t users = --node->users;
-    pthread_mutex_unlock(&node->pool);
+    pthread_mutex_unlock(&node->sharing);
     if (!users) destroy(node);
     return HIND_OK;
 }
@@ -220,7 +247,7 @@ static hind_code enter(hind_node *n) {
 /* The descriptor can be read exactly while there is a message. */
 static void signal_fd(hind_node *n) {
     uint64_t number, len, count = 1;
-    int is_there = n->fd >= 0 && hindcore_node_next(&n->core, &number, n->message, 0, &len) != HINDCORE_NOTHING;
+    int is_there = n->fd >= 0 && (past_has_next(n->past) || hindcore_node_next(&n->core, &number, n->message, 0, &len) != HINDCORE_NOTHING);
     if (n->fd < 0 || is_there == n->is_signalled) return;
     ssize_t moved = is_there ? write(n->fd, &count, sizeof count) : read(n->fd, &count, sizeof count);
     if (moved == sizeof count) n->is_signalled = is_there;
@@ -244,24 +271,43 @@ hind_code hind_node_pass(hind_node *node) {
     return says ? HIND_OK : HIND_NOTHING;
 }
 
+/* What the node tells of a group has what earlier lives left of its traces handed out in front of it, and stays in the pool's file. */
+static void look_at(hind_node *n, uint64_t number, size_t len) {
+    if (number < n->work.looked) return;
+    n->work.looked = number + 1;
+    if (n->message[1] != TOLD) return;
+    past_name(n->past, n->message, len);
+    if (n->pool) hindlib_pool_told(n->pool, number, n->message, len);
+}
+
+/* The next message of the core, or of an earlier life: its length, or 0 where there is none. */
+static size_t next_message(hind_node *n, uint64_t *number) {
+    uint64_t len = 0;
+    size_t of_past = past_next(n->past, number, n->message);
+    if (of_past || hindcore_node_next(&n->core, number, n->message, sizeof n->message, &len) != HINDCORE_DONE) return of_past;
+    hindlib_number_group(n->message, (size_t)len, n->number, n->first_group);
+    look_at(n, *number, (size_t)len);
+    if (!past_has_next(n->past)) return (size_t)len;
+    return past_next(n->past, number, n->message);
+}
+
 hind_code hind_node_next(hind_node *node, hind_message *message) {
-    uint64_t number = 0, len = 0;
+    uint64_t number = 0;
     hind_code code = message ? enter(node) : HIND_INVALID;
     if (code) return code;
-    uint32_t answer = hindcore_node_next(&node->core, &number, node->message, sizeof node->message, &len);
-    if (answer == HINDCORE_DONE) {
-        hindlib_number_group(node->message, (size_t)len, node->number, node->first_group);
+    size_t len = next_message(node, &number);
+    if (len) {
         message->number = number;
         message->to = HIND_NO_NODE;
         message->bytes = node->message;
-        message->len = (size_t)len;
+        message->len = len;
         node->work.number = number;
         node->work.kind = node->message[1] < KINDS ? node->message[1] : 0;
     }
-    return leave(node, answer);
+    return leave(node, len ? HINDCORE_DONE : HINDCORE_NOTHING);
 }
 
-/* Numbers rise, so what was handed out before has a lower one. */
+/* The core's numbers rise, so what was handed out before has a lower one. */
 static void count_sent(node_work *w, uint64_t number) {
     if (number < w->handed) {
         w->repeats++;
@@ -276,6 +322,8 @@ static void count_sent(node_work *w, uint64_t number) {
 hind_code hind_node_sent(hind_node *node, uint64_t number) {
     hind_code code = enter(node);
     if (code) return code;
+    if (number >= PAST_FIRST) return leave(node, past_sent(node->past, number) ? HINDCORE_DONE : HINDCORE_NOTHING);
+    if (past_has_next(node->past)) return leave(node, HINDCORE_NOTHING);
     uint32_t answer = hindcore_node_sent(&node->core, number);
     if (answer == HINDCORE_DONE) count_sent(&node->work, number);
     return leave(node, answer);
@@ -284,7 +332,9 @@ hind_code hind_node_sent(hind_node *node, uint64_t number) {
 hind_code hind_node_acknowledged(hind_node *node, uint64_t number) {
     hind_code code = enter(node);
     if (code) return code;
+    if (number >= PAST_FIRST) return leave(node, past_acknowledged(node->past, number) ? HINDCORE_DONE : HINDCORE_NOTHING);
     uint32_t answer = hindcore_node_acknowledged(&node->core, number);
+    if (node->pool && answer == HINDCORE_DONE) hindlib_pool_kept(node->pool, number);
     node->work.acknowledged += answer == HINDCORE_DONE;
     node->work.unacknowledged -= answer == HINDCORE_DONE && number < node->work.handed;
     return leave(node, answer);
@@ -292,7 +342,9 @@ hind_code hind_node_acknowledged(hind_node *node, uint64_t number) {
 
 hind_code hind_node_again(hind_node *node) {
     hind_code code = enter(node);
-    return code ? code : leave(node, hindcore_node_again(&node->core));
+    if (code) return code;
+    past_again(node->past);
+    return leave(node, hindcore_node_again(&node->core));
 }
 
 /* The core is asked by the numbers that it gave. */
@@ -336,9 +388,9 @@ int hind_node_fd(hind_node *node) {
 /* ---- counts */
 
 static uint64_t used_clients(hind_node *n) {
-    pthread_mutex_lock(&n->pool);
+    pthread_mutex_lock(&n->sharing);
     uint64_t used = n->users - !n->is_closed;
-    pthread_mutex_unlock(&n->pool);
+    pthread_mutex_unlock(&n->sharing);
     return used;
 }
 
@@ -347,11 +399,12 @@ hind_code hind_node_get_counts(hind_node *node, hind_node_counts *counts) {
     hind_code code = enter(node);
     if (code) return code;
     const node_work *w = &node->work;
+    const past_counts left = past_count(node->past);
     for (size_t i = 0; i < node->count; i++) hindlib_add_shown(&node->clients[i], &of);
     hind_node_counts own = {sizeof own, w->passes, node->count, used_clients(node),
                             of.points, of.null_pages, of.stray_points, of.full_points, of.long_points, of.spent_points, of.refused_crumbs, of.refused_triggers, of.dropped_notes,
                             w->messages, w->of_kind[HELLO], w->of_kind[TOLD], w->of_kind[REPORTED], w->of_kind[STANDING], w->repeats, w->acknowledged, w->unacknowledged,
-                            w->asks, w->full_asks, w->refused_asks};
+                            w->asks, w->full_asks, w->refused_asks, left.pages, left.torn, left.unacknowledged};
     (void)leave(node, HINDCORE_DONE);
     return hindlib_give(counts, &own, sizeof own);
 }

@@ -29,7 +29,7 @@ static const char *const texts[STATEMENTS] = {
     "INSERT OR IGNORE INTO traces VALUES (?, ?, ?, ?, ?)",
     /* what is not known now does not hide what was known before */
     ("INSERT INTO lives VALUES (?, ?, ?, ?, ?) ON CONFLICT DO UPDATE SET service = iif(excluded.service = '', service, excluded.service),"
-     " wholeness = iif(excluded.wholeness IN ('silent', 'not answered') OR excluded.wholeness LIKE 'unheard %', wholeness, excluded.wholeness)"),
+     " wholeness = iif(wholeness = 'salvaged' OR excluded.wholeness IN ('silent', 'not answered') OR excluded.wholeness LIKE 'unheard %', wholeness, excluded.wholeness)"),
     "INSERT OR IGNORE INTO records VALUES (?, ?, ?, ?, ?, ?, ?, ?, ?)",
 };
 
