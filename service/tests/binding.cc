@@ -2,6 +2,7 @@
 #include "hindsight.hpp"
 #include <cstdio>
 #include <cstring>
+#include <unistd.h>
 
 static int failed;
 
@@ -62,8 +63,23 @@ static void empty_pool() {
     HOLDS(segment.point("0123456789") == HIND_DRY && segment.code() == HIND_OK);
 }
 
+// The buffers of a node lie in its file.
+static void pool_file() {
+    std::string pool = "/dev/shm/hindsight-binding-" + std::to_string(getpid());
+    hindsight::Node node(settings, 0, "one", 1, pool);
+    HOLDS(!access(pool.c_str(), F_OK));
+    try {
+        hindsight::Node other(settings, 0, "two", 2, pool);
+        HOLDS(false);
+    } catch (const hindsight::Error &error) {
+        HOLDS(error.code == HIND_TAKEN);
+    }
+    unlink(pool.c_str());
+}
+
 int main() {
     empty_pool();
+    pool_file();
     hindsight::Node node(settings, 0, "one");
     hindsight::Hub hub(settings, 0, true);
     hind_trace_id id = hindsight::new_trace();

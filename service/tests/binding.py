@@ -4,6 +4,7 @@ import asyncio
 import logging
 import pathlib
 import sys
+import tempfile
 import threading
 
 sys.dont_write_bytecode = True
@@ -214,6 +215,25 @@ def test_headers():
     refused(lambda: web.write_context(own), hindsight.INVALID, "argument")
 
 
+def test_pool_file():
+    with tempfile.TemporaryDirectory() as folder:
+        pool, trace = pathlib.Path(folder) / "pool", hindsight.new_trace()
+        with hindsight.Node(SETTINGS, epoch=1, pool_file=pool) as node:
+            refused(lambda: hindsight.Node(SETTINGS, epoch=2, pool_file=pool), web.TAKEN, "pool file")
+            with node.segment(trace) as segment:
+                segment.point(b"left behind")
+        assert b"left behind" in pool.read_bytes()
+        with hindsight.Node(SETTINGS, epoch=2, pool_file=pool) as node, hindsight.Hub(SETTINGS) as hub:
+            with node.segment(hindsight.new_trace()) as segment:
+                segment.trigger(1, [trace])
+            for _ in range(5):  # nobody knows what else the first life had: it is given out by age
+                found = traces(node, hub)
+                if trace in found:
+                    break
+            assert payloads(found[trace]) == [b"left behind"] and node.counts()["salvaged"] == 1
+        assert sorted(it.name for it in pool.parent.iterdir()) == ["pool", "pool.0000000000000001"]
+
+
 def main():
     with hindsight.Node(SETTINGS, name="shop") as node, hindsight.Hub(SETTINGS, is_fresh=True) as hub:
         test_messages(node)
@@ -228,6 +248,7 @@ def main():
         test_threads(node, hub)
         test_spans(node, hub)
         test_headers()
+    test_pool_file()
 
 
 if __name__ == "__main__":

@@ -37,7 +37,7 @@ inline hind_trace_id new_trace() {
     return id;
 }
 
-// The node of this process. `name` is copied, and settings are read once.
+// The node of this process. `name` is copied, and settings are read once. In `pool_file` its buffers lie, so that they outlive the process; "" is none.
 class Node {
     struct Close {
         void operator()(hind_node *node) const noexcept { hind_node_close(node); }
@@ -45,13 +45,14 @@ class Node {
     std::unique_ptr<hind_node, Close> node_;
 
   public:
-    Node(std::string_view settings, hind_node_id number, const std::string &name = "", std::uint64_t epoch = 0) {
+    Node(std::string_view settings, hind_node_id number, const std::string &name = "", std::uint64_t epoch = 0, const std::string &pool_file = "") {
         hind_node_options options = HIND_NODE_OPTIONS_INIT;
         options.node = number;
         options.epoch = epoch;
         options.settings = settings.data();
         options.settings_len = settings.size();
         options.name = name.c_str();
+        if (!pool_file.empty()) options.pool_file = pool_file.c_str();
         hind_node *node = nullptr;
         if (hind_code code = hind_node_open(&options, &node)) throw Error(code);
         node_.reset(node);

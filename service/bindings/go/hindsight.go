@@ -43,6 +43,7 @@ const (
 	Settings   Error = C.HIND_SETTINGS
 	Refused    Error = C.HIND_REFUSED
 	Closed     Error = C.HIND_CLOSED
+	Taken      Error = C.HIND_TAKEN
 	Dry        Error = C.HIND_DRY
 )
 
@@ -91,16 +92,32 @@ type Node struct {
 
 // Open opens a node, with an epoch above those of its lives before; 0 is the clock's.
 func Open(settings string, number NodeID, name string, epoch uint64) (*Node, error) {
+	return OpenWith(Options{Settings: settings, Number: number, Name: name, Epoch: epoch})
+}
+
+// Options say how a node is opened. In PoolFile its buffers lie, so that they outlive the process; "" is none.
+type Options struct {
+	Settings, Name, PoolFile string
+	Number                   NodeID
+	Epoch                    uint64
+}
+
+// OpenWith opens a node by these options.
+func OpenWith(of Options) (*Node, error) {
 	runtime.LockOSThread()
 	defer runtime.UnlockOSThread()
-	text, called := C.CString(settings), C.CString(name)
+	text, called := C.CString(of.Settings), C.CString(of.Name)
 	defer C.free(unsafe.Pointer(text))
 	defer C.free(unsafe.Pointer(called))
 	options := (*C.hind_node_options)(C.calloc(1, C.sizeof_hind_node_options))
 	defer C.free(unsafe.Pointer(options))
 	options.size, options.abi = C.sizeof_hind_node_options, C.HIND_ABI
-	options.node, options.epoch, options.name = C.hind_node_id(number), C.uint64_t(epoch), called
-	options.settings, options.settings_len = text, C.size_t(len(settings))
+	options.node, options.epoch, options.name = C.hind_node_id(of.Number), C.uint64_t(of.Epoch), called
+	options.settings, options.settings_len = text, C.size_t(len(of.Settings))
+	if of.PoolFile != "" {
+		options.pool_file = C.CString(of.PoolFile)
+		defer C.free(unsafe.Pointer(options.pool_file))
+	}
 	node := &Node{}
 	if err := errorOf(C.hind_node_open(options, &node.at)); err != nil {
 		return nil, err

@@ -5,6 +5,8 @@ import (
 	"context"
 	"errors"
 	"fmt"
+	"os"
+	"path/filepath"
 	"sync"
 	"testing"
 	"time"
@@ -164,6 +166,21 @@ func TestGoroutines(t *testing.T) {
 		t.Error(node.Lost(), "samples of no autotrigger were lost")
 	}
 	node.Close()
+}
+
+func TestPoolFile(t *testing.T) {
+	pool := filepath.Join(t.TempDir(), "pool")
+	node, err := OpenWith(Options{Settings: settings, Number: 1, Epoch: 7, PoolFile: pool})
+	if err != nil {
+		t.Fatal(err)
+	}
+	if _, err := OpenWith(Options{Settings: settings, Number: 1, Epoch: 8, PoolFile: pool}); err != Taken {
+		t.Error(err)
+	}
+	node.Close()
+	if _, err := os.Stat(pool); err != nil {
+		t.Error(err)
+	}
 }
 
 func TestNoSegment(t *testing.T) {

@@ -25,7 +25,7 @@ _pointer, _size = ctypes.c_void_p, ctypes.c_size_t
 
 class _NodeOptions(ctypes.Structure):
     _fields_ = [("size", _size), ("abi", ctypes.c_uint32), ("node", ctypes.c_uint16), ("epoch", ctypes.c_uint64), ("settings", ctypes.c_char_p),
-                ("settings_len", _size), ("name", ctypes.c_char_p)]
+                ("settings_len", _size), ("name", ctypes.c_char_p), ("pool_file", ctypes.c_char_p), ("pool_kept", ctypes.c_uint32), ("spare", ctypes.c_uint32)]
 
 
 class _HubOptions(ctypes.Structure):
@@ -41,7 +41,7 @@ class _NodeCounts(ctypes.Structure):
     _fields_ = [("size", _size)] + [(name, ctypes.c_uint64) for name in (
         "passes", "clients", "used_clients", "points", "null_pages", "stray_points", "full_points", "long_points", "spent_points", "refused_crumbs",
         "refused_triggers", "dropped_notes", "messages", "hellos", "tells", "reports", "standings", "repeats", "acknowledged", "unacknowledged", "asks",
-        "full_asks", "refused_asks")]
+        "full_asks", "refused_asks", "salvaged", "torn", "salvaging")]
 
 
 class _Info(ctypes.Structure):
@@ -115,11 +115,12 @@ def current():
 class Node:
     """The node of this process."""
 
-    def __init__(self, settings, number=0, name="", epoch=0):
+    def __init__(self, settings, number=0, name="", epoch=0, pool_file=None):
+        """In the pool file the node's buffers lie, so that they outlive the process."""
         settings = settings.encode()
         self._at = _pointer()
         self.lost = 0  # calls of segments that were refused
-        options = _NodeOptions(ctypes.sizeof(_NodeOptions), ABI, number, epoch, settings, len(settings), name.encode())
+        options = _NodeOptions(ctypes.sizeof(_NodeOptions), ABI, number, epoch, settings, len(settings), name.encode(), pool_file and os.fsencode(pool_file))
         _checked(_library.hind_node_open(ctypes.byref(options), ctypes.byref(self._at)))
 
     def close(self):

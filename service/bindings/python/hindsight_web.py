@@ -103,7 +103,8 @@ def span_int(segment, span, key, value):
 
 class _NatsOptions(ctypes.Structure):
     _fields_ = [("size", _size), ("abi", ctypes.c_uint32), ("url", ctypes.c_char_p), ("prefix", ctypes.c_char_p), ("name", ctypes.c_char_p),
-                ("settings", ctypes.c_char_p), ("settings_len", _size), ("lease_ms", ctypes.c_uint32), ("wait_ms", ctypes.c_uint32), ("pass_ms", ctypes.c_uint32)]
+                ("settings", ctypes.c_char_p), ("settings_len", _size), ("lease_ms", ctypes.c_uint32), ("wait_ms", ctypes.c_uint32), ("pass_ms", ctypes.c_uint32),
+                ("pool_file", ctypes.c_char_p), ("pool_kept", ctypes.c_uint32), ("spare", ctypes.c_uint32)]
 
 
 class _CarriedNode(hindsight.Node):
@@ -118,9 +119,9 @@ class _CarriedNode(hindsight.Node):
 
 class Carried:
     """A node, and a thread of the library's that makes its passes and carries its messages. Error with `code` TAKEN: another process has the name; AWAY:
-    the server is not there."""
+    the server is not there. In the pool file the node's buffers lie, so that they outlive the process."""
 
-    def __init__(self, settings, name, url=None, prefix=None, lease_ms=0, wait_ms=0, pass_ms=0):
+    def __init__(self, settings, name, url=None, prefix=None, lease_ms=0, wait_ms=0, pass_ms=0, pool_file=None):
         of = self._of = ctypes.CDLL(os.environ.get("HINDSIGHT_NATS_LIBRARY", "libhindsight_nats.so.0"))
         of.hind_nats_start.argtypes = [ctypes.POINTER(_NatsOptions), ctypes.POINTER(_pointer)]
         of.hind_nats_node.argtypes, of.hind_nats_node.restype = [_pointer], _pointer
@@ -129,7 +130,7 @@ class Carried:
         of.hind_nats_metrics.argtypes = [_pointer, _pointer, _size, ctypes.POINTER(_size)]
         text, at = settings.encode(), _pointer()
         options = _NatsOptions(ctypes.sizeof(_NatsOptions), hindsight.ABI, url and url.encode(), prefix and prefix.encode(), name.encode(), text, len(text),
-                               lease_ms, wait_ms, pass_ms)
+                               lease_ms, wait_ms, pass_ms, pool_file and os.fsencode(pool_file))
         hindsight._checked(of.hind_nats_start(ctypes.byref(options), ctypes.byref(at)))
         self._at, self.number = at, of.hind_nats_number(at)
         self.node = _CarriedNode(of.hind_nats_node(at))

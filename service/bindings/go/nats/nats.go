@@ -18,6 +18,7 @@ import (
 // Options are those of hind_nats_start: an empty text is the default.
 type Options struct {
 	URL, Prefix, Name, Settings string
+	PoolFile                    string // where the node's buffers lie, so that they outlive the process
 	Lease, Wait, Pass           time.Duration
 }
 
@@ -48,7 +49,8 @@ func Start(of Options) (*Carrier, error) {
 	options.settings, options.settings_len = text(of.Settings), C.size_t(len(of.Settings))
 	options.lease_ms, options.wait_ms = C.uint32_t(of.Lease.Milliseconds()), C.uint32_t(of.Wait.Milliseconds())
 	options.pass_ms = C.uint32_t(of.Pass.Milliseconds())
-	for _, word := range []*C.char{options.url, options.prefix, options.name, options.settings} {
+	options.pool_file = text(of.PoolFile)
+	for _, word := range []*C.char{options.url, options.prefix, options.name, options.settings, options.pool_file} {
 		defer C.free(unsafe.Pointer(word))
 	}
 	c := &Carrier{}

@@ -38,6 +38,8 @@ pub enum Error {
     Spent,
     /// The client was given back.
     Closed,
+    /// Another process, or another node of this one, has the pool file.
+    Taken,
     /// Of a point: no buffer was free, so the record is lost. The request goes on.
     Dry,
     /// An answer that this crate does not know.
@@ -67,6 +69,7 @@ impl Error {
             -14 => Error::System(std::io::Error::last_os_error().raw_os_error().unwrap_or(0)),
             -15 => Error::Spent,
             -16 => Error::Closed,
+            -17 => Error::Taken,
             -19 => Error::Dry,
             other => Error::Other(other),
         })
@@ -91,6 +94,7 @@ impl Error {
             Error::System(_) => -14,
             Error::Spent => -15,
             Error::Closed => -16,
+            Error::Taken => -17,
             Error::Dry => -19,
             Error::Other(code) => *code,
         }

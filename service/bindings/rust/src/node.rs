@@ -4,6 +4,8 @@ use std::ffi::CString;
 use std::marker::PhantomData;
 use std::mem::size_of;
 use std::os::raw::c_int;
+use std::os::unix::ffi::OsStrExt;
+use std::path::Path;
 use std::ptr::{self, NonNull};
 use std::sync::Mutex;
 
@@ -63,13 +65,19 @@ counts!(
 counts!(
     /// What a node did since it was opened. `hindsight.h` says what each number counts.
     NodeCounts of hind_node_counts: passes, clients, used_clients, points, null_pages, stray_points, full_points, long_points, spent_points, refused_crumbs,
-        refused_triggers, dropped_notes, messages, hellos, tells, reports, standings, repeats, acknowledged, unacknowledged, asks, full_asks, refused_asks
+        refused_triggers, dropped_notes, messages, hellos, tells, reports, standings, repeats, acknowledged, unacknowledged, asks, full_asks, refused_asks, salvaged, torn, salvaging
 );
 
 impl Node {
     /// Opens node `number` by the text of the service's settings. The epoch is above those of its lives before; 0 is the clock's.
     pub fn open(settings: &str, number: NodeId, name: &str, epoch: u64) -> Result<Node> {
+        Node::open_with(settings, number, name, epoch, None)
+    }
+
+    /// The same, with its buffers in a file, so that they outlive the process.
+    pub fn open_with(settings: &str, number: NodeId, name: &str, epoch: u64, pool_file: Option<&Path>) -> Result<Node> {
         let name = CString::new(name).map_err(|_| Error::Invalid)?;
+        let pool = pool_file.map(|path| CString::new(path.as_os_str().as_bytes())).transpose().map_err(|_| Error::Invalid)?;
         let options = sys::hind_node_options {
             size: size_of::<sys::hind_node_options>(),
             abi: sys::HIND_ABI,
@@ -78,6 +86,9 @@ impl Node {
             settings: settings.as_ptr(),
             settings_len: settings.len(),
             name: name.as_ptr(),
+            pool_file: pool.as_ref().map_or(ptr::null(), |path| path.as_ptr()),
+            pool_kept: 0,
+            spare: 0,
         };
         let mut node = ptr::null_mut();
         // SAFETY: what the options point to stands during the call.

@@ -40,6 +40,9 @@ pub struct hind_node_options {
     pub settings: *const u8,
     pub settings_len: usize,
     pub name: *const c_char,
+    pub pool_file: *const c_char,
+    pub pool_kept: u32,
+    pub spare: u32,
 }
 
 #[repr(C)]
@@ -103,6 +106,9 @@ pub struct hind_node_counts {
     pub asks: u64,
     pub full_asks: u64,
     pub refused_asks: u64,
+    pub salvaged: u64,
+    pub torn: u64,
+    pub salvaging: u64,
 }
 
 #[repr(C)]

@@ -249,6 +249,16 @@ fn threads_and_tasks() {
 }
 
 #[test]
+fn pool_file() {
+    let pool = std::env::temp_dir().join(format!("hindsight-binding-{}", std::process::id()));
+    let node = Node::open_with(SETTINGS, 1, "rust", 7, Some(&pool)).unwrap();
+    assert_eq!(Node::open_with(SETTINGS, 1, "rust", 8, Some(&pool)).err(), Some(Error::Taken));
+    drop(node);
+    assert!(std::fs::read(&pool).unwrap().starts_with(b"HINDPOOL"));
+    std::fs::remove_file(&pool).unwrap();
+}
+
+#[test]
 fn headers() {
     let parent = "00-0102030405060708090a0b0c0d0e0f10-00f067aa0ba902b7-01";
     let read = Context::read(parent, Some("other=1,hind=1-0003")).unwrap();
