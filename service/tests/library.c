@@ -50,7 +50,7 @@ static void texts(void) {
     EXPECT(HIND_DRY, -19);
     EXPECT(strcmp(hind_errname(HIND_DRY), "HIND_DRY"), 0);
     EXPECT(hind_version(), HIND_VERSION_NUMBER);
-    EXPECT(strcmp(hind_version_string(), "0.2.0"), 0);
+    EXPECT(strcmp(hind_version_string(), "0.3.0"), 0);
 }
 
 static void options(void) {

@@ -1,5 +1,7 @@
 /* Memory that is refused: each allocation in turn, while a node, a hub and a trace are made. Nothing is made then, and nothing is kept. No call of
- * a client takes any. */
+ * a client takes any.
+ *
+ *     library_memory FOLDER      an empty folder for a pool file */
 #include "expect.h"
 #include "hindsight.h"
 #include "refusing.h"
@@ -31,6 +33,17 @@ static hind_code open_node(hind_node **node) {
     o.settings = text;
     o.settings_len = sizeof text - 1;
     o.name = "n";
+    return hind_node_open(&o, node);
+}
+
+/* In the folder that the test was given. */
+static char pool[300];
+
+static hind_code open_with_pool(hind_node **node) {
+    hind_node_options o = HIND_NODE_OPTIONS_INIT;
+    o.settings = text;
+    o.settings_len = sizeof text - 1;
+    o.pool_file = pool;
     return hind_node_open(&o, node);
 }
 
@@ -148,7 +161,41 @@ static void refused_in_passes(int all_behind) {
     printf("passes: %ld allocations refused%s, %ld nodes took nothing any more\n", at, all_behind ? ", and all behind" : "", spent);
 }
 
-int main(void) {
+/* A life that leaves a claimed trace in its pool file. */
+static void leave_some(void) {
+    hind_node *node = NULL;
+    hind_client *c = NULL;
+    hind_message m;
+    EXPECT(open_with_pool(&node), HIND_OK);
+    EXPECT(hind_client_open(node, &c), HIND_OK);
+    EXPECT(hind_begin(c, &id), HIND_OK);
+    EXPECT(hind_point(c, "some bytes", 10), HIND_OK);
+    EXPECT(hind_trigger(c, 1, NULL, NULL, 0), HIND_OK);
+    for (int i = 0; i < 4; i++) (void)hind_node_pass(node);
+    while (hind_node_next(node, &m) == HIND_OK) EXPECT(hind_node_sent(node, m.number), HIND_OK);
+    EXPECT(hind_node_close(node), HIND_OK);
+    EXPECT(hind_client_close(c), HIND_OK);
+}
+
+/* Nothing of it is lost where the next life finds no memory at first. */
+static int with_pool(void) {
+    hind_node *node = NULL;
+    hind_message m;
+    long before = live;
+    leave_some();
+    EXPECT(live, before);
+    REFUSING(open_with_pool(&node), node);
+    EXPECT(hind_node_next(node, &m), HIND_OK);
+    EXPECT(m.bytes[1], 2); /* what it claimed is told again, */
+    EXPECT(hind_node_sent(node, m.number), HIND_OK);
+    EXPECT(hind_node_next(node, &m), HIND_OK);
+    EXPECT(m.bytes[1], 4); /* .. and its page comes behind */
+    EXPECT(hind_node_close(node), HIND_OK);
+    EXPECT(live, before);
+    return failed != 0;
+}
+
+int main(int argc, char **argv) {
     hind_node *node;
     hind_hub *hub;
     hind_client *c, *own;
@@ -179,5 +226,7 @@ int main(void) {
     EXPECT(live, before);
     refused_in_passes(0);
     refused_in_passes(1);
-    return failed != 0;
+    if (argc < 2) return 2;
+    snprintf(pool, sizeof pool, "%s/pool", argv[1]);
+    return with_pool();
 }

@@ -1,6 +1,7 @@
 /* Services whose nodes a NATS server carries: started, refused, stopped, and killed. What they claim is saved by the program hindsight-hub.
  *
- *     nats_start FOLDER PORT HUB      FOLDER is empty; HUB is the program */
+ *     nats_start FOLDER PORT HUB      FOLDER is empty; HUB is the program
+ *     nats_start FOLDER PORT          a service with a pool file that dies in the middle of a claimed request */
 #include "expect.h"
 #include "hindsight_nats.h"
 #include "processes.h"
@@ -218,6 +219,58 @@ static void services(void) {
     EXPECT(hind_nats_stop(front, 10000), HIND_OK);
 }
 
+/* ---- a service that is killed */
+
+static hind_nats *started_with_pool(void) {
+    hind_nats_options o = named("front");
+    hind_nats *nats = NULL;
+    char pool[300];
+    snprintf(pool, sizeof pool, "%s/pool", folder);
+    o.pool_file = pool;
+    hind_code code = HIND_TAKEN;
+    /* a name is free again after 15 seconds */
+    for (int i = 0; i < 300 && code == HIND_TAKEN; i++) {
+        code = hind_nats_start(&o, &nats);
+        if (code) sleep_ms(100);
+    }
+    EXPECT(code, HIND_OK);
+    return nats;
+}
+
+static const hind_trace_id unfinished = {{0x66}};
+
+static void die_in_a_request(void) {
+    hind_nats *front = started_with_pool();
+    hind_nats_counts counts = {.size = sizeof counts};
+    hind_client *c;
+    if (!front || hind_client_get(hind_nats_node(front), &c)) return;
+    EXPECT(hind_begin(c, &unfinished), HIND_OK);
+    EXPECT(hind_point_at(c, 1, "came", 4), HIND_OK);
+    EXPECT(hind_trigger(c, 1, NULL, NULL, 0), HIND_OK);
+    /* who it is, what it claims, and how the claim stands */
+    for (int i = 0; i < 100 && counts.acknowledged < 3; i++) {
+        sleep_ms(50);
+        (void)hind_nats_get_counts(front, &counts);
+    }
+    EXPECT(hind_point_at(c, 2, "goes on", 7), HIND_OK);
+    raise(SIGKILL);
+}
+
+/* What it left comes to the hub, which never calls it whole. */
+static void killed(const char *self) {
+    char *words[] = {(char *)(size_t)self, (char *)(size_t)folder, (char *)(size_t)port, NULL};
+    int status = 0;
+    pid_t child = process_start(words);
+    HOLDS(waitpid(child, &status, 0) == child);
+    HOLDS(WIFSIGNALED(status) && WTERMSIG(status) == SIGKILL);
+    hind_nats *front = started_with_pool();
+    for (int i = 0; i < 600 && one_number("SELECT count(*) FROM records WHERE hex(trace) LIKE '66%'") < 2; i++) sleep_ms(100);
+    EXPECT(one_number("SELECT count(*) FROM records WHERE hex(trace) LIKE '66%' AND core = -1"), 2);
+    EXPECT(one_number("SELECT count(*) FROM lives WHERE hex(trace) LIKE '66%' AND service = 'front' AND wholeness = 'salvaged'"), 1);
+    EXPECT(one_number("SELECT count(*) FROM traces WHERE hex(trace) LIKE '66%' AND whole = 0"), 1);
+    EXPECT(hind_nats_stop(front, 10000), HIND_OK);
+}
+
 /* What cannot be acknowledged is told. */
 static void away(void) {
     hind_nats *front = started("front"), *back = started("back");
@@ -229,12 +282,16 @@ static void away(void) {
 
 int main(int argc, char **argv) {
     char path[300];
-    if (argc != 4) return 2;
+    if (argc != 3 && argc != 4) return 2;
     setvbuf(stdout, NULL, _IOLBF, 0); /* what forks has nothing left to print */
     folder = argv[1];
     port = argv[2];
-    hub_program = argv[3];
     snprintf(url, sizeof url, "nats://127.0.0.1:%s", port);
+    if (argc == 3) {
+        die_in_a_request();
+        return 1;
+    }
+    hub_program = argv[3];
     snprintf(path, sizeof path, "%s/settings", folder);
     FILE *file = fopen(path, "w");
     if (!file) return 2;
@@ -246,6 +303,7 @@ int main(int argc, char **argv) {
     run_server();
     run_hub();
     services();
+    killed(argv[0]);
     EXPECT(process_end(hub, SIGTERM), 1);
     away();
     nats_Close();
