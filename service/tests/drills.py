@@ -127,7 +127,7 @@ def stretch(words, built, folder):
 
 class Drill:
     LOAD, SHORT_LOAD = 12, 7  # seconds
-    ENVIRONMENT = {"SHOP_SLOW_EVERY": "1000"}  # so few that the slowest of a hundred of the probe's carts are others
+    ENVIRONMENT = {"SHOP_SLOW_EVERY": "4000"}  # each slow cart keeps up to eight others: so few that the slowest of a hundred are others
     SHORT_ENVIRONMENT = {"SHOP_SLOW_EVERY": "250"}
 
     def __init__(self, name, words, spread, trouble, environment=None, settings=None, load=LOAD, begin=shop.Shop.start_all, **_):
