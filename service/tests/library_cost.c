@@ -1,6 +1,6 @@
 /* So many points of 32 bytes through the library, for callgrind, which counts what is done inside of them.
  *
- *     library_cost COUNT */
+ *     library_cost COUNT [FILE]     with a file the node's buffers lie there */
 #include "hindsight.h"
 #include <stdlib.h>
 #include <string.h>
@@ -12,7 +12,8 @@ int main(int argc, char **argv) {
     hind_node_options o = HIND_NODE_OPTIONS_INIT;
     hind_node *node;
     hind_client *c;
-    if (argc != 2) return 2;
+    if (argc < 2) return 2;
+    if (argc > 2) o.pool_file = argv[2];
     o.settings = text;
     o.settings_len = sizeof text - 1;
     if (hind_node_open(&o, &node) || hind_client_get(node, &c) || hind_begin(c, &id)) return 1;
