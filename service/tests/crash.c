@@ -172,6 +172,40 @@ static int map(pool_file *f) {
     return !code;
 }
 
+/* The first buffer that shows a page with a record, or NULL. */
+static uint8_t *first_page(uint8_t *bytes) {
+    uint32_t block = (uint32_t)pool_number(bytes + 12, 4), count = (uint32_t)pool_number(bytes + 20, 4);
+    for (uint32_t b = 0; b < count; b++) {
+        uint8_t *at = bytes + pool_number(bytes + 24, 8) + b * pool_number(bytes + 16, 4);
+        hindcore_piece one;
+        hindcore_page page;
+        if (hindcore_page_read(at, block, &page, &one, 1) == HINDCORE_DONE && page.pieces) return at;
+    }
+    return NULL;
+}
+
+/* Each fault that is looked for is seen where a byte of a sound file is another one. */
+static int sees_faults(const uint8_t *bytes, size_t len) {
+    static const struct {
+        size_t place;
+        size_t counted; /* in `found` */
+    } faults[] = {{PAGE_FRONT + PIECE_FRONT + 7, offsetof(found, damaged)}, {0, offsetof(found, of_others)}, {31, offsetof(found, torn)}};
+    uint8_t *copy = malloc(len), *page = NULL;
+    int sees = copy != NULL;
+    if (copy) memcpy(copy, bytes, len);
+    if (copy) page = first_page(copy);
+    for (size_t i = 0; page && i < sizeof faults / sizeof *faults; i++) {
+        found f = {0};
+        page[faults[i].place] ^= 1;
+        look(copy, UINT64_MAX, 0, &f);
+        page[faults[i].place] ^= 1;
+        sees = sees && *(unsigned long *)((char *)&f + faults[i].counted) > 0;
+    }
+    if (!sees || !page) fprintf(stderr, "a fault is not seen\n");
+    free(copy);
+    return sees && page;
+}
+
 /* ---- kills */
 
 static int one_kill(found *f, unsigned *dry) {
@@ -187,8 +221,9 @@ static int one_kill(found *f, unsigned *dry) {
     *dry += (unsigned)own->is_dry;
     if (!map(&file)) return 0;
     if (!own->is_dry) look(file.bytes, own->begun, own->done, f);
+    int sees = sees_faults(file.bytes, file.len);
     pool_close(&file);
-    return !unlink(pool);
+    return !unlink(pool) && sees;
 }
 
 static int kills(unsigned count) {
@@ -203,10 +238,10 @@ static int kills(unsigned count) {
 /* ---- steps */
 
 /* The file as it is while its process lives. */
-static const uint8_t *live(void) {
+static const uint8_t *live(size_t *len) {
     FILE *f = fopen(pool, "r");
     uint8_t *at = MAP_FAILED;
-    if (f && !fseek(f, 0, SEEK_END)) at = mmap(NULL, (size_t)ftell(f), PROT_READ, MAP_SHARED, fileno(f), 0);
+    if (f && !fseek(f, 0, SEEK_END)) at = mmap(NULL, *len = (size_t)ftell(f), PROT_READ, MAP_SHARED, fileno(f), 0);
     if (f) fclose(f);
     return at == MAP_FAILED ? NULL : at;
 }
@@ -220,7 +255,8 @@ static int steps(unsigned long count) {
         write_by_steps();
     }
     if (waitpid(child, &status, 0) != child || !WIFSTOPPED(status)) return 1;
-    const uint8_t *bytes = live();
+    size_t len = 0;
+    const uint8_t *bytes = live(&len);
     uint64_t from = own->done;
     for (; bytes && f.states < count; look(bytes, own->begun, own->done, &f)) {
         if (ptrace(PTRACE_SINGLESTEP, child, 0, 0) || waitpid(child, &status, 0) != child || !WIFSTOPPED(status)) return 1;
@@ -230,7 +266,7 @@ static int steps(unsigned long count) {
     kill(child, SIGKILL);
     waitpid(child, &status, 0);
     unlink(pool);
-    return tell(&f, "steps") || f.states < count;
+    return tell(&f, "steps") || f.states < count || !sees_faults(bytes, len);
 }
 
 int main(int argc, char **argv) {
