@@ -9,11 +9,13 @@ use Rattle.hs_words.specs.Buffers.{Buffer}
 use Rattle.hs_ring.specs.Parts.{Leased}
 use Rattle.hs_link.specs.Contents.{Incoming}
 use Rattle.hs_live.specs.Keys.{Key}
+use Rattle.hs_agent.specs.Runs.{Run}
 use Rattle.hs_intake.specs.declared.took.Stop.{Stop}
 use Rattle.hs_intake.specs.declared.took.Stop.TheVariants.{Empty, Most, Memory, Words, Claims}
 use Rattle.hs_intake.specs.Intakes.{PlainIntake, Waiting, Act, TakesChunk, Line, Lines, lines_of, chunk_line, acts_in}
 use Rattle.hs_intake.specs.Taking.{Receives, Moves, StopsBy}
 use Rattle.hs_intake.proofs.Lines.{get_set}
+use Rattle.hs_node.specs.Nodes.{part_at}
 use Rattle.hs_law_life.specs.NodeLives.{Taking, taking_of, takings, of_client, chunks_of, front_of, received_of}
 
 -- ---- lists of acts
@@ -111,6 +113,7 @@ pub record IsOther {T : Type 0} (line : Line T) : Type 0 where
   pub takes : (client : ℕ) (x : T) → taking_of (line.takes client x) ≡ None
   pub waits : (k client : ℕ) (x : T) → chunks_of k (acts_in (Some (line.waits client x))) ≡ []
   pub keeps : (lines : Lines) (ends : List (Incoming T Key)) → (line.with_ends lines ends).port.chunks ≡ lines.port.chunks
+  pub leaves : (run : Run Leased) (client : ℕ) (x : T) → part_at run (line.takes client x) ≡ None
 
 module _ {T : Type 0} (line : Line T) (other : IsOther line) (client : ℕ) where
   pub other_same : (items : List T) (old new : PlainIntake) → Moves line client items old new → new.port.chunks ≡ old.port.chunks

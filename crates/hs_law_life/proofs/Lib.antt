@@ -3,6 +3,8 @@ pub mod Standing
 pub mod Acts
 pub mod Sparing
 pub mod Counts
+pub mod Speaking
 pub mod Passing
 pub mod Living
 pub mod Followed
+pub mod Spoken

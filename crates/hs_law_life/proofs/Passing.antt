@@ -25,20 +25,22 @@ use Rattle.hs_node.specs.Nodes.{PlainNode, is_unspent}
 use Rattle.hs_node.specs.declared.pass.TheConstants.{MOST_NOTES, MOST_OFFERS}
 use Rattle.hs_base.specs.declared.limits.TheConstants.{MAX_TAKEN}
 use Rattle.hs_node.specs.Passing.{Doing, Then, Each, Until, Hears, HearsFrom, HearsAll, TakesChunks, TakesCrumbs, TakesLates, TakesTriggersOf, TakesFrom, TakesAll, TakesAsked, SaysFirst, TakesFront, Takes, OffersOne, OffersAll, StatesNext, LooksOn, StatesOne, StatesAll, ForgetsOne, ForgetsAll, Passes}
+use Rattle.hs_node.specs.Passing as parts
 use Rattle.hs_law_life.specs.NodeLives.{IsSettledAt, AreSettled, chunks_of, front_of, run_by, HasLived}
 use Rattle.hs_law_life.proofs.Sparing.{settled_both}
+use Rattle.hs_law_life.proofs.Speaking.{Speaks, no_parts, none_at_front, speaks_more, speaks_quiet, speaks_tells, speaks_says, speaks_states, speaks_offers}
 use Rattle.hs_law_life.proofs.Counts.{Counts, counts_none, chunks_append, takings_none, chunk_stops, IsOther, other_same, other_stops}
 
 -- ---- the lines
 
 crumbs_other : IsOther crumb_line
-crumbs_other = record { takes = λ client x. refl; waits = λ k client x. refl; keeps = λ lines ends. refl }
+crumbs_other = record { takes = λ client x. refl; waits = λ k client x. refl; keeps = λ lines ends. refl; leaves = λ run client x. refl }
 
 lates_other : IsOther late_line
-lates_other = record { takes = λ client x. refl; waits = λ k client x. refl; keeps = λ lines ends. refl }
+lates_other = record { takes = λ client x. refl; waits = λ k client x. refl; keeps = λ lines ends. refl; leaves = λ run client x. refl }
 
 triggers_other : IsOther trigger_line
-triggers_other = record { takes = λ client x. refl; waits = λ k client x. refl; keeps = λ lines ends. refl }
+triggers_other = record { takes = λ client x. refl; waits = λ k client x. refl; keeps = λ lines ends. refl; leaves = λ run client x. refl }
 
 settled_map : {T : Type 0} (f : T → Act) → ((run : Run Leased) (x : T) → IsSettledAt run (f x)) → (xs : List T) (run : Run Leased) → AreSettled run (map f xs)
 settled_map f each [] run = tt
@@ -56,27 +58,37 @@ module _ (settings : PlainSettings) (node : ℕ) where
   abbrev Lived : List Act → PlainIntake → Type 0
   Lived acts d = HasLived settings node acts d
 
-  abbrev More : List Act → PlainIntake → Type 0
-  More acts d = (more : List Act) × HasLived settings node (acts ++ more) d
+  -- by more acts, of which this is said
+  abbrev More : List Act → PlainIntake → PlainIntake → Type 0
+  More acts old new = (more : List Act) × (HasLived settings node (acts ++ more) new × Speaks (run_by settings node acts) more old new)
 
   abbrev Leads : Doing → Type 0
-  Leads part = (acts : List Act) (old new : PlainNode) → Lived acts old.intake → part (run_by settings node acts) old new → More acts new.intake
+  Leads part = (acts : List Act) (old new : PlainNode) → Lived acts old.intake → part (run_by settings node acts) old new → More acts old.intake new.intake
 
-  lived_more : (acts more : List Act) (old new : PlainIntake) → Lived acts old → Stands (life (run_by settings node acts) more) new → AreSettled (run_by settings node acts) more → Counts more old new → More acts new
-  lived_more acts more old new lived stands settled counts = (
+  lived_more : (acts more : List Act) (old new : PlainIntake) → Lived acts old → Stands (life (run_by settings node acts) more) new → AreSettled (run_by settings node acts) more → Counts more old new
+      → Speaks (run_by settings node acts) more old new → More acts old new
+  lived_more acts more old new lived stands settled counts speaks = (
     more,
-    record {
-      stands = subst (λ (r : Run Leased). Stands r new) (sym (life_append acts more (bare_run settings node))) stands;
-      settled = settled_both acts more (bare_run settings node) lived.settled settled;
-      took = λ client.
-          counts client (chunks_of client acts) (lived.took client) ∙ sym (append_assoc (chunks_of client acts) (chunks_of client more) (front_of client new))
-          ∙ ap (λ (l : List (Buffer Leased)). l ++ front_of client new) (sym (chunks_append client acts more));
-    },
+    (
+      record {
+        stands = subst (λ (r : Run Leased). Stands r new) (sym (life_append acts more (bare_run settings node))) stands;
+        settled = settled_both acts more (bare_run settings node) lived.settled settled;
+        took = λ client.
+            counts client (chunks_of client acts) (lived.took client) ∙ sym (append_assoc (chunks_of client acts) (chunks_of client more) (front_of client new))
+            ∙ ap (λ (l : List (Buffer Leased)). l ++ front_of client new) (sym (chunks_append client acts more));
+      },
+      speaks,
+    ),
   )
 
-  still : (acts : List Act) (old new : PlainIntake) → Lived acts old → new ≡ old → More acts new
+  -- no act was done
+  lived_same : (acts : List Act) (old new : PlainIntake) → Lived acts new → Speaks (run_by settings node acts) [] old new → More acts old new
+  lived_same acts old new lived speaks = ([], (subst (λ (l : List Act). HasLived settings node l new) (sym (append-nil acts)) lived, speaks))
+
+  still : (acts : List Act) (old new : PlainIntake) → Lived acts old → new ≡ old → More acts old new
   still acts old new lived same =
-      ([], subst (λ (l : List Act). HasLived settings node l new) (sym (append-nil acts)) (subst (λ (d : PlainIntake). HasLived settings node acts d) (sym same) lived))
+      lived_same acts old new (subst (λ (d : PlainIntake). HasLived settings node acts d) (sym same) lived)
+      (speaks_quiet (run_by settings node acts) [] old new refl refl (ap (λ (d : PlainIntake). d.mail) same) (ap (λ (d : PlainIntake). d.unsaid) same))
 
   -- what is said, claimed and asked is none of it
   pub quiet : (acts : List Act) (d : PlainIntake) (mail : Letters) (inbox : PlainInbox) (claims : PlainClaims) (unsaid : Option Told) → inbox.rules ≡ d.inbox.rules → Lived acts d
@@ -101,17 +113,28 @@ module _ (settings : PlainSettings) (node : ℕ) where
         took = lived.took;
       }
 
-  still_quiet : (acts : List Act) (old new : PlainIntake) (mail : Letters) (claims : PlainClaims) (unsaid : Option Told) → Lived acts old → new ≡ record old { mail = mail; claims = claims; unsaid = unsaid } → More acts new
-  still_quiet acts old new mail claims unsaid lived is =
-      still acts (record old { mail = mail; claims = claims; unsaid = unsaid }) new (quiet acts old mail old.inbox claims unsaid refl lived) is
+  still_quiet : (acts : List Act) (old new : PlainIntake) (mail : Letters) (claims : PlainClaims) (unsaid : Option Told) → Lived acts old → new ≡ record old { mail = mail; claims = claims; unsaid = unsaid }
+      → Speaks (run_by settings node acts) [] old new → More acts old new
+  still_quiet acts old new mail claims unsaid lived is speaks =
+      lived_same acts old new (subst (λ (d : PlainIntake). HasLived settings node acts d) (sym is) (quiet acts old mail old.inbox claims unsaid refl lived)) speaks
 
   -- ---- one part after another
+
+  joined : (acts : List Act) (a b c : PlainIntake) (first : More acts a b) → More (acts ++ first.0) b c → More acts a c
+  joined acts a b c first second = (
+    first.0 ++ second.0,
+    (
+      subst (λ (l : List Act). HasLived settings node l c) (append_assoc acts first.0 second.0) second.1.0,
+      speaks_more (run_by settings node acts) first.0 second.0 a b c first.1.1
+          (subst (λ (r : Run Leased). Speaks r second.0 b c) (life_append acts first.0 (bare_run settings node)) second.1.1),
+    ),
+  )
 
   then_leads : (a b : Doing) → Leads a → Leads b → Leads (Then a b)
   then_leads a b one two acts old new lived both =
       let first = one acts old both.mid lived both.does in
-      let second = two (acts ++ first.0) both.mid new first.1 (both.next (run_by settings node (acts ++ first.0)) first.1.stands) in
-      (first.0 ++ second.0, subst (λ (l : List Act). HasLived settings node l new.intake) (append_assoc acts first.0 second.0) second.1)
+      joined acts old.intake both.mid.intake new.intake first
+      (two (acts ++ first.0) both.mid new first.1.0 (both.next (run_by settings node (acts ++ first.0)) first.1.0.stands))
 
   each_leads : (part : ℕ → Doing) → ((n : ℕ) → Leads (part n)) → (n : ℕ) → Leads (Each part n)
   each_leads part leads zero acts old new lived same = still acts old.intake new.intake lived (ap (λ (d : PlainNode). d.intake) same)
@@ -120,14 +143,13 @@ module _ (settings : PlainSettings) (node : ℕ) where
   until_leads : (part : Bool → Doing) (most : ℕ) → ((b : Bool) → Leads (part b)) → Leads (Until part most)
   until_leads part most leads acts old new lived u = go u.ends
     where
-      first : More acts u.mid.intake
+      first : More acts old.intake u.mid.intake
       first = each_leads (λ n. part true) (λ n. leads true) u.count acts old u.mid lived u.does
 
-      go : ((u.count ≡ most) × (new ≡ u.mid)) ⊎ ((later : Run Leased) → Stands later u.mid.intake → part false later u.mid new) → More acts new.intake
-      go (inl (full, same)) = (first.0, subst (λ (d : PlainNode). HasLived settings node (acts ++ first.0) d.intake) (sym same) first.1)
+      go : ((u.count ≡ most) × (new ≡ u.mid)) ⊎ ((later : Run Leased) → Stands later u.mid.intake → part false later u.mid new) → More acts old.intake new.intake
+      go (inl (full, same)) = subst (λ (d : PlainNode). More acts old.intake d.intake) (sym same) first
       go (inr next) =
-          let second = leads false (acts ++ first.0) u.mid new first.1 (next (run_by settings node (acts ++ first.0)) first.1.stands) in
-          (first.0 ++ second.0, subst (λ (l : List Act). HasLived settings node l new.intake) (append_assoc acts first.0 second.0) second.1)
+          joined acts old.intake u.mid.intake new.intake first (leads false (acts ++ first.0) u.mid new first.1.0 (next (run_by settings node (acts ++ first.0)) first.1.0.stands))
 
   -- ---- notes
 
@@ -143,21 +165,24 @@ module _ (settings : PlainSettings) (node : ℕ) where
 
   -- ---- what clients sent
 
-  chunks_lead : (client : ℕ) (acts : List Act) (old : PlainIntake) (took : Took) (new : PlainIntake) → Lived acts old → TakesLine (run_by settings node acts) chunk_line client old took new → More acts new
+  chunks_lead : (client : ℕ) (acts : List Act) (old : PlainIntake) (took : Took) (new : PlainIntake) → Lived acts old → TakesLine (run_by settings node acts) chunk_line client old took new → More acts old new
   chunks_lead client acts old took new lived (inl (high, (is, same))) = still acts old new lived same
   chunks_lead client acts old took new lived (inr (inl (low, (front, (is, same))))) = still acts old new lived same
   chunks_lead client acts old took new lived (inr (inr (low, (front, many)))) =
       lived_more acts (map (TakesChunk client) many.items) old new lived many.goes.stands (settled_map (TakesChunk client) (λ run x. tt) many.items (run_by settings node acts))
       (chunk_stops client many.items old took.stop new front many.stops)
+      (speaks_tells (run_by settings node acts) (map (TakesChunk client) many.items) old new many.goes.tells (no_parts (TakesChunk client) (λ run x. refl) many.items (run_by settings node acts)))
 
   many_leads : {T : Type 0} (line : Line T) → IsOther line → ((client : ℕ) (run : Run Leased) (x : T) → IsSettledAt run (line.takes client x)) → (client : ℕ) (acts : List Act) (old : PlainIntake) (took : Took) (new : PlainIntake)
-      → Lived acts old → old.back ≡ None → TakesMany (run_by settings node acts) line client old took new → More acts new
+      → Lived acts old → old.back ≡ None → TakesMany (run_by settings node acts) line client old took new → More acts old new
   many_leads line other settled client acts old took new lived front many =
       lived_more acts (map (line.takes client) many.items) old new lived many.goes.stands (settled_map (line.takes client) (settled client) many.items (run_by settings node acts))
       (other_stops line other client many.items old took.stop new front many.stops)
+      (speaks_tells (run_by settings node acts) (map (line.takes client) many.items) old new many.goes.tells
+      (no_parts (line.takes client) (λ run x. other.leaves run client x) many.items (run_by settings node acts)))
 
   line_leads : {T : Type 0} (line : Line T) → IsOther line → ((client : ℕ) (run : Run Leased) (x : T) → IsSettledAt run (line.takes client x)) → (client : ℕ) (acts : List Act) (old : PlainIntake) (took : Took) (new : PlainIntake)
-      → Lived acts old → TakesLine (run_by settings node acts) line client old took new → More acts new
+      → Lived acts old → TakesLine (run_by settings node acts) line client old took new → More acts old new
   line_leads line other settled client acts old took new lived (inl (high, (is, same))) = still acts old new lived same
   line_leads line other settled client acts old took new lived (inr (inl (low, (front, (is, same))))) = still acts old new lived same
   line_leads line other settled client acts old took new lived (inr (inr (low, (front, many)))) = many_leads line other settled client acts old took new lived front many
@@ -171,7 +196,7 @@ module _ (settings : PlainSettings) (node : ℕ) where
   takes_lates : (client : ℕ) → Leads (TakesLates client)
   takes_lates client acts old new lived (took, takes, is) = line_leads late_line lates_other (λ c run x. tt) client acts old.intake took new.intake lived takes
 
-  triggers_lead : (client : ℕ) (acts : List Act) (old : PlainIntake) (took : _) (new : PlainIntake) → Lived acts old → TakesTriggers (run_by settings node acts) client old took new → More acts new
+  triggers_lead : (client : ℕ) (acts : List Act) (old : PlainIntake) (took : _) (new : PlainIntake) → Lived acts old → TakesTriggers (run_by settings node acts) client old took new → More acts old new
   triggers_lead client acts old took new lived (inl (high, (is, same))) = still acts old new lived same
   triggers_lead client acts old took new lived (inr (inl (low, (front, (is, same))))) = still acts old new lived same
   triggers_lead client acts old took new lived (inr (inr (low, (front, inl (room, (many, limited)))))) =
@@ -179,6 +204,7 @@ module _ (settings : PlainSettings) (node : ℕ) where
   triggers_lead client acts old took new lived (inr (inr (low, (front, inr (short, drops))))) =
       lived_more acts [] old new lived drops.stands tt
       (counts_none [] old new (other_same trigger_line triggers_other client drops.items old new drops.moves) (λ k. ap (λ (d : PlainIntake). front_of k d) drops.only) refl)
+      (speaks_quiet (run_by settings node acts) [] old new refl refl (ap (λ (d : PlainIntake). d.mail) drops.only) (ap (λ (d : PlainIntake). d.unsaid) drops.only))
 
   takes_triggers : (client : ℕ) → Leads (TakesTriggersOf client)
   takes_triggers client acts old new lived (took, takes, is) = triggers_lead client acts old.intake took new.intake lived takes
@@ -198,18 +224,21 @@ module _ (settings : PlainSettings) (node : ℕ) where
       lived_more acts (map TakesAsk takes.asks) old.intake new.intake lived takes.goes.stands (settled_map TakesAsk (λ run x. tt) takes.asks (run_by settings node acts))
       (counts_none (map TakesAsk takes.asks) old.intake new.intake (ap (λ (d : PlainIntake). d.port.chunks) takes.only) (λ k. ap (λ (d : PlainIntake). front_of k d) takes.only)
       (takings_none TakesAsk (λ x. refl) takes.asks))
+      (speaks_tells (run_by settings node acts) (map TakesAsk takes.asks) old.intake new.intake takes.goes.tells (no_parts TakesAsk (λ run x. refl) takes.asks (run_by settings node acts)))
 
   says_first : Leads SaysFirst
   says_first acts old new lived (says, is) =
       still_quiet acts old.intake new.intake new.intake.mail new.intake.claims new.intake.unsaid lived (ap (λ (d : PlainNode). d.intake) is)
+      (speaks_says (run_by settings node acts) old.intake new.intake says)
 
   -- what waited at the front is taken
-  back_leads : (did : Bool) (acts : List Act) (old new : PlainIntake) → Lived acts old → TakesBack (run_by settings node acts) old did new → More acts new
+  back_leads : (did : Bool) (acts : List Act) (old new : PlainIntake) → Lived acts old → TakesBack (run_by settings node acts) old did new → More acts old new
   back_leads true acts old new lived (free, (lines, (clients, goes))) =
       lived_more acts (acts_in old.back) old new lived goes.stands (settled_front_act old.back (run_by settings node acts))
       (λ client before is.
       ap (λ (l : Lines). option_map_or (λ (r : _). r.received) (slice_get l.port.chunks client) []) lines ∙ is
       ∙ ap (λ (l : List (Buffer Leased)). before ++ l) (sym (append-nil (front_of client old)) ∙ ap (λ (o : Option Waiting). front_of client old ++ chunks_of client (acts_in o)) (sym free)))
+      (speaks_tells (run_by settings node acts) (acts_in old.back) old new goes.tells (none_at_front (run_by settings node acts) old.back))
   back_leads false acts old new lived (there, same) = still acts old new lived same
 
   takes_front : Leads TakesFront
@@ -223,17 +252,22 @@ module _ (settings : PlainSettings) (node : ℕ) where
 
   -- ---- a turn, and the hand
 
-  turn_leads : (did : Turned) (acts : List Act) (old new : PlainIntake) → Lived acts old → is_unspent did ≡ true → MakesTurn (run_by settings node acts) old did new → More acts new
+  turn_leads : (did : Turned) (acts : List Act) (old new : PlainIntake) → Lived acts old → is_unspent did ≡ true → MakesTurn (run_by settings node acts) old did new → More acts old new
   turn_leads turned.Done acts old new lived unspent (places, (is, goes)) =
       lived_more acts (Turns ∷ []) old new lived goes.stands (tt, tt)
       (counts_none (Turns ∷ []) old new (ap (λ (d : PlainIntake). d.port.chunks) is) (λ k. ap (λ (d : PlainIntake). front_of k d) is) refl)
+      (speaks_tells (run_by settings node acts) (Turns ∷ []) old new goes.tells refl)
   turn_leads turned.Full acts old new lived unspent (none, same) = still acts old new lived same
   turn_leads turned.Spent acts old new lived unspent makes = absurd cc
+
+  turn_part : Leads parts.Turns
+  turn_part acts old new lived (did, unspent, makes, is) = turn_leads did acts old.intake new.intake lived unspent makes
 
   offers_one : (b : Bool) → Leads (OffersOne b)
   offers_one true acts old new lived (parted, given, (only, (says, offers)), notes, is) =
       lived_more acts (LetsGo offers.answer offers.back ∷ []) old.intake new.intake lived offers.stands (tt, tt)
       (counts_none (LetsGo offers.answer offers.back ∷ []) old.intake new.intake (ap (λ (d : PlainIntake). d.port.chunks) only) (λ k. ap (λ (d : PlainIntake). front_of k d) only) refl)
+      (speaks_offers (run_by settings node acts) old.intake new.intake parted given offers says (ap (λ (d : PlainIntake). d.unsaid) only))
   offers_one false acts old new lived (same, why) = still acts old.intake new.intake lived (ap (λ (d : PlainNode). d.intake) same)
 
   offers_all : Leads OffersAll
@@ -241,8 +275,10 @@ module _ (settings : PlainSettings) (node : ℕ) where
 
   -- ---- claims
 
-  states_it : (standing : Standing) (did : Stated) (acts : List Act) (old new : PlainIntake) → Lived acts old → StatesIt old standing did new → More acts new
-  states_it standing stated.Said acts old new lived (news, (number, posts, is)) = still_quiet acts old new new.mail new.claims old.unsaid lived (is ∙ ap (λ (c : PlainClaims). record old { mail = new.mail; claims = c }) (sym (ap (λ (d : PlainIntake). d.claims) is)))
+  states_it : (standing : Standing) (did : Stated) (acts : List Act) (old new : PlainIntake) → Lived acts old → StatesIt old standing did new → More acts old new
+  states_it standing stated.Said acts old new lived (news, (number, posts, is)) =
+      still_quiet acts old new new.mail new.claims old.unsaid lived (is ∙ ap (λ (c : PlainClaims). record old { mail = new.mail; claims = c }) (sym (ap (λ (d : PlainIntake). d.claims) is)))
+      (speaks_states (run_by settings node acts) old new standing number posts (ap (λ (d : PlainIntake). d.unsaid) is))
   states_it standing stated.Known acts old new lived (known, same) = still acts old new lived same
   states_it standing (stated.Waits fault) acts old new lived (news, (same, posts)) = still acts old new lived same
 
@@ -254,6 +290,7 @@ module _ (settings : PlainSettings) (node : ℕ) where
   looks_on acts old new lived is =
       still_quiet acts old.intake new.intake old.intake.mail new.intake.claims old.intake.unsaid lived
       (ap (λ (d : PlainNode). d.intake) is ∙ ap (λ (c : PlainClaims). record old.intake { claims = c }) (sym (ap (λ (d : PlainNode). d.intake.claims) is)))
+      (speaks_quiet (run_by settings node acts) [] old.intake new.intake refl refl (ap (λ (d : PlainNode). d.intake.mail) is) (ap (λ (d : PlainNode). d.intake.unsaid) is))
 
   states_one : (b : Bool) → Leads (StatesOne b)
   states_one true = then_leads (StatesNext true) LooksOn (states_next true) looks_on
@@ -267,6 +304,7 @@ module _ (settings : PlainSettings) (node : ℕ) where
   forgets_one true acts old new lived (above, (one, oldest, due, only, stands), is) =
       lived_more acts (Forgets one.group ∷ []) old.intake new.intake lived stands (second_true _ (is_settled one.group (state_of (run_by settings node acts))) due, tt)
       (counts_none (Forgets one.group ∷ []) old.intake new.intake (ap (λ (d : PlainIntake). d.port.chunks) only) (λ k. ap (λ (d : PlainIntake). front_of k d) only) refl)
+      (speaks_quiet (run_by settings node acts) (Forgets one.group ∷ []) old.intake new.intake refl refl (ap (λ (d : PlainIntake). d.mail) only) (ap (λ (d : PlainIntake). d.unsaid) only))
   forgets_one false acts old new lived (same, why) = still acts old.intake new.intake lived (ap (λ (d : PlainNode). d.intake) same)
 
   forgets_all : Leads ForgetsAll
@@ -274,18 +312,8 @@ module _ (settings : PlainSettings) (node : ℕ) where
 
   -- ---- a pass
 
-  -- what comes behind the turn
-  behind : Leads (Then OffersAll (Then StatesAll ForgetsAll))
-  behind = then_leads OffersAll (Then StatesAll ForgetsAll) offers_all (then_leads StatesAll ForgetsAll states_all forgets_all)
-
-  pub passes_lead : (acts : List Act) (old new : PlainNode) → Lived acts old.intake → Passes (run_by settings node acts) old new → More acts new.intake
-  passes_lead acts old new lived passes =
-      let first = takes acts old passes.mid lived passes.does in
-      let one = acts ++ first.0 in
-      let turn = passes.next (run_by settings node one) first.1.stands in
-      let second = turn_leads turn.does.0 one passes.mid.intake turn.mid.intake first.1 turn.does.1 turn.does.2 in
-      let two = one ++ second.0 in
-      let third = behind two turn.mid new second.1 (turn.next (run_by settings node two) second.1.stands) in (
-        first.0 ++ (second.0 ++ third.0),
-        subst (λ (l : List Act). HasLived settings node l new.intake) (append_assoc one second.0 third.0 ∙ append_assoc acts first.0 (second.0 ++ third.0)) third.1,
-      )
+  pub passes_lead : Leads Passes
+  passes_lead =
+      then_leads Takes (Then parts.Turns (Then OffersAll (Then StatesAll ForgetsAll))) takes
+      (then_leads parts.Turns (Then OffersAll (Then StatesAll ForgetsAll)) turn_part
+      (then_leads OffersAll (Then StatesAll ForgetsAll) offers_all (then_leads StatesAll ForgetsAll states_all forgets_all)))

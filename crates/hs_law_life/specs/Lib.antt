@@ -1,3 +1,4 @@
 pub mod ClientLives
 pub mod NodeLives
 pub mod Following
+pub mod Saying

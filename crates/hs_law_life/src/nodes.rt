@@ -1,15 +1,18 @@
 //! Laws of nodes. Each is the contract of a function that does nothing.
 
-ghost use Rattle.std.specs.Prelude.{◌≡◌, ℕ, List, [], ◌++◌, Some};
+ghost use Rattle.std.specs.Prelude.{◌≡◌, ℕ, List, [], ◌∷◌, ◌++◌, Option, Some, Result};
 ghost use Rattle.std.specs.List.{AllByRecursion};
 ghost use Rattle.hs_base.specs.declared.ids.TraceId.{TraceId};
 ghost use Rattle.hs_base.specs.declared.told.Group.{Group};
+ghost use Rattle.hs_base.specs.declared.told.Told.{Told};
 ghost use Rattle.hs_inbox.specs.Delivering.{PlainInbox, Delivers};
 ghost use Rattle.hs_inbox.specs.declared.inbox.Delivered.{Delivered};
 ghost use Rattle.hs_link.specs.Contents.{Incoming, Contains};
 ghost use Rattle.hs_live.specs.Keys.{Key};
 ghost use Rattle.hs_live.specs.Live.{PlainClient, IsEnd};
-ghost use Rattle.hs_mail.specs.Letters.{Letters};
+ghost use Rattle.hs_mail.specs.declared.mail.Room.{Room};
+ghost use Rattle.hs_mail.specs.declared.mail.Unposted.{Unposted};
+ghost use Rattle.hs_mail.specs.Letters.{Letters, Deed, Posts, after, no_letters};
 ghost use Rattle.hs_node.specs.declared.making.MadeNode.{MadeNode};
 ghost use Rattle.hs_node.specs.Made.{IsMadeBy, run_settings};
 ghost use Rattle.hs_node.specs.Nodes.{PlainNode, GoesOn, with_mail};
@@ -18,6 +21,7 @@ ghost use Rattle.hs_node_client.specs.Lives.{ClientLife, HasLife};
 ghost use Rattle.hs_records.specs.Plain.{PlainSettings};
 ghost use Rattle.hs_ring.specs.Parts.{Leased};
 ghost use Rattle.hs_settings.specs.Settings.{PlainService};
+ghost use Rattle.hs_wire.specs.Messages.{PlainHello, SaysHello};
 ghost use Rattle.hs_words.specs.Buffers.{Buffer};
 ghost use Rattle.hs_agent.specs.Runs.{Run, bare_run, state_of};
 ghost use Rattle.hs_intake.specs.Intakes.{PlainIntake, Act, Stands};
@@ -25,12 +29,14 @@ ghost use Rattle.hs_law_agent.specs.Laws.{IsInOnePlace, claiming_group};
 ghost use Rattle.hs_law_life.specs.ClientLives.{IsInOrder};
 ghost use Rattle.hs_law_life.specs.Following.{IsFollowed};
 ghost use Rattle.hs_law_life.specs.NodeLives.{AreSettled, HasLived, IsWell, IsSpared, Keeps, run_by, state_by};
+ghost use Rattle.hs_law_life.specs.Saying.{HasSpoken, IsSaid, Carries, first_mail};
 
 use crate::clients::points_stand_on_pages;
 use hs_law_agent::laws::{
     claims_stand, events_add_this, events_lead_on, lists_go_on, lives_go_on_well,
-    nothing_claimed_goes,
+    nothing_claimed_goes, steps_say_what_they_tell,
 };
+use hs_mail::messages_go_out_in_order;
 
 /// However a node goes on by one call after another, it goes on so by all of them: the acts of each follow those of the one before.
 pub fn calls_go_on()
@@ -86,4 +92,32 @@ pub fn chunks_are_followed()
 {
     points_stand_on_pages();
     acts_are_a_life_of_the_model();
+}
+
+/// A node's life begins with an empty mail. A pass that is made leads on by more acts and by what is said of them; a hello is one more message;
+/// and what a carrier does says nothing.
+pub fn nodes_speak_on()
+    ensures made { (s : PlainService) (number epoch : ℕ) (made : MadeNode) → IsMadeBy s number epoch made
+        → HasSpoken (run_settings s) number (first_mail s number epoch) made.node.intake.unsaid [] [] made.node.intake }
+    ensures pass { (settings : PlainSettings) (number : ℕ) (start : Letters) (before : Option Told) (acts : List Act) (deeds : List Deed) (old new : PlainNode)
+        → HasSpoken settings number start before acts deeds old.intake → Passes (run_by settings number acts) old new
+        → (more : List Act) × ((said : List Deed) × HasSpoken settings number start before (acts ++ more) (deeds ++ said) new.intake) }
+    ensures hello { (settings : PlainSettings) (number : ℕ) (start : Letters) (before : Option Told) (acts : List Act) (deeds : List Deed) (d : PlainIntake) (hello : PlainHello) (answer : Result ℕ Unposted) (mail : Letters)
+        → HasSpoken settings number start before acts deeds d → Posts d.mail (SaysHello hello) answer mail
+        → (said : List Deed) × HasSpoken settings number start before acts (deeds ++ said) (record d { mail = mail }) }
+    ensures carries { (settings : PlainSettings) (number : ℕ) (start : Letters) (before : Option Told) (acts : List Act) (deeds : List Deed) (d : PlainIntake) (deed : Deed) → Carries deed
+        → HasSpoken settings number start before acts deeds d → HasSpoken settings number start before acts (deeds ++ deed ∷ []) (record d { mail = after d.mail deed }) }
+    ensures hears { (settings : PlainSettings) (number : ℕ) (start : Letters) (before : Option Told) (acts : List Act) (deeds : List Deed) (d : PlainIntake) (bytes : List ℕ) (answer : Delivered) (inbox : PlainInbox)
+        → Delivers d.inbox bytes answer inbox → HasSpoken settings number start before acts deeds d → HasSpoken settings number start before acts deeds (record d { inbox = inbox }) }
+{}
+
+/// What a node's agent told is what its model says, in order, and the pages that the node said are those that the model reported, in the order in
+/// which they left its hand. Each of these pages was put into its outbox. What was put waits there until it is acknowledged, and goes out in order.
+pub fn what_is_said_is_what_the_model_says()
+    ensures { (settings : PlainSettings) (node epoch : ℕ) (pages words : Room) (before : Option Told) (acts : List Act) (deeds : List Deed) (d : PlainIntake)
+        → HasSpoken settings node (no_letters (record { 0 = node }) epoch pages words) before acts deeds d → IsSaid settings node epoch pages words before acts deeds d }
+{
+    steps_say_what_they_tell();
+    events_lead_on();
+    messages_go_out_in_order();
 }

@@ -7,7 +7,7 @@ pub returns-clause-made : goal.returns-clause-made
 returns-clause-made c = begins_by
 
 pub returns-clause-pass : goal.returns-clause-pass
-returns-clause-pass c = λ settings number acts old new lived passes. passes_lead settings number acts old new lived passes
+returns-clause-pass c = λ settings number acts old new lived passes. let led = passes_lead settings number acts old new lived passes in (led.0, led.1.0)
 
 pub returns-clause-says : goal.returns-clause-says
 returns-clause-says c = λ settings number acts node mail lived. quiet settings number acts node.intake mail node.intake.inbox node.intake.claims node.intake.unsaid refl lived
