@@ -1,5 +1,6 @@
 pub mod Orders
 pub mod Standing
+pub mod Nulls
 pub mod Acts
 pub mod Sparing
 pub mod Counts

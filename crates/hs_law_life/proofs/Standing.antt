@@ -57,10 +57,10 @@ new limits rules id drawer client sizes is = (subst (λ size. MIN_SIZE ≤ size)
 -- ---- where a core's points stand
 
 -- the book of any steps of a core
-abbrev Books : Type 0
+abbrev pub Books : Type 0
 Books = (made : Made) (steps : List (Step Leased)) → AreSteps (new_of made) steps → IsBook (new_of made) steps
 
-abbrev Sends : Type 0
+abbrev pub Sends : Type 0
 Sends = (made : Made) (ops : List Operation) (client : PlainClient) → HasDone made ops client → HasSent made ops client
 
 abbrev own_chunks : (core : CoreLife) (client : PlainClient) → HasSent core.made core.ops client → List (Buffer Leased)
@@ -71,7 +71,7 @@ draws_are_answers [] = refl
 draws_are_answers (answer ∷ earlier) = length-append (draws_by earlier) (noted answer.stamp answer.event ∷ []) ∙ omega (arith, draws_are_answers earlier)
 
 -- each page had a draw
-each_drawn : Books → (core : CoreLife) (client : PlainClient) → HasDone core.made core.ops client → (s : HasSent core.made core.ops client) → length s.answers ≡ length (pages_of core.made.size core.ops)
+pub each_drawn : Books → (core : CoreLife) (client : PlainClient) → HasDone core.made core.ops client → (s : HasSent core.made core.ops client) → length s.answers ≡ length (pages_of core.made.size core.ops)
 each_drawn books core client did s =
     let w = did.writes [] in
     let steps = w.steps in

@@ -2,3 +2,4 @@ pub mod ClientLives
 pub mod NodeLives
 pub mod Following
 pub mod Saying
+pub mod NullPages

@@ -1,6 +1,6 @@
 //! Laws of clients. Each is the contract of a function that does nothing.
 
-ghost use Rattle.std.specs.Prelude.{ℕ, List, [], ◌∷◌, ◌++◌, length};
+ghost use Rattle.std.specs.Prelude.{◌≡◌, ℕ, List, [], ◌∷◌, ◌++◌, length};
 ghost use Rattle.std.specs.Option.{option_to_list};
 ghost use Rattle.hs_base.specs.declared.ids.ClientId.{ClientId};
 ghost use Rattle.hs_base.specs.declared.ids.NodeId.{NodeId};
@@ -15,13 +15,19 @@ ghost use Rattle.hs_records.specs.Plain.{Operation, Begin, Point, Crumb, End, Fi
 ghost use Rattle.hs_ring.specs.Parts.{Drawing, Leased};
 ghost use Rattle.hs_words.specs.Buffers.{Buffer};
 ghost use Rattle.hs_node_client.specs.Answers as answers;
-ghost use Rattle.hs_node_client.specs.Clients.{PlainNodeClient};
+ghost use Rattle.hs_node_client.specs.Clients.{PlainNodeClient, KeepsEnds, NotesIt, NotesEnd, NotesLate, tally_at_begin};
+ghost use Rattle.hs_node_client.specs.Counting.{with_point, with_crumb_called, with_refused_late, with_refused_trigger, if_full};
 ghost use Rattle.hs_node_client.specs.Fitting.{AreSizes};
 ghost use Rattle.hs_node_client.specs.Lives.{ClientLife, HasLife, Turns, with_op};
 ghost use Rattle.hs_node_client.specs.Making.{IsNewClient, PlainRules};
+ghost use Rattle.hs_node_client.specs.Paging.{place_in};
+ghost use Rattle.hs_node_client.specs.declared.called.Called.{Called};
 ghost use Rattle.hs_node_client.specs.declared.called.Called.TheVariants.{Done};
 ghost use Rattle.hs_node_client.specs.declared.limits.ClientLimits.{ClientLimits};
+ghost use Rattle.hs_node_client.specs.declared.segment.SegmentState.{SegmentState};
+ghost use Rattle.hs_node_client.specs.declared.segment.SegmentState.TheVariants.{Opened};
 ghost use Rattle.hs_law_life.specs.ClientLives.{IsInOrder, IsOnItsWay, MayDo, AllStand};
+ghost use Rattle.hs_law_life.specs.NullPages.{HasCounted, KeepsNulls, NullsAreCounted};
 
 use hs_client::any_steps_make_the_book;
 use hs_live::what_was_done_was_sent;
@@ -63,4 +69,29 @@ pub fn points_stand_on_pages()
     any_steps_make_the_book::<Lease>();
     what_was_done_was_sent();
     pages_hold_the_pieces();
+}
+
+/// No call but a begin changes the sum of the null pages of a client's earlier cores.
+pub fn other_calls_keep_the_sum_of_null_pages()
+    ensures point { (by : Called) (old new : PlainNodeClient) → new.tally ≡ with_point by old.tally → KeepsNulls old new }
+    ensures crumb { (node : NodeId) (by : Called) (old new : PlainNodeClient) → new.tally ≡ with_crumb_called node by old.tally → KeepsNulls old new }
+    ensures late { (trace : TraceId) (state : SegmentState) (old new : PlainNodeClient) → NotesLate trace state old old.tally new → KeepsNulls old new }
+    ensures refused { (trace : TraceId) (state : SegmentState) (old new : PlainNodeClient) → NotesLate trace state old (with_refused_late old.tally) new → KeepsNulls old new }
+    ensures trigger { (by : Called) (old new : PlainNodeClient) → new.tally ≡ if_full by with_refused_trigger old.tally → KeepsNulls old new }
+    ensures end { (old new : PlainNodeClient) → answers.EndsBy old.live Done new.live → NotesEnd old new → KeepsNulls old new }
+{}
+
+/// Over any number of renewals: the null pages of a client's life are summed up, and its counts say how many they are.
+pub fn null_pages_are_counted()
+    ensures new { (limits : ClientLimits) (rules : PlainRules) (id : ClientId) (drawer : Drawing) (client : PlainNodeClient) → drawer.answers ≡ [] → IsNewClient limits rules id drawer client
+        → HasCounted (record { made = made_of client.live; ops = [] } ∷ []) client }
+    ensures does { (op : Operation) (old new : PlainNodeClient) (life : ClientLife) → HasCounted life old → HasLife (with_op op life) new.live → KeepsNulls old new → HasCounted (with_op op life) new }
+    ensures none { (old new : PlainNodeClient) (life : ClientLife) → HasCounted life old → HasLife life new.live → KeepsNulls old new → HasCounted life new }
+    ensures begins { (trace : TraceId) (old new : PlainNodeClient) (life life' : ClientLife) → HasCounted life old → KeepsEnds old.live new.live → Turns old.live.core life life'
+        → HasLife (with_op (Begin trace) life') new.live → NotesIt trace Opened (place_in new.live.core) old.notebook (tally_at_begin old) new.notebook new.tally → HasCounted (with_op (Begin trace) life') new }
+    ensures counted { (life : ClientLife) (client : PlainNodeClient) → HasCounted life client → IsInOrder life → NullsAreCounted life client }
+{
+    any_steps_make_the_book::<Lease>();
+    what_was_done_was_sent();
+    points_stand_on_pages();
 }
