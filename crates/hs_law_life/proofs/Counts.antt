@@ -16,6 +16,7 @@ use Rattle.hs_intake.specs.Intakes.{PlainIntake, Waiting, Act, TakesChunk, Line,
 use Rattle.hs_intake.specs.Taking.{Receives, Moves, StopsBy}
 use Rattle.hs_intake.proofs.Lines.{get_set}
 use Rattle.hs_node.specs.Nodes.{part_at}
+use Rattle.hs_law_life.specs.Reports.{IsBackAt}
 use Rattle.hs_law_life.specs.NodeLives.{Taking, taking_of, takings, of_client, chunks_of, front_of, received_of}
 
 -- ---- lists of acts
@@ -52,7 +53,7 @@ counts_none more old new same front none client before is =
     ∙ is ∙ ap (λ (l : List (Buffer Leased)). before ++ l) (sym (front client))
     ∙ ap (λ (l : List Taking). before ++ (filter_map (of_client client) l ++ front_of client new)) (sym none)
 
-set_other : {A : Type 0} (xs : List A) (i k : ℕ) (y : A) → (i ≡ k → ⊥) → slice_get (slice_set xs i y) k ≡ slice_get xs k
+pub set_other : {A : Type 0} (xs : List A) (i k : ℕ) (y : A) → (i ≡ k → ⊥) → slice_get (slice_set xs i y) k ≡ slice_get xs k
 set_other [] i k y other = refl
 set_other (x ∷ xs) zero zero y other = absurd (other refl)
 set_other (x ∷ xs) zero (suc k) y other = refl
@@ -114,6 +115,7 @@ pub record IsOther {T : Type 0} (line : Line T) : Type 0 where
   pub waits : (k client : ℕ) (x : T) → chunks_of k (acts_in (Some (line.waits client x))) ≡ []
   pub keeps : (lines : Lines) (ends : List (Incoming T Key)) → (line.with_ends lines ends).port.chunks ≡ lines.port.chunks
   pub leaves : (run : Run Leased) (client : ℕ) (x : T) → part_at run (line.takes client x) ≡ None
+  pub offers : (run : Run Leased) (client : ℕ) (x : T) → IsBackAt run (line.takes client x)
 
 module _ {T : Type 0} (line : Line T) (other : IsOther line) (client : ℕ) where
   pub other_same : (items : List T) (old new : PlainIntake) → Moves line client items old new → new.port.chunks ≡ old.port.chunks

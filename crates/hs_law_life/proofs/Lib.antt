@@ -9,3 +9,5 @@ pub mod Passing
 pub mod Living
 pub mod Followed
 pub mod Spoken
+pub mod Reporting
+pub mod Reported

@@ -28,19 +28,19 @@ use Rattle.hs_node.specs.Passing.{Doing, Then, Each, Until, Hears, HearsFrom, He
 use Rattle.hs_node.specs.Passing as parts
 use Rattle.hs_law_life.specs.NodeLives.{IsSettledAt, AreSettled, chunks_of, front_of, run_by, HasLived}
 use Rattle.hs_law_life.proofs.Sparing.{settled_both}
-use Rattle.hs_law_life.proofs.Speaking.{Speaks, no_parts, none_at_front, speaks_more, speaks_quiet, speaks_tells, speaks_says, speaks_states, speaks_offers}
+use Rattle.hs_law_life.proofs.Speaking.{Speaks, no_parts, none_at_front, back_map, back_front, speaks_more, speaks_quiet, speaks_tells, speaks_says, speaks_states, speaks_offers}
 use Rattle.hs_law_life.proofs.Counts.{Counts, counts_none, chunks_append, takings_none, chunk_stops, IsOther, other_same, other_stops}
 
 -- ---- the lines
 
 crumbs_other : IsOther crumb_line
-crumbs_other = record { takes = λ client x. refl; waits = λ k client x. refl; keeps = λ lines ends. refl; leaves = λ run client x. refl }
+crumbs_other = record { takes = λ client x. refl; waits = λ k client x. refl; keeps = λ lines ends. refl; leaves = λ run client x. refl; offers = λ run client x. tt }
 
 lates_other : IsOther late_line
-lates_other = record { takes = λ client x. refl; waits = λ k client x. refl; keeps = λ lines ends. refl; leaves = λ run client x. refl }
+lates_other = record { takes = λ client x. refl; waits = λ k client x. refl; keeps = λ lines ends. refl; leaves = λ run client x. refl; offers = λ run client x. tt }
 
 triggers_other : IsOther trigger_line
-triggers_other = record { takes = λ client x. refl; waits = λ k client x. refl; keeps = λ lines ends. refl; leaves = λ run client x. refl }
+triggers_other = record { takes = λ client x. refl; waits = λ k client x. refl; keeps = λ lines ends. refl; leaves = λ run client x. refl; offers = λ run client x. tt }
 
 settled_map : {T : Type 0} (f : T → Act) → ((run : Run Leased) (x : T) → IsSettledAt run (f x)) → (xs : List T) (run : Run Leased) → AreSettled run (map f xs)
 settled_map f each [] run = tt
@@ -88,7 +88,7 @@ module _ (settings : PlainSettings) (node : ℕ) where
   still : (acts : List Act) (old new : PlainIntake) → Lived acts old → new ≡ old → More acts old new
   still acts old new lived same =
       lived_same acts old new (subst (λ (d : PlainIntake). HasLived settings node acts d) (sym same) lived)
-      (speaks_quiet (run_by settings node acts) [] old new refl refl (ap (λ (d : PlainIntake). d.mail) same) (ap (λ (d : PlainIntake). d.unsaid) same))
+      (speaks_quiet (run_by settings node acts) [] old new refl refl tt (ap (λ (d : PlainIntake). d.mail) same) (ap (λ (d : PlainIntake). d.unsaid) same))
 
   -- what is said, claimed and asked is none of it
   pub quiet : (acts : List Act) (d : PlainIntake) (mail : Letters) (inbox : PlainInbox) (claims : PlainClaims) (unsaid : Option Told) → inbox.rules ≡ d.inbox.rules → Lived acts d
@@ -171,7 +171,7 @@ module _ (settings : PlainSettings) (node : ℕ) where
   chunks_lead client acts old took new lived (inr (inr (low, (front, many)))) =
       lived_more acts (map (TakesChunk client) many.items) old new lived many.goes.stands (settled_map (TakesChunk client) (λ run x. tt) many.items (run_by settings node acts))
       (chunk_stops client many.items old took.stop new front many.stops)
-      (speaks_tells (run_by settings node acts) (map (TakesChunk client) many.items) old new many.goes.tells (no_parts (TakesChunk client) (λ run x. refl) many.items (run_by settings node acts)))
+      (speaks_tells (run_by settings node acts) (map (TakesChunk client) many.items) old new many.goes.tells (no_parts (TakesChunk client) (λ run x. refl) many.items (run_by settings node acts)) (back_map (TakesChunk client) (λ run x. tt) many.items (run_by settings node acts)))
 
   many_leads : {T : Type 0} (line : Line T) → IsOther line → ((client : ℕ) (run : Run Leased) (x : T) → IsSettledAt run (line.takes client x)) → (client : ℕ) (acts : List Act) (old : PlainIntake) (took : Took) (new : PlainIntake)
       → Lived acts old → old.back ≡ None → TakesMany (run_by settings node acts) line client old took new → More acts old new
@@ -179,7 +179,8 @@ module _ (settings : PlainSettings) (node : ℕ) where
       lived_more acts (map (line.takes client) many.items) old new lived many.goes.stands (settled_map (line.takes client) (settled client) many.items (run_by settings node acts))
       (other_stops line other client many.items old took.stop new front many.stops)
       (speaks_tells (run_by settings node acts) (map (line.takes client) many.items) old new many.goes.tells
-      (no_parts (line.takes client) (λ run x. other.leaves run client x) many.items (run_by settings node acts)))
+      (no_parts (line.takes client) (λ run x. other.leaves run client x) many.items (run_by settings node acts))
+      (back_map (line.takes client) (λ run x. other.offers run client x) many.items (run_by settings node acts)))
 
   line_leads : {T : Type 0} (line : Line T) → IsOther line → ((client : ℕ) (run : Run Leased) (x : T) → IsSettledAt run (line.takes client x)) → (client : ℕ) (acts : List Act) (old : PlainIntake) (took : Took) (new : PlainIntake)
       → Lived acts old → TakesLine (run_by settings node acts) line client old took new → More acts old new
@@ -204,7 +205,7 @@ module _ (settings : PlainSettings) (node : ℕ) where
   triggers_lead client acts old took new lived (inr (inr (low, (front, inr (short, drops))))) =
       lived_more acts [] old new lived drops.stands tt
       (counts_none [] old new (other_same trigger_line triggers_other client drops.items old new drops.moves) (λ k. ap (λ (d : PlainIntake). front_of k d) drops.only) refl)
-      (speaks_quiet (run_by settings node acts) [] old new refl refl (ap (λ (d : PlainIntake). d.mail) drops.only) (ap (λ (d : PlainIntake). d.unsaid) drops.only))
+      (speaks_quiet (run_by settings node acts) [] old new refl refl tt (ap (λ (d : PlainIntake). d.mail) drops.only) (ap (λ (d : PlainIntake). d.unsaid) drops.only))
 
   takes_triggers : (client : ℕ) → Leads (TakesTriggersOf client)
   takes_triggers client acts old new lived (took, takes, is) = triggers_lead client acts old.intake took new.intake lived takes
@@ -224,7 +225,7 @@ module _ (settings : PlainSettings) (node : ℕ) where
       lived_more acts (map TakesAsk takes.asks) old.intake new.intake lived takes.goes.stands (settled_map TakesAsk (λ run x. tt) takes.asks (run_by settings node acts))
       (counts_none (map TakesAsk takes.asks) old.intake new.intake (ap (λ (d : PlainIntake). d.port.chunks) takes.only) (λ k. ap (λ (d : PlainIntake). front_of k d) takes.only)
       (takings_none TakesAsk (λ x. refl) takes.asks))
-      (speaks_tells (run_by settings node acts) (map TakesAsk takes.asks) old.intake new.intake takes.goes.tells (no_parts TakesAsk (λ run x. refl) takes.asks (run_by settings node acts)))
+      (speaks_tells (run_by settings node acts) (map TakesAsk takes.asks) old.intake new.intake takes.goes.tells (no_parts TakesAsk (λ run x. refl) takes.asks (run_by settings node acts)) (back_map TakesAsk (λ run x. tt) takes.asks (run_by settings node acts)))
 
   says_first : Leads SaysFirst
   says_first acts old new lived (says, is) =
@@ -238,7 +239,7 @@ module _ (settings : PlainSettings) (node : ℕ) where
       (λ client before is.
       ap (λ (l : Lines). option_map_or (λ (r : _). r.received) (slice_get l.port.chunks client) []) lines ∙ is
       ∙ ap (λ (l : List (Buffer Leased)). before ++ l) (sym (append-nil (front_of client old)) ∙ ap (λ (o : Option Waiting). front_of client old ++ chunks_of client (acts_in o)) (sym free)))
-      (speaks_tells (run_by settings node acts) (acts_in old.back) old new goes.tells (none_at_front (run_by settings node acts) old.back))
+      (speaks_tells (run_by settings node acts) (acts_in old.back) old new goes.tells (none_at_front (run_by settings node acts) old.back) (back_front (run_by settings node acts) old.back))
   back_leads false acts old new lived (there, same) = still acts old new lived same
 
   takes_front : Leads TakesFront
@@ -256,7 +257,7 @@ module _ (settings : PlainSettings) (node : ℕ) where
   turn_leads turned.Done acts old new lived unspent (places, (is, goes)) =
       lived_more acts (Turns ∷ []) old new lived goes.stands (tt, tt)
       (counts_none (Turns ∷ []) old new (ap (λ (d : PlainIntake). d.port.chunks) is) (λ k. ap (λ (d : PlainIntake). front_of k d) is) refl)
-      (speaks_tells (run_by settings node acts) (Turns ∷ []) old new goes.tells refl)
+      (speaks_tells (run_by settings node acts) (Turns ∷ []) old new goes.tells refl (tt, tt))
   turn_leads turned.Full acts old new lived unspent (none, same) = still acts old new lived same
   turn_leads turned.Spent acts old new lived unspent makes = absurd cc
 
@@ -290,7 +291,7 @@ module _ (settings : PlainSettings) (node : ℕ) where
   looks_on acts old new lived is =
       still_quiet acts old.intake new.intake old.intake.mail new.intake.claims old.intake.unsaid lived
       (ap (λ (d : PlainNode). d.intake) is ∙ ap (λ (c : PlainClaims). record old.intake { claims = c }) (sym (ap (λ (d : PlainNode). d.intake.claims) is)))
-      (speaks_quiet (run_by settings node acts) [] old.intake new.intake refl refl (ap (λ (d : PlainNode). d.intake.mail) is) (ap (λ (d : PlainNode). d.intake.unsaid) is))
+      (speaks_quiet (run_by settings node acts) [] old.intake new.intake refl refl tt (ap (λ (d : PlainNode). d.intake.mail) is) (ap (λ (d : PlainNode). d.intake.unsaid) is))
 
   states_one : (b : Bool) → Leads (StatesOne b)
   states_one true = then_leads (StatesNext true) LooksOn (states_next true) looks_on
@@ -304,7 +305,7 @@ module _ (settings : PlainSettings) (node : ℕ) where
   forgets_one true acts old new lived (above, (one, oldest, due, only, stands), is) =
       lived_more acts (Forgets one.group ∷ []) old.intake new.intake lived stands (second_true _ (is_settled one.group (state_of (run_by settings node acts))) due, tt)
       (counts_none (Forgets one.group ∷ []) old.intake new.intake (ap (λ (d : PlainIntake). d.port.chunks) only) (λ k. ap (λ (d : PlainIntake). front_of k d) only) refl)
-      (speaks_quiet (run_by settings node acts) (Forgets one.group ∷ []) old.intake new.intake refl refl (ap (λ (d : PlainIntake). d.mail) only) (ap (λ (d : PlainIntake). d.unsaid) only))
+      (speaks_quiet (run_by settings node acts) (Forgets one.group ∷ []) old.intake new.intake refl refl (tt, tt) (ap (λ (d : PlainIntake). d.mail) only) (ap (λ (d : PlainIntake). d.unsaid) only))
   forgets_one false acts old new lived (same, why) = still acts old.intake new.intake lived (ap (λ (d : PlainNode). d.intake) same)
 
   forgets_all : Leads ForgetsAll

@@ -4,9 +4,12 @@ use Rattle.std.specs.Prelude.{Ok, Err, filter_map, option_map}
 use Rattle.std.specs.Option.{option_to_list}
 use Rattle.std.proofs.lemmas.List.Elements.{filter_map-append}
 use Rattle.hs_base.specs.declared.told.Told.{Told}
-use Rattle.hs_ring.specs.Parts.{Leased}
+use Rattle.hs_ring.specs.Parts.{Leased, Giving}
 use Rattle.hs_agent.specs.Runs.{Run}
 use Rattle.hs_law_agent.specs.Standings.{Taken}
+use Rattle.hs_law_agent.specs.Stepping.{Answered, Given, Missed, Unread}
+use Rattle.hs_words.specs.Buffers.{Buffer}
+use Rattle.hs_words.specs.Chunks.{with_page}
 use Rattle.hs_mail.specs.Letters.{Letters, Deed, Says, HandsOut, Acknowledges, OffersAgain, Causes, Posts, after, both, first_offered, is_page, message_of}
 use Rattle.hs_mail.specs.Lives as mail
 use Rattle.hs_mail.specs.declared.mail.Unposted.{Unposted}
@@ -17,11 +20,12 @@ use Rattle.hs_wire.specs.Messages.{Said, PlainReported, SaysTold, SaysReported, 
 use Rattle.hs_wire.specs.declared.message.Standing.{Standing}
 use Rattle.hs_intake.specs.declared.took.Parted.{Parted}
 use Rattle.hs_intake.specs.Intakes.{PlainIntake, Waiting, Chunk, Crumbs, Triggers, Act, LetsGo, after_act, life, told_in, says, acts_in, Tells, SaysIt}
-use Rattle.hs_intake.specs.Handing.{first_taken, first_page, was_offered, may_wait, word_of, Word, PostsPage, Offers, SaysIf}
+use Rattle.hs_intake.specs.Handing.{first_taken, first_page, was_offered, may_wait, word_of, Word, PostsPage, Offers, Returns, SaysIf}
 use Rattle.hs_intake.proofs.Claiming.{map_append, mail_append}
 use Rattle.hs_intake.proofs.Acts.{told_append}
 use Rattle.hs_node.specs.Nodes.{told_of, page_of, Part, part_of, part_at, parts_in}
 use Rattle.hs_node.proofs.Joining.{tolds, no_pages, all_say}
+use Rattle.hs_law_life.specs.Reports.{ComesBack, IsBackAt, AreBack}
 use Rattle.hs_law_life.specs.Saying.{Place, place_in, CannotBeSaid, IsReported, AreReported, ArePosted}
 
 -- ---- lists
@@ -88,6 +92,21 @@ none_at_front run (Some (Chunk client buffer)) = refl
 none_at_front run (Some (Crumbs client crumb)) = refl
 none_at_front run (Some (Triggers client trigger)) = refl
 
+pub back_append : (xs ys : List Act) (run : Run Leased) → AreBack run xs → AreBack (life run xs) ys → AreBack run (xs ++ ys)
+back_append [] ys run first second = second
+back_append (x ∷ xs) ys run (is, others) second = (is, back_append xs ys (after_act run x) others second)
+
+-- acts that offer nothing
+pub back_map : {T : Type 0} (f : T → Act) → ((run : Run Leased) (x : T) → IsBackAt run (f x)) → (xs : List T) (run : Run Leased) → AreBack run (map f xs)
+back_map f each [] run = tt
+back_map f each (x ∷ xs) run = (each run x, back_map f each xs (after_act run (f x)))
+
+pub back_front : (run : Run Leased) (back : Option Waiting) → AreBack run (acts_in back)
+back_front run None = tt
+back_front run (Some (Chunk client buffer)) = (tt, tt)
+back_front run (Some (Crumbs client crumb)) = (tt, tt)
+back_front run (Some (Triggers client trigger)) = (tt, tt)
+
 tolds_posted : (said : List Told) (m : Letters) → ArePosted m (map Says (map SaysTold said))
 tolds_posted [] m = tt
 tolds_posted (told ∷ said) m = (tt, tolds_posted said (after m (says told)))
@@ -100,6 +119,7 @@ pub record Speaks (run : Run Leased) (acts : List Act) (old new : PlainIntake) :
   pub told : option_to_list old.unsaid ++ told_in run acts ≡ filter_map told_of said ++ option_to_list new.unsaid
   pub parts : AreReported (place_in old.mail) (parts_in run acts) (filter_map page_of said)
   pub posted : ArePosted old.mail (map Says said)
+  pub backs : AreBack run acts
 
 pub speaks_more : (run : Run Leased) (xs ys : List Act) (a b c : PlainIntake) → Speaks run xs a b → Speaks (life run xs) ys b c → Speaks run (xs ++ ys) a c
 speaks_more run xs ys a b c one two =
@@ -124,11 +144,12 @@ speaks_more run xs ys a b c one two =
       posted =
           subst (λ (ds : List Deed). ArePosted a.mail ds) (sym (map_append Says one.said two.said))
           (posted_append (map Says one.said) (map Says two.said) a.mail one.posted (subst (λ (m : Letters). ArePosted m (map Says two.said)) one.mail two.posted));
+      backs = back_append xs ys run one.backs two.backs;
     }
 
 -- acts that tell nothing and let nothing go
-pub speaks_quiet : (run : Run Leased) (acts : List Act) (old new : PlainIntake) → told_in run acts ≡ [] → parts_in run acts ≡ [] → new.mail ≡ old.mail → new.unsaid ≡ old.unsaid → Speaks run acts old new
-speaks_quiet run acts old new untold none same kept =
+pub speaks_quiet : (run : Run Leased) (acts : List Act) (old new : PlainIntake) → told_in run acts ≡ [] → parts_in run acts ≡ [] → AreBack run acts → new.mail ≡ old.mail → new.unsaid ≡ old.unsaid → Speaks run acts old new
+speaks_quiet run acts old new untold none backs same kept =
     record {
       said = [];
       mail = same;
@@ -136,16 +157,18 @@ speaks_quiet run acts old new untold none same kept =
           ap (λ (l : List Told). option_to_list old.unsaid ++ l) untold ∙ append-nil (option_to_list old.unsaid) ∙ ap (λ (o : Option Told). option_to_list o) (sym kept);
       parts = subst (λ (l : List Part). AreReported (place_in old.mail) l []) (sym none) refl;
       posted = tt;
+      backs = backs;
     }
 
-pub speaks_tells : (run : Run Leased) (acts : List Act) (old new : PlainIntake) → Tells old (told_in run acts) new → parts_in run acts ≡ [] → Speaks run acts old new
-speaks_tells run acts old new tells none =
+pub speaks_tells : (run : Run Leased) (acts : List Act) (old new : PlainIntake) → Tells old (told_in run acts) new → parts_in run acts ≡ [] → AreBack run acts → Speaks run acts old new
+speaks_tells run acts old new tells none backs =
     record {
       said = map SaysTold tells.said;
       mail = tells.mail ∙ ap (λ (ds : List Deed). mail.life old.mail ds) (sym (all_say tells.said));
       told = tells.all ∙ ap (λ (l : List Told). l ++ option_to_list new.unsaid) (sym (tolds tells.said));
       parts = subst (λ (l : List Part). AreReported (place_in old.mail) l (filter_map page_of (map SaysTold tells.said))) (sym none) (no_pages tells.said);
       posted = tolds_posted tells.said old.mail;
+      backs = backs;
     }
 
 pub speaks_says : (run : Run Leased) (old new : PlainIntake) → SaysIt old.mail old.claims old.unsaid new.mail new.claims new.unsaid → Speaks run [] old new
@@ -156,6 +179,7 @@ speaks_says run old new says_it =
       told = append-nil (option_to_list old.unsaid) ∙ says_it.all ∙ ap (λ (l : List Told). l ++ option_to_list new.unsaid) (sym (tolds says_it.said));
       parts = no_pages says_it.said;
       posted = tolds_posted says_it.said old.mail;
+      backs = tt;
     }
 
 pub speaks_states : (run : Run Leased) (old new : PlainIntake) (standing : Standing) (number : ℕ) → Posts old.mail (SaysStanding standing) (Ok number) new.mail → new.unsaid ≡ old.unsaid
@@ -167,6 +191,7 @@ speaks_states run old new standing number posts kept =
       told = append-nil (option_to_list old.unsaid) ∙ ap (λ (o : Option Told). option_to_list o) (sym kept);
       parts = refl;
       posted = ((refl, posts.cause.1), tt);
+      backs = tt;
     }
 
 -- ---- what leaves the hand
@@ -201,6 +226,11 @@ no_part : (run : Run Leased) (offered : Bool) (first : Option Taken) → offered
 no_part run true first was = refl
 no_part run false first was = let never : false ≡ true = was in absurd cc
 
+comes_back : (old : Giving) (buffer : Buffer Leased) (answer : Answered) (back : Option (Buffer Leased)) (new : Giving) → Returns old buffer answer back new → ComesBack buffer answer back
+comes_back old buffer (Given stamp) back new returns = returns.0
+comes_back old buffer (Missed stamp) back new returns = (record buffer { chunk = with_page buffer.chunk None }, returns.0, refl)
+comes_back old buffer Unread back new returns = (buffer, returns.0, refl)
+
 pub speaks_offers : (run : Run Leased) (old new : PlainIntake) (parted : Option Parted) (was_given : Bool) (offers : Offers run old was_given new) → SaysIf run (word_of old) parted (word_of new) → new.unsaid ≡ old.unsaid
     → Speaks run (LetsGo offers.answer offers.back ∷ []) old new
 speaks_offers run old new None was_given offers (again, same) kept =
@@ -210,6 +240,7 @@ speaks_offers run old new None was_given offers (again, same) kept =
       told = append-nil (option_to_list old.unsaid) ∙ ap (λ (o : Option Told). option_to_list o) (sym kept);
       parts = subst (λ (l : List Part). AreReported (place_in old.mail) (l ++ []) []) (sym (no_part run (was_offered run) (first_taken run) again)) refl;
       posted = tt;
+      backs = ((offers.buffer, offers.first, comes_back old.port.giver offers.buffer offers.answer offers.back new.port.giver offers.returns), tt);
     }
 speaks_offers run old new (Some parted) was_given offers (fresh, (is_parted, posts)) kept =
     let taken = is_parted.taken in
@@ -224,4 +255,5 @@ speaks_offers run old new (Some parted) was_given offers (fresh, (is_parted, pos
           subst (λ (l : List Part). AreReported (place_in old.mail) (l ++ []) (filter_map page_of word.said)) (sym (fresh_part run taken (was_offered run) (first_taken run) fresh is_parted.first))
           (filter_map page_of word.said, [], sym (append-nil (filter_map page_of word.said)), word.pages, refl);
       posted = word.posted;
+      backs = ((offers.buffer, offers.first, comes_back old.port.giver offers.buffer offers.answer offers.back new.port.giver offers.returns), tt);
     }

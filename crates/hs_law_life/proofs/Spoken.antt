@@ -23,7 +23,7 @@ use Rattle.hs_mail.specs.Lives.{IsInOrder, acts_of}
 use Rattle.hs_mail.specs.Lives as mail
 use Rattle.hs_settings.specs.Settings.{PlainService}
 use Rattle.hs_law_agent.specs.State.{AgentState}
-use Rattle.hs_law_agent.specs.Laws.{StepsSayWhatTheyTell}
+use Rattle.hs_law_agent.specs.Laws.{EventsAddThis, StepsSayWhatTheyTell}
 use Rattle.hs_law_agent.specs.Lives.{EventsLeadOn}
 use Rattle.hs_law_agent.specs.Stepping.{AgentEvent, Took, Gave, Triggered, after_event, after_from, told_by}
 use Rattle.hs_law_agent.specs.Stepping as steps
@@ -39,7 +39,8 @@ use Rattle.hs_node.specs.Nodes.{PlainNode, Part, parts_in, told_of, page_of}
 use Rattle.hs_node.specs.Passing.{Passes}
 use Rattle.hs_law_life.specs.NodeLives.{HasLived, run_by}
 use Rattle.hs_law_life.specs.Saying.{Place, place_in, AreReported, said_by, said_in, messages_in, has_page, first_mail, IsPosted, ArePosted, Carries, HasSpoken, IsSaid}
-use Rattle.hs_law_life.proofs.Speaking.{Speaks, parts_append, reported_append, posted_append, place_stays}
+use Rattle.hs_law_life.proofs.Reported.{first_reports}
+use Rattle.hs_law_life.proofs.Speaking.{back_append, Speaks, parts_append, reported_append, posted_append, place_stays}
 use Rattle.hs_law_life.proofs.Passing.{quiet, passes_lead}
 use Rattle.hs_law_life.proofs.Living.{begins_by, same_rules}
 
@@ -100,6 +101,7 @@ module _ (settings : PlainSettings) (node : ℕ) (start : Letters) (before : Opt
               (reported_append (place_in start) (parts_in run acts) (parts_in later more) (filter_map page_of said) (filter_map page_of speaks.said) has.parts
               (subst (λ (place : Place). AreReported place (parts_in later more) (filter_map page_of speaks.said)) (ap place_in has.mail ∙ place_stays deeds start) speaks.parts))));
           posted = posted_append deeds (map Says speaks.said) start has.posted (subst (λ (m : Letters). ArePosted m (map Says speaks.said)) has.mail speaks.posted);
+          backs = back_append acts more run has.backs speaks.backs;
         },
       )
 
@@ -118,11 +120,12 @@ module _ (settings : PlainSettings) (node : ℕ) (start : Letters) (before : Opt
         told = has.told ∙ ap (λ (l : List Said). filter_map told_of l ++ option_to_list d.unsaid) (sym (said_carried deeds deed carries));
         parts = subst (λ (l : List Said). AreReported (place_in start) (parts_in (bare_run settings node) acts) (filter_map page_of l)) (sym (said_carried deeds deed carries)) has.parts;
         posted = posted_append deeds (deed ∷ []) start has.posted (carried_posted (mail.life start deeds) deed carries, tt);
+        backs = has.backs;
       }
 
   speaks_hello : (acts : List Act) (d : PlainIntake) (hello : PlainHello) (number : ℕ) (m : Letters) → Posts d.mail (SaysHello hello) (Ok number) m → Speaks (run_by settings node acts) [] d (record d { mail = m })
   speaks_hello acts d hello number m posts =
-      record { said = SaysHello hello ∷ []; mail = posts.done; told = append-nil (option_to_list d.unsaid); parts = refl; posted = ((refl, posts.cause.1), tt) }
+      record { said = SaysHello hello ∷ []; mail = posts.done; told = append-nil (option_to_list d.unsaid); parts = refl; posted = ((refl, posts.cause.1), tt); backs = tt }
 
   pub hello_on : (acts : List Act) (deeds : List Deed) (d : PlainIntake) (hello : PlainHello) (answer : Result ℕ Unposted) (m : Letters) → Spoken acts deeds d → Posts d.mail (SaysHello hello) answer m
       → (said : List Deed) × Spoken acts (deeds ++ said) (record d { mail = m })
@@ -145,12 +148,13 @@ module _ (settings : PlainSettings) (node : ℕ) (start : Letters) (before : Opt
         told = has.told;
         parts = has.parts;
         posted = has.posted;
+        backs = has.backs;
       }
 
 pub spoken_first : (s : PlainService) (number epoch : ℕ) (made : MadeNode) → IsMadeBy s number epoch made
     → HasSpoken (run_settings s) number (first_mail s number epoch) made.node.intake.unsaid [] [] made.node.intake
 spoken_first s number epoch made is =
-    record { lived = begins_by s number epoch made is; mail = is.intake.mail_is; told = append-nil (option_to_list made.node.intake.unsaid); parts = refl; posted = tt }
+    record { lived = begins_by s number epoch made is; mail = is.intake.mail_is; told = append-nil (option_to_list made.node.intake.unsaid); parts = refl; posted = tt; backs = tt }
 
 -- ---- what the model says
 
@@ -219,12 +223,13 @@ pages_put (OffersAgain ∷ deeds) m (is, others) = pages_put deeds (after m Offe
 abbrev InOrder : Type 0
 InOrder = (node : NodeId) (epoch : ℕ) (pages words : Room) (deeds : List Deed) → IsInOrder node epoch pages words deeds (mail.life (no_letters node epoch pages words) deeds)
 
-pub said_by_model : StepsSayWhatTheyTell → EventsLeadOn → InOrder → (settings : PlainSettings) (node epoch : ℕ) (pages words : Room) (before : Option Told) (acts : List Act) (deeds : List Deed) (d : PlainIntake)
+pub said_by_model : StepsSayWhatTheyTell → EventsLeadOn → EventsAddThis → InOrder → (settings : PlainSettings) (node epoch : ℕ) (pages words : Room) (before : Option Told) (acts : List Act) (deeds : List Deed) (d : PlainIntake)
     → HasSpoken settings node (no_letters (record { 0 = node }) epoch pages words) before acts deeds d → IsSaid settings node epoch pages words before acts deeds d
-said_by_model say on order settings node epoch pages words before acts deeds d has =
+said_by_model say on add order settings node epoch pages words before acts deeds d has =
     record {
       told = ap (λ (l : List Told). option_to_list before ++ l) (acts_say say on acts (bare_run settings node)) ∙ has.told;
       reported = has.parts;
+      first = first_reports on add settings node acts has.backs;
       put = pages_put deeds (no_letters (record { 0 = node }) epoch pages words) has.posted;
       kept = subst (λ (m : Letters). IsInOrder (record { 0 = node }) epoch pages words deeds m) (sym has.mail) (order (record { 0 = node }) epoch pages words deeds);
     }

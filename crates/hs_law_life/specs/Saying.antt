@@ -21,7 +21,8 @@ use Rattle.hs_agent.specs.Runs.{bare_run}
 use Rattle.hs_intake.specs.Intakes.{PlainIntake, Act, told_in}
 use Rattle.hs_node.specs.Nodes.{Part, parts_in, told_of, page_of}
 use Rattle.hs_node.specs.declared.making.TheConstants.{WORDS, WORD_BYTES, PAGE_MORE}
-use Rattle.hs_law_life.specs.NodeLives.{HasLived, state_by}
+use Rattle.hs_law_life.specs.NodeLives.{HasLived, run_by, state_by}
+use Rattle.hs_law_life.specs.Reports.{AreBack, AreFirst}
 
 -- ---- what is said
 
@@ -115,16 +116,20 @@ pub record HasSpoken (settings : PlainSettings) (node : ℕ) (start : Letters) (
   pub told : option_to_list before ++ told_in (bare_run settings node) acts ≡ filter_map told_of (said_in deeds) ++ option_to_list d.unsaid
   pub parts : AreReported (place_in start) (parts_in (bare_run settings node) acts) (filter_map page_of (said_in deeds))
   pub posted : ArePosted start deeds
+  -- each chunk that was offered was given, or came back with its lease
+  pub backs : AreBack (bare_run settings node) acts
 
 -- ---- what holds in a life
 
 -- What the model of the agent says, behind what waited when the node was made, is what was said, in order, and then the one that waits for its
--- place. The pages of the chunks that left the model's hand as reported are, in order, the pages that were said, but for those that no place can
--- take. Each page that was said was put into its outbox. Whatever was put waits there, or was acknowledged, each of it once; and what goes out goes
+-- place. The pages of the model's reports, as far as these were offered, are, in order, the pages that were said, but for those that no place can
+-- take; all other reports still wait in the hand. Each page that was said was put into its outbox. Whatever was put waits there, or was acknowledged, each of it once; and what goes out goes
 -- in the order in which it was said.
 pub record IsSaid (settings : PlainSettings) (node epoch : ℕ) (pages words : Room) (before : Option Told) (acts : List Act) (deeds : List Deed) (d : PlainIntake) : Type 0 where
   pub told : option_to_list before ++ (state_by settings node acts).said ≡ filter_map told_of (said_in deeds) ++ option_to_list d.unsaid
   pub reported : AreReported (record { node = record { 0 = node }; epoch = epoch; room = pages.bytes }) (parts_in (bare_run settings node) acts) (filter_map page_of (said_in deeds))
+  -- and these chunks are the first of the model's reports
+  pub first : AreFirst (run_by settings node acts) (filter_map (λ (part : Part). part.page) (parts_in (bare_run settings node) acts))
   pub put : all_put (empty pages.places pages.bytes) (acts_of true (no_letters (record { 0 = node }) epoch pages words) deeds)
       ≡ map pending_of (filter has_page (messages_in (no_letters (record { 0 = node }) epoch pages words) deeds))
   pub kept : IsInOrder (record { 0 = node }) epoch pages words deeds d.mail

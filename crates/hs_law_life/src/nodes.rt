@@ -111,13 +111,14 @@ pub fn nodes_speak_on()
         → Delivers d.inbox bytes answer inbox → HasSpoken settings number start before acts deeds d → HasSpoken settings number start before acts deeds (record d { inbox = inbox }) }
 {}
 
-/// What a node's agent told is what its model says, in order, and the pages that the node said are those that the model reported, in the order in
-/// which they left its hand. Each of these pages was put into its outbox. What was put waits there until it is acknowledged, and goes out in order.
+/// What a node's agent told is what its model says, in order, and the pages that the node said are those of the model's reports, in order, as far as
+/// these were offered. Each of these pages was put into its outbox. What was put waits there until it is acknowledged, and goes out in order.
 pub fn what_is_said_is_what_the_model_says()
     ensures { (settings : PlainSettings) (node epoch : ℕ) (pages words : Room) (before : Option Told) (acts : List Act) (deeds : List Deed) (d : PlainIntake)
         → HasSpoken settings node (no_letters (record { 0 = node }) epoch pages words) before acts deeds d → IsSaid settings node epoch pages words before acts deeds d }
 {
     steps_say_what_they_tell();
     events_lead_on();
+    events_add_this();
     messages_go_out_in_order();
 }
