@@ -7,7 +7,7 @@ use Rattle.std.proofs.lemmas.Bool.{eq-eqb, eqb-true, eqb-false, true≢false}
 use Rattle.std.proofs.lemmas.List.{length-map}
 use Rattle.std.proofs.lemmas.List.Elements.{filter_map-append}
 use Rattle.std.proofs.lemmas.List.Sums.{fold-append}
-use Rattle.hs_lists.proofs.Places.{get_front_same}
+use Rattle.hs_lists.proofs.Places.{get_front_same, get_there}
 use Rattle.hs_lists.proofs.Parts.{map_append}
 use Rattle.hs_base.specs.declared.told.Group.{Group}
 use Rattle.hs_base.specs.declared.told.Trigger.{Trigger}
@@ -30,7 +30,7 @@ use Rattle.hs_agent.specs.Leaving.{came_back, back_after}
 use Rattle.hs_agent.specs.Points.{sheet_in}
 use Rattle.hs_agent.specs.Runs.{Run, bare_run, state_of, offered_next}
 use Rattle.hs_agent.specs.Tries.{after_trigger}
-use Rattle.hs_intake.specs.Handing.{page_if, was_offered, first_taken, first_page}
+use Rattle.hs_intake.specs.Handing.{page_of, page_if, was_offered, first_taken, first_page}
 use Rattle.hs_intake.specs.Intakes.{Act, TakesChunk, TakesCrumb, TakesTrigger, TakesAsk, Turns, LetsGo, Forgets, after_act, life, has_left}
 use Rattle.hs_intake.proofs.Lines.{get_set, length_set}
 use Rattle.hs_node.specs.Nodes.{Part, part_of, part_at, parts_in}
@@ -375,6 +375,42 @@ reported_only taken buffers (x ∷ xs) = go (stands is_reported taken x) refl (r
     go false is rest =
         ap (λ (o : Option PlainReported). cons_option o (filter_map (report_in taken buffers) xs)) (no_report (slice_get buffers x) (slice_get taken x) is) ∙ rest
 
+-- a reported chunk has its page
+some_page : (standing : ChunkStanding) (mark : ℕ) (sheet : Sheet) → is_reported standing ≡ true → (page : PlainReported) × (page_if standing mark sheet ≡ Some page)
+some_page Indexed mark sheet is = absurd cc
+some_page (Pinned group) mark sheet is = absurd cc
+some_page (Reported group) mark sheet is = (page_of group mark sheet, refl)
+some_page (Evicted chunks traces) mark sheet is = absurd cc
+some_page (Abandoned group) mark sheet is = absurd cc
+
+some_report : (taken : List Taken) (buffers : List (Buffer Leased)) → length buffers ≡ length taken → (p : ℕ) → stands is_reported taken p ≡ true → (page : PlainReported) × (report_in taken buffers p ≡ Some page)
+some_report taken buffers many p is =
+    let within : p < length taken = passed_within _ taken p is in
+    let chunk = get_there taken p within in
+    let buffer = get_there buffers p (omega (arith, many, within)) in
+    let stood : is_reported chunk.0.standing ≡ true = sym (ap (λ (o : Option Taken). option_map_or (λ (c : Taken). is_reported c.standing) o false) chunk.1) ∙ is in
+    let page = some_page chunk.0.standing buffer.0.lease.mark chunk.0.sheet stood in (
+      page.0,
+      ap (λ (o : Option Taken). option_and_then (λ (c : Taken). option_and_then (λ (b : Buffer Leased). page_if c.standing b.lease.mark c.sheet) (slice_get buffers p)) o) chunk.1
+          ∙ ap (λ (o : Option (Buffer Leased)). option_and_then (λ (b : Buffer Leased). page_if chunk.0.standing b.lease.mark chunk.0.sheet) o) buffer.1 ∙ page.1,
+    )
+
+each_page : (taken : List Taken) (buffers : List (Buffer Leased)) → length buffers ≡ length taken → (xs : List ℕ)
+    → map Some (filter_map (report_in taken buffers) (filter (stands is_reported taken) xs)) ≡ map (report_in taken buffers) (filter (stands is_reported taken) xs)
+each_page taken buffers many [] = refl
+each_page taken buffers many (x ∷ xs) = go (stands is_reported taken x) refl (each_page taken buffers many xs)
+  where
+    go : (b : Bool) → stands is_reported taken x ≡ b
+        → map Some (filter_map (report_in taken buffers) (filter (stands is_reported taken) xs)) ≡ map (report_in taken buffers) (filter (stands is_reported taken) xs)
+        → map Some (filter_map (report_in taken buffers) (cond b (x ∷ filter (stands is_reported taken) xs) (filter (stands is_reported taken) xs)))
+        ≡ map (report_in taken buffers) (cond b (x ∷ filter (stands is_reported taken) xs) (filter (stands is_reported taken) xs))
+    go true is rest =
+        let page = some_report taken buffers many x is in
+        ap (λ (o : Option PlainReported). map Some (cons_option o (filter_map (report_in taken buffers) (filter (stands is_reported taken) xs)))) page.1
+        ∙ ap (λ (l : List (Option PlainReported)). Some page.0 ∷ l) rest
+        ∙ ap (λ (o : Option PlainReported). o ∷ map (report_in taken buffers) (filter (stands is_reported taken) xs)) (sym page.1)
+    go false is rest = rest
+
 pub first_reports : EventsLeadOn → EventsAddThis → (settings : PlainSettings) (node : ℕ) (acts : List Act) → AreBack (bare_run settings node) acts
     → AreFirst (run_by settings node acts) (pages_in (parts_in (bare_run settings node) acts))
 first_reports on add settings node acts backs =
@@ -384,5 +420,5 @@ first_reports on add settings node acts backs =
     let at = acts_at on add acts (bare_run settings node) [] backs begins in
     record {
       reports = sym at.order ∙ ap (reported_among s) (out_parts s) ∙ filter_append (stands is_reported s.taken) (offered_of s) (waiting_of s);
-      pages_are = at.pages ∙ reported_only s.taken run.buffers (offered_of s);
+      pages_are = ap (map Some) (at.pages ∙ reported_only s.taken run.buffers (offered_of s)) ∙ each_page s.taken run.buffers at.many (offered_of s);
     }

@@ -1,5 +1,5 @@
 -- Which of the reports of an agent's model were offered to the pool, and so said: the first ones, in order.
-use Rattle.std.specs.Prelude.{◌≡◌, ℕ, List, [], ◌∷◌, ◌++◌, take, drop, filter, filter_map, slice_get, Option, Some, None, option_and_then, if◌then◌else◌, refl}
+use Rattle.std.specs.Prelude.{◌≡◌, ℕ, List, [], ◌∷◌, ◌++◌, take, drop, map, filter, slice_get, Option, Some, None, option_and_then, if◌then◌else◌, refl}
 use Rattle.hs_base.specs.Samples.{one_rule}
 use Rattle.hs_wire.specs.Messages.{PlainReported}
 use Rattle.hs_words.specs.Buffers.{Buffer}
@@ -40,10 +40,10 @@ report_in taken buffers place =
 abbrev pub report_at : Run Leased → ℕ → Option PlainReported
 report_at run place = report_in (state_of run).taken run.buffers place
 
--- The model's reports are those that were offered and then those that wait in the hand, and these are the pages of the first ones.
+-- The model's reports are those that were offered and then those that wait in the hand. Each of the first ones has its page, and these are the pages.
 pub record AreFirst (run : Run Leased) (pages : List PlainReported) : Type 0 where
   pub reports : (state_of run).reported ≡ reported_among (state_of run) (offered_of (state_of run)) ++ reported_among (state_of run) (waiting_of (state_of run))
-  pub pages_are : pages ≡ filter_map (report_at run) (reported_among (state_of run) (offered_of (state_of run)))
+  pub pages_are : map Some pages ≡ map (report_at run) (reported_among (state_of run) (offered_of (state_of run)))
 
 -- ---- what comes back
 
