@@ -123,8 +123,8 @@ pub record HasSpoken (settings : PlainSettings) (node : ℕ) (start : Letters) (
 
 -- What the model of the agent says, behind what waited when the node was made, is what was said, in order, and then the one that waits for its
 -- place. The pages of the model's reports, as far as these were offered, are, in order, the pages that were said, but for those that no place can
--- take; all other reports still wait in the hand. Each page that was said was put into its outbox. Whatever was put waits there, or was acknowledged, each of it once; and what goes out goes
--- in the order in which it was said.
+-- take; all other reports still wait in the hand. Each page that was said was put into its outbox. Whatever was put waits there, or was acknowledged,
+-- each of it once; and what goes out goes in the order in which it was said.
 pub record IsSaid (settings : PlainSettings) (node epoch : ℕ) (pages words : Room) (before : Option Told) (acts : List Act) (deeds : List Deed) (d : PlainIntake) : Type 0 where
   pub told : option_to_list before ++ (state_by settings node acts).said ≡ filter_map told_of (said_in deeds) ++ option_to_list d.unsaid
   pub reported : AreReported (record { node = record { 0 = node }; epoch = epoch; room = pages.bytes }) (parts_in (bare_run settings node) acts) (filter_map page_of (said_in deeds))
