@@ -64,11 +64,19 @@ static void drop(int fd) {
     close(fd);
 }
 
+/* A file that somebody else made is nothing that this service left. */
+static int is_ours(int fd) {
+    struct stat found;
+    if (fstat(fd, &found)) return 0;
+    if (found.st_uid != geteuid()) errno = EPERM;
+    return found.st_uid == geteuid();
+}
+
 /* Opens and locks: the descriptor, or -1. */
 static int take(const char *path, int flags) {
     int fd = open(path, flags | O_RDWR | O_CLOEXEC | O_NOFOLLOW, 0600);
     if (fd >= 0) note_own(-1, fd);
-    if (fd < 0 || !flock(fd, LOCK_EX | LOCK_NB)) return fd;
+    if (fd < 0 || (is_ours(fd) && !flock(fd, LOCK_EX | LOCK_NB))) return fd;
     int why = errno;
     drop(fd);
     errno = why;

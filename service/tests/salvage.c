@@ -409,6 +409,25 @@ static void files_that_are_none(void) {
     memcpy(pool, before, sizeof pool);
 }
 
+/* Somebody else's file is left alone, and so is what a link leads to. */
+static void files_of_others(void) {
+    hind_node *node = NULL;
+    char other[PATH_MAX + 8];
+    live_and_die(10, die_unclaimed);
+    snprintf(other, sizeof other, "%s.other", pool);
+    HOLDS(!rename(pool, other) && !symlink(other, pool));
+    EXPECT(open_life(11, 0, &node), HIND_SYSTEM);
+    EXPECT(errno, ELOOP);
+    HOLDS(!unlink(pool) && !rename(other, pool));
+    if (geteuid()) return; /* only root gives files away */
+    HOLDS(!chown(pool, 65534, (gid_t)-1));
+    EXPECT(open_life(11, 0, &node), HIND_SYSTEM);
+    EXPECT(errno, EPERM);
+    HOLDS(!node && files("pool") == 1 && !chown(pool, 0, (gid_t)-1));
+    EXPECT(open_life(11, 0, &node), HIND_OK);
+    EXPECT(hind_node_close(node), HIND_OK);
+}
+
 /* All room is taken when the node is opened, or none. */
 static void no_room(void) {
     struct rlimit was, few;
@@ -665,7 +684,7 @@ static void sizes(void) {
 }
 
 int main(int argc, char **argv) {
-    static void (*const tests[])(void) = {claimed_and_killed, claimed_and_unheard, asked_while_away, asked_afterwards, triggered_afterwards, acknowledged_in_any_order, files_that_are_none, no_room, refused_settings,
+    static void (*const tests[])(void) = {claimed_and_killed, claimed_and_unheard, asked_while_away, asked_afterwards, triggered_afterwards, acknowledged_in_any_order, files_that_are_none, files_of_others, no_room, refused_settings,
                                           one_process_has_it, forked_children_keep_nothing, closed_beneath_a_client, few_are_kept, read_by_hand, torn_pages, another_number, sizes};
     if (argc != 2) return 2;
     snprintf(folder, sizeof folder, "%s", argv[1]);
