@@ -128,16 +128,22 @@ static int add_others(heap *h, hindcore_hub *hub, uint16_t nodes, const char *(*
 
 /* ---- records */
 
-/* The core of a page that a process left, which no page says (docs/FORMATS.md, "Messages of a service"). */
-static int is_left(const hindcore_row *row) { return row->core == UINT64_MAX; }
+/* The last part has a row of a page that its process left: that is what is said of it. */
+static int say_salvaged(heap *h) {
+    static const char words[] = "salvaged";
+    size_t *said = (size_t *)h->said.at + h->said.count - 1;
+    if (!strcmp((const char *)h->words.at + *said, words)) return 1;
+    *said = h->words.count;
+    return add_bytes(&h->words, words, sizeof words);
+}
 
 static int add_record(heap *h, const hindcore_row *row, uint64_t missing, const uint8_t *payload) {
     if (!grow(&h->records, 1, sizeof(otlp_record))) return 0;
     ((otlp_record *)h->records.at)[h->records.count++] = (otlp_record){
         .client = row->client, .core = row->core, .number = row->number, .missing = missing, .moment = row->moment, .len = row->len};
-    otlp_part *part = (otlp_part *)h->parts.at + h->parts.count - 1;
-    part->count++;
-    part->is_salvaged |= is_left(row);
+    ((otlp_part *)h->parts.at)[h->parts.count - 1].count++;
+    /* no page says which core wrote it (docs/FORMATS.md, "Messages of a service") */
+    if (row->core == UINT64_MAX && !say_salvaged(h)) return 0;
     return add_place(&h->places, h->payloads.count) && add_bytes(&h->payloads, payload, row->len);
 }
 
@@ -201,7 +207,7 @@ static void hand_over(const heap *h, gathered *g) {
 static void settle(const heap *h, gathered *g) {
     size_t first = 0;
     for (size_t i = 0; i < h->parts.count; i++) {
-        g->parts[i].wholeness = g->parts[i].is_salvaged ? "salvaged" : g->words + ((size_t *)h->said.at)[i];
+        g->parts[i].wholeness = g->words + ((size_t *)h->said.at)[i];
         g->parts[i].records = g->records + first;
         first += g->parts[i].count;
     }

@@ -22,7 +22,6 @@ typedef struct {
     const char *wholeness;
     const otlp_record *records;
     size_t count;
-    int is_salvaged; /* some of them are what its process left */
 } otlp_part;
 
 typedef struct {
