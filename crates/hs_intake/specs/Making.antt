@@ -23,3 +23,5 @@ pub record IsMade (settings : PlainSettings) (limits : ClientLimits) (mail : Let
   pub claims_is : made.intake.claims ≡ no_claims claims
   -- nothing waits at the front
   pub back_is : made.intake.back ≡ None
+  -- nothing waits to be said
+  pub unsaid_is : made.intake.unsaid ≡ None

@@ -28,4 +28,5 @@ returns-clause-made c =
       inbox_is = c.in-Ok-make.ensures;
       claims_is = c.in-Ok-make-2.ensures;
       back_is = refl;
+      unsaid_is = refl;
     })
