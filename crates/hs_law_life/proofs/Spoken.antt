@@ -71,9 +71,9 @@ said_carried deeds deed carries =
 
 -- ---- a life goes on
 
-module _ (settings : PlainSettings) (node : ℕ) (start : Letters) (before : Option Told) where
+module _ (settings : PlainSettings) (node : ℕ) (start : Letters) where
   abbrev Spoken : List Act → List Deed → PlainIntake → Type 0
-  Spoken acts deeds d = HasSpoken settings node start before acts deeds d
+  Spoken acts deeds d = HasSpoken settings node start acts deeds d
 
   pub spoken_on : (acts more : List Act) (deeds : List Deed) (old new : PlainIntake) → Spoken acts deeds old → HasLived settings node (acts ++ more) new → Speaks (run_by settings node acts) more old new
       → (said : List Deed) × Spoken (acts ++ more) (deeds ++ said) new
@@ -86,8 +86,7 @@ module _ (settings : PlainSettings) (node : ℕ) (start : Letters) (before : Opt
           lived = lived;
           mail = speaks.mail ∙ ap (λ (m : Letters). mail.life m (map Says speaks.said)) has.mail ∙ sym (mail_append deeds (map Says speaks.said) start);
           told =
-              ap (λ (l : List Told). option_to_list before ++ l) (told_append acts more run)
-              ∙ sym (append_assoc (option_to_list before) (told_in run acts) (told_in later more))
+              told_append acts more run
               ∙ ap (λ (l : List Told). l ++ told_in later more) has.told
               ∙ append_assoc (filter_map told_of said) (option_to_list old.unsaid) (told_in later more)
               ∙ ap (λ (l : List Told). filter_map told_of said ++ l) speaks.told
@@ -152,9 +151,9 @@ module _ (settings : PlainSettings) (node : ℕ) (start : Letters) (before : Opt
       }
 
 pub spoken_first : (s : PlainService) (number epoch : ℕ) (made : MadeNode) → IsMadeBy s number epoch made
-    → HasSpoken (run_settings s) number (first_mail s number epoch) made.node.intake.unsaid [] [] made.node.intake
+    → HasSpoken (run_settings s) number (first_mail s number epoch) [] [] made.node.intake
 spoken_first s number epoch made is =
-    record { lived = begins_by s number epoch made is; mail = is.intake.mail_is; told = append-nil (option_to_list made.node.intake.unsaid); parts = refl; posted = tt; backs = tt }
+    record { lived = begins_by s number epoch made is; mail = is.intake.mail_is; told = ap (λ (o : Option Told). option_to_list o) (sym is.intake.unsaid_is); parts = refl; posted = tt; backs = tt }
 
 -- ---- what the model says
 
@@ -223,11 +222,11 @@ pages_put (OffersAgain ∷ deeds) m (is, others) = pages_put deeds (after m Offe
 abbrev InOrder : Type 0
 InOrder = (node : NodeId) (epoch : ℕ) (pages words : Room) (deeds : List Deed) → IsInOrder node epoch pages words deeds (mail.life (no_letters node epoch pages words) deeds)
 
-pub said_by_model : StepsSayWhatTheyTell → EventsLeadOn → EventsAddThis → InOrder → (settings : PlainSettings) (node epoch : ℕ) (pages words : Room) (before : Option Told) (acts : List Act) (deeds : List Deed) (d : PlainIntake)
-    → HasSpoken settings node (no_letters (record { 0 = node }) epoch pages words) before acts deeds d → IsSaid settings node epoch pages words before acts deeds d
-said_by_model say on add order settings node epoch pages words before acts deeds d has =
+pub said_by_model : StepsSayWhatTheyTell → EventsLeadOn → EventsAddThis → InOrder → (settings : PlainSettings) (node epoch : ℕ) (pages words : Room) (acts : List Act) (deeds : List Deed) (d : PlainIntake)
+    → HasSpoken settings node (no_letters (record { 0 = node }) epoch pages words) acts deeds d → IsSaid settings node epoch pages words acts deeds d
+said_by_model say on add order settings node epoch pages words acts deeds d has =
     record {
-      told = ap (λ (l : List Told). option_to_list before ++ l) (acts_say say on acts (bare_run settings node)) ∙ has.told;
+      told = acts_say say on acts (bare_run settings node) ∙ has.told;
       reported = has.parts;
       first = first_reports on add settings node acts has.backs;
       put = pages_put deeds (no_letters (record { 0 = node }) epoch pages words) has.posted;

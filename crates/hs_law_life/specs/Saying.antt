@@ -107,13 +107,13 @@ Carries OffersAgain = Unit {0}
 
 -- ---- a life
 
--- Where these are the acts of the agent since the node was made, these are the deeds of its mail since then. What waited to be said when it was made,
--- and then what the acts tell, is said in order, but for the last of it, which may wait for its place. Of the chunks that leave the hand at these
--- acts the pages of those that were reported are said in order, but for those that no place can take.
-pub record HasSpoken (settings : PlainSettings) (node : ℕ) (start : Letters) (before : Option Told) (acts : List Act) (deeds : List Deed) (d : PlainIntake) : Type 0 where
+-- Where these are the acts of the agent since the node was made, these are the deeds of its mail since then. What the acts tell is said in order, but
+-- for the last of it, which may wait for its place. Of the chunks that leave the hand at these acts the pages of those that were reported are said in
+-- order, but for those that no place can take.
+pub record HasSpoken (settings : PlainSettings) (node : ℕ) (start : Letters) (acts : List Act) (deeds : List Deed) (d : PlainIntake) : Type 0 where
   pub lived : HasLived settings node acts d
   pub mail : d.mail ≡ mail.life start deeds
-  pub told : option_to_list before ++ told_in (bare_run settings node) acts ≡ filter_map told_of (said_in deeds) ++ option_to_list d.unsaid
+  pub told : told_in (bare_run settings node) acts ≡ filter_map told_of (said_in deeds) ++ option_to_list d.unsaid
   pub parts : AreReported (place_in start) (parts_in (bare_run settings node) acts) (filter_map page_of (said_in deeds))
   pub posted : ArePosted start deeds
   -- each chunk that was offered was given, or came back with its lease
@@ -121,12 +121,12 @@ pub record HasSpoken (settings : PlainSettings) (node : ℕ) (start : Letters) (
 
 -- ---- what holds in a life
 
--- What the model of the agent says, behind what waited when the node was made, is what was said, in order, and then the one that waits for its
--- place. The pages of the model's reports, as far as these were offered, are, in order, the pages that were said, but for those that no place can
--- take; all other reports still wait in the hand. Each page that was said was put into its outbox. Whatever was put waits there, or was acknowledged,
--- each of it once; and what goes out goes in the order in which it was said.
-pub record IsSaid (settings : PlainSettings) (node epoch : ℕ) (pages words : Room) (before : Option Told) (acts : List Act) (deeds : List Deed) (d : PlainIntake) : Type 0 where
-  pub told : option_to_list before ++ (state_by settings node acts).said ≡ filter_map told_of (said_in deeds) ++ option_to_list d.unsaid
+-- What the model of the agent says is what was said, in order, and then the one that waits for its place. The pages of the model's reports, as far as
+-- these were offered, are, in order, the pages that were said, but for those that no place can take; all other reports still wait in the hand. Each
+-- page that was said was put into its outbox. Whatever was put waits there, or was acknowledged, each of it once; and what goes out goes in the order
+-- in which it was said.
+pub record IsSaid (settings : PlainSettings) (node epoch : ℕ) (pages words : Room) (acts : List Act) (deeds : List Deed) (d : PlainIntake) : Type 0 where
+  pub told : (state_by settings node acts).said ≡ filter_map told_of (said_in deeds) ++ option_to_list d.unsaid
   pub reported : AreReported (record { node = record { 0 = node }; epoch = epoch; room = pages.bytes }) (parts_in (bare_run settings node) acts) (filter_map page_of (said_in deeds))
   -- and these chunks are the first of the model's reports
   pub first : AreFirst (run_by settings node acts) (filter_map (λ (part : Part). part.page) (parts_in (bare_run settings node) acts))

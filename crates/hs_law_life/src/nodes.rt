@@ -1,10 +1,9 @@
 //! Laws of nodes. Each is the contract of a function that does nothing.
 
-ghost use Rattle.std.specs.Prelude.{◌≡◌, ℕ, List, [], ◌∷◌, ◌++◌, Option, Some, Result};
+ghost use Rattle.std.specs.Prelude.{◌≡◌, ℕ, List, [], ◌∷◌, ◌++◌, Some, Result};
 ghost use Rattle.std.specs.List.{AllByRecursion};
 ghost use Rattle.hs_base.specs.declared.ids.TraceId.{TraceId};
 ghost use Rattle.hs_base.specs.declared.told.Group.{Group};
-ghost use Rattle.hs_base.specs.declared.told.Told.{Told};
 ghost use Rattle.hs_inbox.specs.Delivering.{PlainInbox, Delivers};
 ghost use Rattle.hs_inbox.specs.declared.inbox.Delivered.{Delivered};
 ghost use Rattle.hs_link.specs.Contents.{Incoming, Contains};
@@ -94,28 +93,28 @@ pub fn chunks_are_followed()
     acts_are_a_life_of_the_model();
 }
 
-/// A node's life begins with an empty mail. A pass that is made leads on by more acts and by what is said of them; a hello is one more message;
-/// and what a carrier does says nothing.
+/// A node's life begins with an empty mail, and nothing waits to be said. A pass that is made leads on by more acts and by what is said of them; a
+/// hello is one more message; and what a carrier does says nothing.
 pub fn nodes_speak_on()
     ensures made { (s : PlainService) (number epoch : ℕ) (made : MadeNode) → IsMadeBy s number epoch made
-        → HasSpoken (run_settings s) number (first_mail s number epoch) made.node.intake.unsaid [] [] made.node.intake }
-    ensures pass { (settings : PlainSettings) (number : ℕ) (start : Letters) (before : Option Told) (acts : List Act) (deeds : List Deed) (old new : PlainNode)
-        → HasSpoken settings number start before acts deeds old.intake → Passes (run_by settings number acts) old new
-        → (more : List Act) × ((said : List Deed) × HasSpoken settings number start before (acts ++ more) (deeds ++ said) new.intake) }
-    ensures hello { (settings : PlainSettings) (number : ℕ) (start : Letters) (before : Option Told) (acts : List Act) (deeds : List Deed) (d : PlainIntake) (hello : PlainHello) (answer : Result ℕ Unposted) (mail : Letters)
-        → HasSpoken settings number start before acts deeds d → Posts d.mail (SaysHello hello) answer mail
-        → (said : List Deed) × HasSpoken settings number start before acts (deeds ++ said) (record d { mail = mail }) }
-    ensures carries { (settings : PlainSettings) (number : ℕ) (start : Letters) (before : Option Told) (acts : List Act) (deeds : List Deed) (d : PlainIntake) (deed : Deed) → Carries deed
-        → HasSpoken settings number start before acts deeds d → HasSpoken settings number start before acts (deeds ++ deed ∷ []) (record d { mail = after d.mail deed }) }
-    ensures hears { (settings : PlainSettings) (number : ℕ) (start : Letters) (before : Option Told) (acts : List Act) (deeds : List Deed) (d : PlainIntake) (bytes : List ℕ) (answer : Delivered) (inbox : PlainInbox)
-        → Delivers d.inbox bytes answer inbox → HasSpoken settings number start before acts deeds d → HasSpoken settings number start before acts deeds (record d { inbox = inbox }) }
+        → HasSpoken (run_settings s) number (first_mail s number epoch) [] [] made.node.intake }
+    ensures pass { (settings : PlainSettings) (number : ℕ) (start : Letters) (acts : List Act) (deeds : List Deed) (old new : PlainNode)
+        → HasSpoken settings number start acts deeds old.intake → Passes (run_by settings number acts) old new
+        → (more : List Act) × ((said : List Deed) × HasSpoken settings number start (acts ++ more) (deeds ++ said) new.intake) }
+    ensures hello { (settings : PlainSettings) (number : ℕ) (start : Letters) (acts : List Act) (deeds : List Deed) (d : PlainIntake) (hello : PlainHello) (answer : Result ℕ Unposted) (mail : Letters)
+        → HasSpoken settings number start acts deeds d → Posts d.mail (SaysHello hello) answer mail
+        → (said : List Deed) × HasSpoken settings number start acts (deeds ++ said) (record d { mail = mail }) }
+    ensures carries { (settings : PlainSettings) (number : ℕ) (start : Letters) (acts : List Act) (deeds : List Deed) (d : PlainIntake) (deed : Deed) → Carries deed
+        → HasSpoken settings number start acts deeds d → HasSpoken settings number start acts (deeds ++ deed ∷ []) (record d { mail = after d.mail deed }) }
+    ensures hears { (settings : PlainSettings) (number : ℕ) (start : Letters) (acts : List Act) (deeds : List Deed) (d : PlainIntake) (bytes : List ℕ) (answer : Delivered) (inbox : PlainInbox)
+        → Delivers d.inbox bytes answer inbox → HasSpoken settings number start acts deeds d → HasSpoken settings number start acts deeds (record d { inbox = inbox }) }
 {}
 
 /// What a node's agent told is what its model says, in order, and the pages that the node said are those of the model's reports, in order, as far as
 /// these were offered. Each of these pages was put into its outbox. What was put waits there until it is acknowledged, and goes out in order.
 pub fn what_is_said_is_what_the_model_says()
-    ensures { (settings : PlainSettings) (node epoch : ℕ) (pages words : Room) (before : Option Told) (acts : List Act) (deeds : List Deed) (d : PlainIntake)
-        → HasSpoken settings node (no_letters (record { 0 = node }) epoch pages words) before acts deeds d → IsSaid settings node epoch pages words before acts deeds d }
+    ensures { (settings : PlainSettings) (node epoch : ℕ) (pages words : Room) (acts : List Act) (deeds : List Deed) (d : PlainIntake)
+        → HasSpoken settings node (no_letters (record { 0 = node }) epoch pages words) acts deeds d → IsSaid settings node epoch pages words acts deeds d }
 {
     steps_say_what_they_tell();
     events_lead_on();
