@@ -18,7 +18,7 @@ use Rattle.hs_law_agent.specs.Stepping.{Crumbed, told_by}
 use Rattle.hs_mail.specs.Letters.{Letters, Deed}
 use Rattle.hs_mail.specs.Letters as letters
 use Rattle.hs_mail.specs.Lives as mail
-use Rattle.hs_intake.specs.Intakes.{PlainIntake, says, claims_life, claim_for, claim_by, note_of, notes_from, is_claim, is_note, HasRoom, HaveRoom, ClaimsBy, Tells, SaysIt}
+use Rattle.hs_intake.specs.Intakes.{PlainIntake, says, ArePut, claims_life, claim_for, claim_by, note_of, notes_from, is_claim, is_note, HasRoom, HaveRoom, ClaimsBy, Tells, SaysIt}
 
 -- ---- the mail
 
@@ -145,11 +145,16 @@ claims_made old new number (Some told) room is =
 
 -- ---- what is told
 
+put_append : (xs ys : List Told) (m : Letters) → ArePut m xs → ArePut (mail.life m (map says xs)) ys → ArePut m (xs ++ ys)
+put_append [] ys m first second = second
+put_append (x ∷ xs) ys m (is, others) second = (is, put_append xs ys (letters.after m (says x)) others second)
+
 pub tells_nothing : (old new : PlainIntake) → new.mail ≡ old.mail → new.unsaid ≡ old.unsaid → new.claims ≡ old.claims → Tells old [] new
 tells_nothing old new mail unsaid claims =
     record {
       said = [];
       mail = mail;
+      put = tt;
       all = append-nil (option_to_list old.unsaid) ∙ ap (λ (o : Option Told). option_to_list o) (sym unsaid);
       claims = claims_nothing old.claims new.claims old.mail.fresh claims;
     }
@@ -162,6 +167,7 @@ tells_more a b c first second one two =
       mail =
           two.mail ∙ ap (λ (m : Letters). mail.life m (map says two.said)) one.mail
           ∙ sym (ap (λ (ds : List Deed). mail.life a.mail ds) (map_append says one.said two.said) ∙ mail_append (map says one.said) (map says two.said) a.mail);
+      put = put_append one.said two.said a.mail one.put (subst (λ (m : Letters). ArePut m two.said) one.mail two.put);
       all =
           sym (append_assoc (option_to_list a.unsaid) first second) ∙ ap (λ (l : List Told). l ++ second) one.all ∙ append_assoc one.said (option_to_list b.unsaid) second
           ∙ ap (λ (l : List Told). one.said ++ l) two.all ∙ sym (append_assoc one.said two.said (option_to_list c.unsaid));
@@ -179,6 +185,7 @@ tells_said old new told none free says_it =
     record {
       said = says_it.said;
       mail = says_it.mail;
+      put = says_it.put;
       all = ap (λ (o : Option Told). option_to_list o ++ option_to_list told) none ∙ says_it.all;
       claims = record { deeds = own.deeds; claims = own.claims; made = own.made ∙ sym free; noted = own.noted; room = own.room };
     }
@@ -191,6 +198,7 @@ tells_claimed old new told mid none room entered says_it =
     record {
       said = says_it.said;
       mail = says_it.mail;
+      put = says_it.put;
       all = ap (λ (o : Option Told). option_to_list o ++ option_to_list told) none ∙ says_it.all;
       claims =
           subst (λ (l : List Told). ClaimsBy old.claims l old.mail.fresh (map SaysTold says_it.said) new.claims) (append-nil (option_to_list told))

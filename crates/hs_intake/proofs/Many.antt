@@ -71,7 +71,7 @@ module _ {T : Type 0} (run : Run Leased) (line : Line T) (client : ℕ) where
 
   pub tells_same : (told : List Told) (a b c : PlainIntake) → c.mail ≡ b.mail → c.unsaid ≡ b.unsaid → c.claims ≡ b.claims → Tells a told b → Tells a told c
   tells_same told a b c mail unsaid claims tells =
-      record { said = tells.said; mail = mail ∙ tells.mail; all = tells.all ∙ ap (λ (o : Option Told). tells.said ++ option_to_list o) (sym unsaid); claims = subst (λ (s : PlainClaims). ClaimsBy a.claims told a.mail.fresh (map SaysTold tells.said) s) (sym claims) tells.claims }
+      record { said = tells.said; mail = mail ∙ tells.mail; put = tells.put; all = tells.all ∙ ap (λ (o : Option Told). tells.said ++ option_to_list o) (sym unsaid); claims = subst (λ (s : PlainClaims). ClaimsBy a.claims told a.mail.fresh (map SaysTold tells.said) s) (sym claims) tells.claims }
 
   unfoldable pub stopped : ((p : Lines) (xs ys : List (Incoming T Key)) → line.with_ends (line.with_ends p xs) ys ≡ line.with_ends p ys)
       → (old mid new : PlainIntake) (count : ℕ) (stop : Stop) → count ≤ MAX_TAKEN → SoFar run line client old count mid

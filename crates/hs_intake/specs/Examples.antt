@@ -1,5 +1,5 @@
 -- Worked examples of what an intake receives, says and takes.
-use Rattle.std.specs.Prelude.{◌≡◌, ℕ, true, false, [], ◌∷◌, ◌++◌, filter_map, Some, None, refl}
+use Rattle.std.specs.Prelude.{◌≡◌, ℕ, true, false, [], ◌∷◌, ◌++◌, filter_map, Some, None, Ok, refl}
 use Rattle.hs_base.specs.declared.told.Told.{Told}
 use Rattle.hs_base.specs.declared.told.Why.TheVariants.{Fired, Late}
 use Rattle.hs_claimed.specs.Claims.{PlainClaims, after_named}
@@ -20,7 +20,7 @@ use Rattle.hs_law_agent.specs.Lives.{is_settled}
 use Rattle.hs_law_agent.specs.State.{start}
 use Rattle.hs_records.specs.Plain.{PlainSettings}
 use Rattle.hs_agent.specs.Runs.{Run, new_run, state_of, offered_next}
-use Rattle.hs_mail.specs.Letters.{Letters, after}
+use Rattle.hs_mail.specs.Letters.{Letters, Causes, after}
 use Rattle.hs_intake.specs.Intakes.{Chunk, TakesChunk, Turns, LetsGo, Forgets, says, SaysIt, claim_by, notes_from, acts_in, told_in, limit_of, limited_in, life, TakesTrigger}
 use Rattle.hs_intake.specs.Taking.{Receives}
 use Rattle.hs_intake.specs.Handing.{first_page, was_offered}
@@ -30,11 +30,11 @@ two_are_received : (a b : Incoming ℕ Key) → Receives 1 (7 ∷ 8 ∷ []) (a �
 two_are_received a b = record { before = b; later = record b { received = b.received ++ 7 ∷ 8 ∷ [] }; at = refl; new_is = refl; same = (refl, refl, refl); received = refl }
 
 -- A message that has a place is said, and noted with its number and its nodes; one that has none waits.
-has_a_place : (m : Letters) (s : PlainClaims) (told : Told) → SaysIt m s (Some told) (after m (says told)) (after_named s told.group.id told.crumbs m.fresh) None
-has_a_place m s told = record { said = told ∷ []; mail = refl; all = refl; noted = refl }
+has_a_place : (m : Letters) (s : PlainClaims) (told : Told) → Causes m (SaysTold told) (Ok m.fresh) → SaysIt m s (Some told) (after m (says told)) (after_named s told.group.id told.crumbs m.fresh) None
+has_a_place m s told has = record { said = told ∷ []; mail = refl; put = (has, tt); all = refl; noted = refl }
 
 has_no_place : (m : Letters) (s : PlainClaims) (told : Told) → SaysIt m s (Some told) m s (Some told)
-has_no_place m s told = record { said = []; mail = refl; all = refl; noted = refl }
+has_no_place m s told = record { said = []; mail = refl; put = tt; all = refl; noted = refl }
 
 -- The group of a message that fired claims its traces; one that tells a late crumb claims nothing.
 one_claims : (told : Told) → filter_map claim_by (record told { why = Fired } ∷ record told { why = Late } ∷ []) ≡ Claims told.group told.laterals ∷ []

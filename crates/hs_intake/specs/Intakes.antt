@@ -1,6 +1,6 @@
 -- What contracts see of the intake of a node: its agent, the ends of its clients' links, its mail, and what waits at the front. Which run
 -- of the agent's model it stands at, and what an act makes of that run.
-use Rattle.std.specs.Prelude.{◌≡◌, ℕ, ◌+◌, ◌<◌, ◌≤◌, ◌^◌, nat_lt, if◌then◌else◌, Bool, true, false, List, [], ◌∷◌, ◌++◌, length, map, fold, filter, filter_map, Option, Some, None}
+use Rattle.std.specs.Prelude.{◌≡◌, ℕ, ◌+◌, ◌<◌, ◌≤◌, ◌^◌, nat_lt, if◌then◌else◌, Bool, true, false, List, [], ◌∷◌, ◌++◌, length, map, fold, filter, filter_map, Option, Some, None, Ok}
 use Rattle.std.specs.List.{AllByRecursion}
 use Rattle.std.specs.Option.{option_to_list}
 use Rattle.hs_base.specs.Rules.{is_declared}
@@ -26,7 +26,7 @@ use Rattle.hs_agent.specs.Keeping.{PlainAgent}
 use Rattle.hs_agent.specs.Runs.{Run, state_of, Follows, IsChunkFor, after_chunk, after_turn, after_offer, with_back, forgetting}
 use Rattle.hs_agent.specs.Tries.{after_crumb, after_trigger, after_ask}
 use Rattle.hs_inbox.specs.Delivering.{PlainInbox}
-use Rattle.hs_mail.specs.Letters.{Letters, Deed, Says}
+use Rattle.hs_mail.specs.Letters.{Letters, Deed, Says, Causes, after}
 use Rattle.hs_mail.specs.Lives as mail
 
 -- what came, and found no memory
@@ -223,10 +223,16 @@ pub record ClaimsBy (old : PlainClaims) (told : List Told) (number : ℕ) (said 
 abbrev pub says : Told → Deed
 says told = Says (SaysTold told)
 
+-- Each of these is put into the outbox where it is said: it is a post that is answered with its number.
+abbrev pub ArePut : Letters → List Told → Type 0
+ArePut m [] = Unit {0}
+ArePut m (told ∷ later) = Causes m (SaysTold told) (Ok m.fresh) × ArePut (after m (says told)) later
+
 -- What was told before and found no place, and what is told now, is said in this order, but for the last of it, which may find no place.
 pub record Tells (old : PlainIntake) (told : List Told) (new : PlainIntake) : Type 0 where
   pub said : List Told
   pub mail : new.mail ≡ mail.life old.mail (map says said)
+  pub put : ArePut old.mail said
   pub all : option_to_list old.unsaid ++ told ≡ said ++ option_to_list new.unsaid
   -- the groups that fired or answered claim their traces, and what is said is noted with its number
   pub claims : ClaimsBy old.claims told old.mail.fresh (map SaysTold said) new.claims
@@ -235,6 +241,7 @@ pub record Tells (old : PlainIntake) (told : List Told) (new : PlainIntake) : Ty
 pub record SaysIt (old : Letters) (claims : PlainClaims) (told : Option Told) (new : Letters) (claims' : PlainClaims) (unsaid : Option Told) : Type 0 where
   pub said : List Told
   pub mail : new ≡ mail.life old (map says said)
+  pub put : ArePut old said
   pub all : option_to_list told ≡ said ++ option_to_list unsaid
   -- and is noted with its number
   pub noted : claims' ≡ claims_life claims (notes_from old.fresh (map SaysTold said))

@@ -12,7 +12,7 @@ said_now : (old new : Letters) (s s' : PlainClaims) (told : Told) (answer : Resu
     → s' ≡ after_named s told.group.id told.crumbs number → SaysIt old s (Some told) new s' None
 said_now old new s s' told (Ok n) number good done cause noted =
     let same : n ≡ number = cc in
-    record { said = told ∷ []; mail = done; all = refl; noted = noted ∙ ap (λ (k : ℕ). after_named s told.group.id told.crumbs k) (sym same ∙ cause.0) }
+    record { said = told ∷ []; mail = done; put = ((refl, cause.1), tt); all = refl; noted = noted ∙ ap (λ (k : ℕ). after_named s told.group.id told.crumbs k) (sym same ∙ cause.0) }
 said_now old new s s' told (Err fault) number good done cause noted = absurd cc
 
 pub returns-in-Ok : goal.returns-in-Ok
