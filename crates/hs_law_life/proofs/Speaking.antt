@@ -19,7 +19,7 @@ use Rattle.hs_outbox.specs.Queue as queue
 use Rattle.hs_wire.specs.Messages.{Said, PlainReported, SaysTold, SaysReported, SaysStanding}
 use Rattle.hs_wire.specs.declared.message.Standing.{Standing}
 use Rattle.hs_intake.specs.declared.took.Parted.{Parted}
-use Rattle.hs_intake.specs.Intakes.{PlainIntake, Waiting, Chunk, Crumbs, Triggers, Act, LetsGo, after_act, life, told_in, says, acts_in, Tells, SaysIt}
+use Rattle.hs_intake.specs.Intakes.{PlainIntake, Waiting, Chunk, Crumbs, Triggers, Act, LetsGo, after_act, life, told_in, says, acts_in, ArePut, Tells, SaysIt}
 use Rattle.hs_intake.specs.Handing.{first_taken, first_page, was_offered, may_wait, word_of, Word, PostsPage, Offers, Returns, SaysIf}
 use Rattle.hs_intake.proofs.Claiming.{map_append, mail_append}
 use Rattle.hs_intake.proofs.Acts.{told_append}
@@ -107,9 +107,9 @@ back_front run (Some (Chunk client buffer)) = (tt, tt)
 back_front run (Some (Crumbs client crumb)) = (tt, tt)
 back_front run (Some (Triggers client trigger)) = (tt, tt)
 
-tolds_posted : (said : List Told) (m : Letters) → ArePosted m (map Says (map SaysTold said))
-tolds_posted [] m = tt
-tolds_posted (told ∷ said) m = (tt, tolds_posted said (after m (says told)))
+tolds_posted : (said : List Told) (m : Letters) → ArePut m said → ArePosted m (map Says (map SaysTold said))
+tolds_posted [] m put = tt
+tolds_posted (told ∷ said) m (is, others) = (is, tolds_posted said (after m (says told)) others)
 
 -- ---- what is said at some acts
 
@@ -167,7 +167,7 @@ speaks_tells run acts old new tells none backs =
       mail = tells.mail ∙ ap (λ (ds : List Deed). mail.life old.mail ds) (sym (all_say tells.said));
       told = tells.all ∙ ap (λ (l : List Told). l ++ option_to_list new.unsaid) (sym (tolds tells.said));
       parts = subst (λ (l : List Part). AreReported (place_in old.mail) l (filter_map page_of (map SaysTold tells.said))) (sym none) (no_pages tells.said);
-      posted = tolds_posted tells.said old.mail;
+      posted = tolds_posted tells.said old.mail tells.put;
       backs = backs;
     }
 
@@ -178,7 +178,7 @@ speaks_says run old new says_it =
       mail = says_it.mail ∙ ap (λ (ds : List Deed). mail.life old.mail ds) (sym (all_say says_it.said));
       told = append-nil (option_to_list old.unsaid) ∙ says_it.all ∙ ap (λ (l : List Told). l ++ option_to_list new.unsaid) (sym (tolds says_it.said));
       parts = no_pages says_it.said;
-      posted = tolds_posted says_it.said old.mail;
+      posted = tolds_posted says_it.said old.mail says_it.put;
       backs = tt;
     }
 

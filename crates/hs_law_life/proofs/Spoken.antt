@@ -38,7 +38,7 @@ use Rattle.hs_node.specs.Made.{IsMadeBy, run_settings}
 use Rattle.hs_node.specs.Nodes.{PlainNode, Part, parts_in, told_of, page_of}
 use Rattle.hs_node.specs.Passing.{Passes}
 use Rattle.hs_law_life.specs.NodeLives.{HasLived, run_by}
-use Rattle.hs_law_life.specs.Saying.{Place, place_in, AreReported, said_by, said_in, messages_in, has_page, first_mail, IsPosted, ArePosted, Carries, HasSpoken, IsSaid}
+use Rattle.hs_law_life.specs.Saying.{Place, place_in, AreReported, said_by, said_in, messages_in, has_page, has_word, first_mail, IsPosted, ArePosted, Carries, HasSpoken, IsSaid}
 use Rattle.hs_law_life.proofs.Reported.{first_reports}
 use Rattle.hs_law_life.proofs.Speaking.{back_append, Speaks, parts_append, reported_append, posted_append, place_stays}
 use Rattle.hs_law_life.proofs.Passing.{quiet, passes_lead}
@@ -186,9 +186,10 @@ module _ (say : StepsSayWhatTheyTell) (on : EventsLeadOn) where
 
 -- ---- what is put
 
-put_page : (m : Letters) (said : Said) → is_page said ≡ true → Causes m said (Ok m.fresh) → may_put m.pages (pending_of (message_of m said)) ≡ true
-put_page m said page (is, (has, (free, (spelled, fits)))) =
-    let q = subst (λ (b : Bool). queue.Causes (cond b m.pages m.words) (message_of m said) puts.Done) page (free, (spelled, fits)) in
+-- in the outbox of pages, or in that of words
+put_in : (m : Letters) (said : Said) (b : Bool) → is_page said ≡ b → Causes m said (Ok m.fresh) → may_put (cond b m.pages m.words) (pending_of (message_of m said)) ≡ true
+put_in m said b kind (is, (has, (free, (spelled, fits)))) =
+    let q = subst (λ (b' : Bool). queue.Causes (cond b' m.pages m.words) (message_of m said) puts.Done) kind (free, (spelled, fits)) in
     and_from _ _ (and_from _ _ (le-leb _ _ q.0.fresh) (lt-ltb _ _ q.0.place)) (le-leb _ _ q.1.1)
 
 abbrev pages_of : Letters → List Deed → List Pending
@@ -212,10 +213,41 @@ pages_put (Says (SaysAsk ask) ∷ deeds) m (is, others) = pages_put deeds (after
 pages_put (Says (SaysStanding standing) ∷ deeds) m (is, others) = pages_put deeds (after m (Says (SaysStanding standing))) others
 pages_put (Says (SaysReported page) ∷ deeds) m (is, others) =
     put_first m.pages (pending_of (message_of m (SaysReported page))) (λ (q : Queue). all_put q (acts_of true (after m (Says (SaysReported page))) deeds)) (pages_of (after m (Says (SaysReported page))) deeds)
-    (may_put m.pages (pending_of (message_of m (SaysReported page)))) (put_page m (SaysReported page) refl is) (pages_put deeds (after m (Says (SaysReported page))) others)
+    (may_put m.pages (pending_of (message_of m (SaysReported page)))) (put_in m (SaysReported page) true refl is) (pages_put deeds (after m (Says (SaysReported page))) others)
 pages_put (HandsOut number ∷ deeds) m (is, others) = handed_put m number deeds (has_number (first_offered m) number) (pages_put deeds (after m (HandsOut number)) others)
 pages_put (Acknowledges number ∷ deeds) m (is, others) = pages_put deeds (after m (Acknowledges number)) others
 pages_put (OffersAgain ∷ deeds) m (is, others) = pages_put deeds (after m OffersAgain) others
+
+abbrev words_of : Letters → List Deed → List Pending
+words_of m deeds = map pending_of (filter has_word (messages_in m deeds))
+
+-- a word is put first
+word_first : (m : Letters) (said : Said) (deeds : List Deed) (later : List Pending) → is_page said ≡ false → Causes m said (Ok m.fresh)
+    → all_put (queue.after m.words (Puts (pending_of (message_of m said)))) (acts_of false (after m (Says said)) deeds) ≡ later
+    → all_put m.words (Puts (pending_of (message_of m said)) ∷ acts_of false (after m (Says said)) deeds) ≡ pending_of (message_of m said) ∷ later
+word_first m said deeds later word is same =
+    put_first m.words (pending_of (message_of m said)) (λ (q : Queue). all_put q (acts_of false (after m (Says said)) deeds)) later (may_put m.words (pending_of (message_of m said))) (put_in m said false word is) same
+
+handed_words : (m : Letters) (number : ℕ) (deeds : List Deed) (b : Bool)
+    → all_put (cond b (both m (queue.HandsOut number)) m).words (acts_of false (cond b (both m (queue.HandsOut number)) m) deeds) ≡ words_of (cond b (both m (queue.HandsOut number)) m) deeds
+    → all_put m.words (cond b (queue.HandsOut number ∷ []) [] ++ acts_of false (cond b (both m (queue.HandsOut number)) m) deeds) ≡ words_of (cond b (both m (queue.HandsOut number)) m) deeds
+handed_words m number deeds true same = same
+handed_words m number deeds false same = same
+
+pub words_put : (deeds : List Deed) (m : Letters) → ArePosted m deeds → all_put m.words (acts_of false m deeds) ≡ words_of m deeds
+words_put [] m posted = refl
+words_put (Says (SaysHello hello) ∷ deeds) m (is, others) =
+    let next = after m (Says (SaysHello hello)) in word_first m (SaysHello hello) deeds (words_of next deeds) refl is (words_put deeds next others)
+words_put (Says (SaysTold told) ∷ deeds) m (is, others) =
+    let next = after m (Says (SaysTold told)) in word_first m (SaysTold told) deeds (words_of next deeds) refl is (words_put deeds next others)
+words_put (Says (SaysAsk ask) ∷ deeds) m (is, others) =
+    let next = after m (Says (SaysAsk ask)) in word_first m (SaysAsk ask) deeds (words_of next deeds) refl is (words_put deeds next others)
+words_put (Says (SaysStanding standing) ∷ deeds) m (is, others) =
+    let next = after m (Says (SaysStanding standing)) in word_first m (SaysStanding standing) deeds (words_of next deeds) refl is (words_put deeds next others)
+words_put (Says (SaysReported page) ∷ deeds) m (is, others) = words_put deeds (after m (Says (SaysReported page))) others
+words_put (HandsOut number ∷ deeds) m (is, others) = handed_words m number deeds (has_number (first_offered m) number) (words_put deeds (after m (HandsOut number)) others)
+words_put (Acknowledges number ∷ deeds) m (is, others) = words_put deeds (after m (Acknowledges number)) others
+words_put (OffersAgain ∷ deeds) m (is, others) = words_put deeds (after m OffersAgain) others
 
 -- ---- what it comes to
 
@@ -230,5 +262,6 @@ said_by_model say on add order settings node epoch pages words acts deeds d has 
       reported = has.parts;
       first = first_reports on add settings node acts has.backs;
       put = pages_put deeds (no_letters (record { 0 = node }) epoch pages words) has.posted;
+      words_put = words_put deeds (no_letters (record { 0 = node }) epoch pages words) has.posted;
       kept = subst (λ (m : Letters). IsInOrder (record { 0 = node }) epoch pages words deeds m) (sym has.mail) (order (record { 0 = node }) epoch pages words deeds);
     }

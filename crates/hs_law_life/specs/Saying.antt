@@ -1,13 +1,13 @@
 -- What a node says over its life: the messages that its agent told, and the pages that it reported, by the deeds of its mail since the node was
 -- made.
-use Rattle.std.specs.Prelude.{◌≡◌, ◌⊎◌, ℕ, ◌+◌, ◌^◌, ◌<◌, length, Bool, true, List, [], ◌∷◌, ◌++◌, map, filter, filter_map, Option, Some, None, Ok, refl}
+use Rattle.std.specs.Prelude.{◌≡◌, ◌⊎◌, ℕ, ◌+◌, ◌^◌, ◌<◌, length, Bool, true, false, not, List, [], ◌∷◌, ◌++◌, map, filter, filter_map, Option, Some, None, Ok, refl}
 use Rattle.std.specs.Option.{option_to_list}
 use Rattle.std.proofs.Common.{inl}
 use Rattle.hs_base.specs.Samples.{t}
 use Rattle.hs_base.specs.declared.told.Told.{Told}
 use Rattle.hs_records.specs.Plain.{PlainSettings}
 use Rattle.hs_base.specs.declared.ids.NodeId.{NodeId}
-use Rattle.hs_wire.specs.Messages.{Said, PlainMessage, PlainReported, PlainHello, SaysHello, SaysTold, SaysAsk, SaysReported, SaysStanding, message_bytes}
+use Rattle.hs_wire.specs.Messages.{Said, PlainMessage, PlainReported, PlainHello, SaysHello, SaysTold, SaysReported, message_bytes}
 use Rattle.hs_wire.specs.Writing.{HasSpelling}
 use Rattle.hs_outbox.specs.Queue.{empty, pending_of}
 use Rattle.hs_outbox.specs.Lives.{all_put}
@@ -45,6 +45,10 @@ messages_in m (deed ∷ deeds) = map (message_of m) (option_to_list (said_by dee
 abbrev pub has_page : PlainMessage → Bool
 has_page message = is_page message.said
 
+-- it is a hello, a standing, or what the agent told
+abbrev pub has_word : PlainMessage → Bool
+has_word message = not (is_page message.said)
+
 -- the mail of a node as it is made
 abbrev pub first_mail : PlainService → ℕ → ℕ → Letters
 first_mail s node epoch = no_letters (record { 0 = node }) epoch (record { places = s.pins; bytes = s.size + PAGE_MORE }) (record { places = WORDS; bytes = WORD_BYTES })
@@ -80,13 +84,9 @@ AreReported place (part ∷ parts) pages =
 
 -- ---- what finds its place
 
--- A page, a hello or a standing that is said finds its place. Of what the agent tells no clause says so.
+-- Whatever is said finds its place: it is a post that is answered with its number.
 abbrev pub FindsPlace : Letters → Said → Type 0
-FindsPlace m (SaysHello hello) = Causes m (SaysHello hello) (Ok m.fresh)
-FindsPlace m (SaysTold told) = Unit {0}
-FindsPlace m (SaysAsk ask) = Unit {0}
-FindsPlace m (SaysReported page) = Causes m (SaysReported page) (Ok m.fresh)
-FindsPlace m (SaysStanding standing) = Causes m (SaysStanding standing) (Ok m.fresh)
+FindsPlace m said = Causes m said (Ok m.fresh)
 
 abbrev pub IsPosted : Letters → Deed → Type 0
 IsPosted m (Says said) = FindsPlace m said
@@ -123,8 +123,8 @@ pub record HasSpoken (settings : PlainSettings) (node : ℕ) (start : Letters) (
 
 -- What the model of the agent says is what was said, in order, and then the one that waits for its place. The pages of the model's reports, as far as
 -- these were offered, are, in order, the pages that were said, but for those that no place can take; all other reports still wait in the hand. Each
--- page that was said was put into its outbox. Whatever was put waits there, or was acknowledged, each of it once; and what goes out goes in the order
--- in which it was said.
+-- page that was said was put into its outbox, and so was each word, as a message that was told. Whatever was put waits there, or was acknowledged, each
+-- of it once; and what goes out goes in the order in which it was said.
 pub record IsSaid (settings : PlainSettings) (node epoch : ℕ) (pages words : Room) (acts : List Act) (deeds : List Deed) (d : PlainIntake) : Type 0 where
   pub told : (state_by settings node acts).said ≡ filter_map told_of (said_in deeds) ++ option_to_list d.unsaid
   pub reported : AreReported (record { node = record { 0 = node }; epoch = epoch; room = pages.bytes }) (parts_in (bare_run settings node) acts) (filter_map page_of (said_in deeds))
@@ -132,6 +132,8 @@ pub record IsSaid (settings : PlainSettings) (node epoch : ℕ) (pages words : R
   pub first : AreFirst (run_by settings node acts) (filter_map (λ (part : Part). part.page) (parts_in (bare_run settings node) acts))
   pub put : all_put (empty pages.places pages.bytes) (acts_of true (no_letters (record { 0 = node }) epoch pages words) deeds)
       ≡ map pending_of (filter has_page (messages_in (no_letters (record { 0 = node }) epoch pages words) deeds))
+  pub words_put : all_put (empty words.places words.bytes) (acts_of false (no_letters (record { 0 = node }) epoch pages words) deeds)
+      ≡ map pending_of (filter has_word (messages_in (no_letters (record { 0 = node }) epoch pages words) deeds))
   pub kept : IsInOrder (record { 0 = node }) epoch pages words deeds d.mail
 
 -- ---- examples

@@ -111,7 +111,7 @@ pub fn nodes_speak_on()
 {}
 
 /// What a node's agent told is what its model says, in order, and the pages that the node said are those of the model's reports, in order, as far as
-/// these were offered. Each of these pages was put into its outbox. What was put waits there until it is acknowledged, and goes out in order.
+/// these were offered. Each of these messages and pages was put into its outbox. What was put waits there until it is acknowledged, and goes out in order.
 pub fn what_is_said_is_what_the_model_says()
     ensures { (settings : PlainSettings) (node epoch : ℕ) (pages words : Room) (acts : List Act) (deeds : List Deed) (d : PlainIntake)
         → HasSpoken settings node (no_letters (record { 0 = node }) epoch pages words) acts deeds d → IsSaid settings node epoch pages words acts deeds d }
