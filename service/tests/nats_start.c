@@ -228,8 +228,8 @@ static hind_nats *started_with_pool(void) {
     snprintf(pool, sizeof pool, "%s/pool", folder);
     o.pool_file = pool;
     hind_code code = HIND_TAKEN;
-    /* a name is free again after 15 seconds */
-    for (int i = 0; i < 300 && code == HIND_TAKEN; i++) {
+    /* a name is free again after 15 seconds, and a machine that does other work may let the server wait */
+    for (int i = 0; i < 300 && (code == HIND_TAKEN || code == HIND_AWAY); i++) {
         code = hind_nats_start(&o, &nats);
         if (code) sleep_ms(100);
     }
