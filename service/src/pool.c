@@ -434,6 +434,7 @@ size_t hindlib_pool_earlier(const hindlib_pool *pool, pool_file *files, size_t m
 
 /* A note says nothing while it is written. */
 void hindlib_pool_told(hindlib_pool *pool, uint64_t number, const uint8_t *message, size_t len) {
+    if (len > POOL_NOTE - POOL_NOTE_FRONT) return; /* none is so long */
     size_t at = pool->told++ % POOL_NOTES;
     uint8_t *note = pool_note(&pool->file, at);
     pool->unkept[at] = number + 1;
