@@ -135,11 +135,14 @@ static size_t first_of(const life *l, const uint8_t *trace) {
     return from;
 }
 
-/* The pages of a trace in a file, each once, and then that nobody knows what else the life had of it. */
+/* That nobody knows what else the life had of a trace, and then its pages in the file, each once: in this order, so that no hub takes such a page for
+ * one that the life itself said it had handed out. */
 static void name_in(past *p, uint32_t at, size_t naming, const uint8_t *trace) {
     life *l = &p->lives[at];
     uint32_t pages = 0;
-    size_t i = first_of(l, trace);
+    size_t i = first_of(l, trace), standing = p->said;
+    if (i == l->count || memcmp(l->all[i].trace, trace, TRACE_BYTES)) return;
+    if (!add(p, (message){.kind = STANDING, .life = at, .at = (uint32_t)i, .naming = naming, .number = next_number(l)})) return;
     for (; i < l->count && !memcmp(l->all[i].trace, trace, TRACE_BYTES); i++) {
         shown *s = &l->all[i];
         uint32_t len = s->state == UNNAMED ? reads(p, l, s) : 0;
@@ -147,7 +150,10 @@ static void name_in(past *p, uint32_t at, size_t naming, const uint8_t *trace) {
         s->state = NAMED;
         pages++;
     }
-    if (pages) (void)add(p, (message){.kind = STANDING, .life = at, .at = (uint32_t)i - 1, .pages = pages, .naming = naming, .number = next_number(l)});
+    p->messages[standing].pages = pages;
+    if (pages) return;
+    p->said--;
+    p->namings[naming].unserved--;
 }
 
 static void name_trace(past *p, size_t naming, const uint8_t *trace) {

@@ -189,7 +189,10 @@ static int with_pool(void) {
     EXPECT(m.bytes[1], 2); /* what it claimed is told again, */
     EXPECT(hind_node_sent(node, m.number), HIND_OK);
     EXPECT(hind_node_next(node, &m), HIND_OK);
-    EXPECT(m.bytes[1], 4); /* .. and its page comes behind */
+    EXPECT(m.bytes[1], 5); /* .. and behind it that the rest is unknown, */
+    EXPECT(hind_node_sent(node, m.number), HIND_OK);
+    EXPECT(hind_node_next(node, &m), HIND_OK);
+    EXPECT(m.bytes[1], 4); /* .. and its page */
     EXPECT(hind_node_close(node), HIND_OK);
     EXPECT(live, before);
     return failed != 0;

@@ -350,9 +350,9 @@ static void acknowledged_in_any_order(void) {
     live_and_die(10, die_in_a_claimed_request);
     over->count = 0;
     hind_node *node = opened(11);
-    /* a page of the life before and its standing; then the node's own hello */
+    /* what is known of the life before, and its page; then the node's own hello */
     EXPECT(kinds_of(node, kinds, numbers), 3);
-    EXPECT(strcmp(kinds, "451"), 0);
+    EXPECT(strcmp(kinds, "541"), 0);
     EXPECT(hind_node_get_counts(node, &counts), HIND_OK);
     EXPECT(counts.salvaging, 2);
     EXPECT(counts.unacknowledged, 1);
@@ -361,13 +361,13 @@ static void acknowledged_in_any_order(void) {
     EXPECT(hind_node_acknowledged(node, numbers[0] + 7), HIND_NOTHING);
     EXPECT(hind_node_again(node), HIND_OK);
     EXPECT(kinds_of(node, again, numbers_again), 2);
-    EXPECT(strcmp(again, "41"), 0);
+    EXPECT(strcmp(again, "51"), 0);
     EXPECT(numbers_again[0], numbers[0]);
     /* where it ends here the next life hands out anew what was not acknowledged */
     EXPECT(hind_node_close(node), HIND_OK);
     node = opened(12);
     EXPECT(kinds_of(node, kinds, numbers), 3);
-    EXPECT(strcmp(kinds, "451"), 0);
+    EXPECT(strcmp(kinds, "541"), 0);
     for (int i = 0; i < 3; i++) EXPECT(hind_node_acknowledged(node, numbers[i]), HIND_OK);
     EXPECT(hind_node_close(node), HIND_OK);
     node = opened(13);
