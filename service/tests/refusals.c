@@ -104,7 +104,7 @@ static uint8_t *put(uint8_t *at, uint64_t number, int bytes) {
     return at;
 }
 
-/* The hub asks for a trace that node 3 claims: docs/FORMATS.md, "Ask". */
+/* The hub asks for a trace that node 3 claims: docs/FORMATS.md, "Messages of a service". */
 static void ask(unsigned long trace, unsigned long number) {
     uint8_t bytes[64], *at = bytes;
     hindcore_trace lead = trace_of(trace);
