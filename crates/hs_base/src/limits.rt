@@ -70,8 +70,11 @@ pub const MOST_CLIENTS: u16 = 256;
 /// The most buffers of a pool.
 pub const MOST_BUFFERS: u32 = 65_536;
 
-/// The most draws of a pool between threads in its whole life: 2^31, less twice the most buffers.
-pub const MOST_DRAWS: u32 = 2_147_352_576;
+/// The most draws of a pool between threads in its whole life: 2^40, less 1.
+pub const MOST_DRAWS: u64 = 1_099_511_627_775;
+
+/// The most draws that the drawers of a pool may make before they look at its counts again: 2^23, less 1.
+pub const MOST_AHEAD: u32 = 8_388_607;
 
 /// The most requests of a made workload. There is at least one.
 pub const MAX_REQUESTS: u32 = 10_000;

@@ -2,7 +2,7 @@
 use Rattle.std.proofs.Common.{◌≡◌, ◌≢◌, ◌⊎◌, ℕ, suc, ◌+◌, ◌*◌, ◌%◌, ◌<◌, ◌≤◌, List, [], ◌∷◌, ◌++◌, length, set, get_or, None, refl, sym, ap, ◌∙◌, subst, inl, arith, length-set, get_or-set_other}
 use Rattle.hs_ring.proofs.Prelude.{get_or-set_at, some, get_elem?, step, gives, stepped, Allows, Splits, set_here, set_else, put, put_cases, put_here, put_else, got_by, draw_is_at, Plan, Spot, in_queue, with_drawer, leased, DrawerSeat, Hand, nothing, drew, kept, View, drawing, leasing, Has, Cell, free, drawn, Facts, CellOk, HandOk, SpotOk, DeskOk, Knows, Kept, RingRule, did_collect}
 use mathlib.Core.Option as maybe
-use Rattle.hs_ring.proofs.Updates.{left_set, left_and}
+use Rattle.hs_ring.proofs.Updates.{allowed_set, allowed_and}
 use Rattle.hs_ring.proofs.Spots.{still_with, with_more, with_last, spot_stays}
 use Rattle.hs_ring.proofs.Stays.{Moves, hand_stays, palm_stays, queued_stays, cell_stays, facts_after, post_stays, knows_stays}
 use Rattle.hs_ring.proofs.Counting.{entry_below, reseated, seated_too}
@@ -52,7 +52,7 @@ module _ (plan : Plan) (s : St) (f : Facts) (k : Kept plan s f) (id : ℕ) (desk
   w = drawing desk (kept b t)
 
   collect_desk : DeskOk plan after_collect id desk (kept b t)
-  collect_desk = record { size = own.size; active = own.active; seat = own.seat; hand_is = put_here f.hands d (kept b t); answers = own.answers; floor = own.floor }
+  collect_desk = record { size = own.size; active = own.active; seat = own.seat; hand_is = put_here f.hands d (kept b t); within = own.within; answers = own.answers; floor = own.floor }
 
   collect_hands : (d' : ℕ) → HandOk n f.log cells' f.spots d' (hands' d')
   collect_hands d' =
@@ -106,7 +106,7 @@ module _ (plan : Plan) (s : St) (f : Facts) (k : Kept plan s f) (id : ℕ) (desk
             spot_stays n f.cells cells' f.seats f.giver s.views (set s.views id w) buffer
             (λ number is. queued_stays n f.log [] f.cells cells' f.spots f.spots f.hands hands' (suc d) (in_queue 0) (drawn h b d) collect_moves (λ number buffer e. cc) _ _ buffer is)
             (still_with s.views id (drawing desk (drew h b t)) w at (Has buffer) (λ had. had)) (f.spots buffer) (k.each_spot buffer low);
-        left = (let e = left_set s.views id (drawing desk (drew h b t)) w at in let l = k.left in omega arith);
+        allowed = allowed_set plan f.log s.views id (drawing desk (drew h b t)) w at refl refl k.allowed;
         by_giver = k.by_giver;
         all_made = k.all_made;
         still_open = k.still_open;
@@ -161,7 +161,7 @@ module _ (plan : Plan) (s : St) (f : Facts) (k : Kept plan s f) (id : ℕ) (desk
       }
 
   lease_desk : DeskOk plan after_lease id desk nothing
-  lease_desk = record { size = own₁.size; active = own₁.active; seat = own₁.seat; hand_is = put_here f.hands d₁ nothing; answers = own₁.answers; floor = own₁.floor }
+  lease_desk = record { size = own₁.size; active = own₁.active; seat = own₁.seat; hand_is = put_here f.hands d₁ nothing; within = own₁.within; answers = own₁.answers; floor = own₁.floor }
 
   lease_hands : (d' : ℕ) → HandOk plan.buffers f.log f.cells spots' d' (hands₁ d')
   lease_hands d' =
@@ -213,7 +213,7 @@ module _ (plan : Plan) (s : St) (f : Facts) (k : Kept plan s f) (id : ℕ) (desk
         each_hand = lease_hands;
         in_palm = palm_stays plan.buffers f.log [] f.cells f.cells f.spots spots' f.hands hands₁ (suc d₁) (with_drawer d₁) free lease_moves refl (λ e. cc) (λ number e. cc) f.palm k.in_palm;
         each_spot = lease_spots;
-        left = (let e = left_set s.views id (drawing desk (kept b t)) (drawing desk nothing) at in let a = left_and (set s.views id (drawing desk nothing)) (leasing b t) in let l = k.left in omega arith);
+        allowed = allowed_and plan f.log (set s.views id (drawing desk nothing)) (leasing b t) refl refl (allowed_set plan f.log s.views id (drawing desk (kept b t)) (drawing desk nothing) at refl refl k.allowed);
         by_giver = k.by_giver;
         all_made = k.all_made;
         still_open = k.still_open;

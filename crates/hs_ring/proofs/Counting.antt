@@ -1,10 +1,11 @@
 -- What the rule says of the counts, and of the words and slots that a step changes.
-use Rattle.std.proofs.Common.{◌≡◌, ◌≢◌, ℕ, zero, suc, ◌+◌, ◌-◌, ◌*◌, ◌/◌, ◌%◌, ◌<◌, ◌≤◌, List, [], ◌∷◌, ◌++◌, length, drop, set, get_or, Some, refl, sym, ap, ◌∙◌, subst, ⊎_elim, mod-eq_of_lt, mod-lt, arith}
-use Rattle.hs_ring.proofs.Prelude.{some, some-injective, some-ne-none, get_elem?, Option, slice_get, count_by, State, Me, Act, stepped, at_set, elem_push_cases, PUBLISHED, MOST_BUFFERS, MOST_DRAWS, Contents, is_missed, is_empty, events_of, drawn_in, given_in, is_any_got, is_any_given, queue_of, drawn_kinds, given_kinds, Plan, View, Facts, published, Knows, Kept, RingRule, drawn_of, published_of}
+use Rattle.std.proofs.Common.{◌≡◌, ◌≢◌, ℕ, zero, suc, ◌+◌, ◌-◌, ◌*◌, ◌%◌, ◌<◌, ◌≤◌, List, [], ◌∷◌, ◌++◌, length, drop, set, get_or, Some, refl, sym, ap, ◌∙◌, subst, ⊎_elim, mod-eq_of_lt, mod-lt, arith}
+use Rattle.hs_ring.proofs.Prelude.{some, some-injective, some-ne-none, get_elem?, Option, slice_get, count_by, State, Me, Act, stepped, at_set, elem_push_cases, DRAWN, ONE_DRAW, ONE_GIVE, MOST_AHEAD, MOST_BUFFERS, MOST_DRAWS, Contents, is_missed, is_empty, events_of, drawn_in, given_in, is_any_got, is_any_given, queue_of, drawn_kinds, given_kinds, Plan, View, Facts, published, Knows, Kept, RingRule, left_in, packed, drawn_of, published_of}
 use Rattle.atomic_table.specs.Table.{Valid, carried_after}
 use Rattle.hs_words.proofs.Deeds.{stamp_is}
 use Rattle.hs_words.proofs.Waiting.{few, waiting_length}
 use Rattle.hs_ring.specs.Steps.{IsStamp}
+use Rattle.hs_ring.proofs.Updates.{left_low}
 
 -- ---- lists
 
@@ -28,18 +29,29 @@ front_got (y ∷ ys) x at = ap (λ (z : ℕ). Some z) (some-injective y x at)
 
 -- ---- the word of the counts
 
-pub drawn_packed : (p d : ℕ) → d < PUBLISHED → (p * PUBLISHED + d) % PUBLISHED ≡ d
-drawn_packed p d less = omega arith
+-- the lead is within its part of the word
+pub record IsLead (p d : ℕ) : Type 0 where
+  pub lap : p ≤ d + MOST_BUFFERS
+  pub ahead : d ≤ p + MOST_AHEAD
 
-pub published_packed : (p d : ℕ) → d < PUBLISHED → (p * PUBLISHED + d) / PUBLISHED ≡ p
-published_packed p d less = omega arith
+pub drawn_packed : (p d : ℕ) → IsLead p d → drawn_of (packed p d) ≡ d
+drawn_packed p d lead = omega (arith, lead.lap, lead.ahead)
 
-pub one_drawn : (p d word : ℕ) → p < 2147483648 → d < 2147483648 → word ≡ p * PUBLISHED + d → (word + 1) % 18446744073709551616 ≡ p * PUBLISHED + suc d
-one_drawn p d word small less is = let below : word + 1 < 18446744073709551616 = omega arith in mod-eq_of_lt below ∙ (let e : word + 1 ≡ p * PUBLISHED + suc d = omega arith in e)
+pub published_packed : (p d : ℕ) → IsLead p d → published_of (packed p d) ≡ p
+published_packed p d lead =
+    let first : drawn_of (packed p d) ≡ d = drawn_packed p d lead in
+    let second : packed p d % DRAWN ≡ (p + 8388608) - d = omega (arith, lead.lap, lead.ahead) in
+    omega (arith, lead.ahead)
 
-pub one_published : (p d word : ℕ) → p < 2147483648 → d < 2147483648 → word ≡ p * PUBLISHED + d → (word + PUBLISHED) % 18446744073709551616 ≡ suc p * PUBLISHED + d
-one_published p d word small less is =
-    let below : word + PUBLISHED < 18446744073709551616 = omega arith in mod-eq_of_lt below ∙ (let e : word + PUBLISHED ≡ suc p * PUBLISHED + d = omega arith in e)
+pub one_drawn : (p d word : ℕ) → IsLead p d → suc d ≤ MOST_DRAWS → suc d ≤ p + MOST_AHEAD → word ≡ packed p d → (word + ONE_DRAW) % 18446744073709551616 ≡ packed p (suc d)
+one_drawn p d word lead few more is =
+    let below : word + ONE_DRAW < 18446744073709551616 = omega (arith, lead.lap, lead.ahead) in
+    mod-eq_of_lt below ∙ (let e : word + ONE_DRAW ≡ packed p (suc d) = omega (arith, lead.ahead) in e)
+
+pub one_published : (p d word : ℕ) → IsLead p d → d ≤ MOST_DRAWS → word ≡ packed p d → (word + ONE_GIVE) % 18446744073709551616 ≡ packed (suc p) d
+one_published p d word lead few is =
+    let below : word + ONE_GIVE < 18446744073709551616 = omega (arith, lead.lap, lead.ahead) in
+    mod-eq_of_lt below ∙ (let e : word + ONE_GIVE ≡ packed (suc p) d = omega (arith, lead.ahead) in e)
 
 -- ---- the counts of a state
 
@@ -63,26 +75,29 @@ module _ (plan : Plan) (s : State (Option Contents) View) (f : Facts) (k : Kept 
   lap = let l = line in let most = few n (events_of f.log) k.lawful in omega arith
 
   pub few_drawn : drawn_in f.log ≤ MOST_DRAWS
-  few_drawn = let most = k.left in let total = k.within.draws in omega arith
+  few_drawn = omega (arith, k.allowed.life)
 
-  pub few_published : published n f.log ≤ MOST_BUFFERS + MOST_DRAWS
-  few_published = let l = lap in let d = few_drawn in let most = k.within.few in omega arith
+  pub lead : IsLead (published n f.log) (drawn_in f.log)
+  lead = record { lap = omega (arith, lap, k.within.few); ahead = omega (arith, k.allowed.ahead) }
 
   pub found_drawn : drawn_of (get_or s.words 0 0) ≡ drawn_in f.log
-  found_drawn = ap drawn_of k.counts ∙ drawn_packed (published n f.log) (drawn_in f.log) (let d = few_drawn in omega arith)
+  found_drawn = ap drawn_of k.counts ∙ drawn_packed (published n f.log) (drawn_in f.log) lead
 
   pub found_published : published_of (get_or s.words 0 0) ≡ published n f.log
-  found_published = ap published_of k.counts ∙ published_packed (published n f.log) (drawn_in f.log) (let d = few_drawn in omega arith)
+  found_published = ap published_of k.counts ∙ published_packed (published n f.log) (drawn_in f.log) lead
 
   -- the number of deeds is the stamp that the counts make
   pub found_stamp : (entries : ℕ) → entries ≡ 2 * n → IsStamp entries (get_or s.words 0 0) (length f.log)
   found_stamp entries is = let d = found_drawn in let p = found_published in let both = stamp_is f.log in omega arith
 
-  pub one_more_drawn : (get_or s.words 0 0 + 1) % 18446744073709551616 ≡ published n f.log * PUBLISHED + suc (drawn_in f.log)
-  one_more_drawn = one_drawn (published n f.log) (drawn_in f.log) (get_or s.words 0 0) (let p = few_published in omega arith) (let d = few_drawn in omega arith) k.counts
+  -- a seat that may draw
+  pub one_more_drawn : (id : ℕ) (v : View) → get_elem? s.views id ≡ some v → 1 ≤ left_in v → (get_or s.words 0 0 + ONE_DRAW) % 18446744073709551616 ≡ packed (published n f.log) (suc (drawn_in f.log))
+  one_more_drawn id v at some_left =
+      let low = left_low s.views id v at in
+      one_drawn (published n f.log) (drawn_in f.log) (get_or s.words 0 0) lead (omega (arith, k.allowed.life)) (omega (arith, k.allowed.ahead)) k.counts
 
-  pub one_more_published : (get_or s.words 0 0 + PUBLISHED) % 18446744073709551616 ≡ suc (published n f.log) * PUBLISHED + drawn_in f.log
-  one_more_published = one_published (published n f.log) (drawn_in f.log) (get_or s.words 0 0) (let p = few_published in omega arith) (let d = few_drawn in omega arith) k.counts
+  pub one_more_published : (get_or s.words 0 0 + ONE_GIVE) % 18446744073709551616 ≡ packed (suc (published n f.log)) (drawn_in f.log)
+  one_more_published = one_published (published n f.log) (drawn_in f.log) (get_or s.words 0 0) lead few_drawn k.counts
 
   pub entry_below : (number : ℕ) → number % (2 * n) < 2 * n
   entry_below number = mod-lt number (let one = k.within.some_there in omega arith)

@@ -1,13 +1,13 @@
 -- A draw keeps the rule: a number is drawn, its chunk is collected, and a lease is made of it.
 use Rattle.std.proofs.Common.{◌≡◌, ◌≢◌, ◌⊎◌, ℕ, suc, ◌+◌, ◌*◌, ◌%◌, ◌<◌, ◌≤◌, List, [], ◌∷◌, length, set, get_or, Some, refl, sym, ap, ap₂, ◌∙◌, subst, inl, inr, le_refl, arith, add-zero, length-set, get_or-set_other, get_or-set_same}
-use Rattle.hs_ring.proofs.Prelude.{some, dite, ℕ_discrete, dec_le, get_elem?, Option, nil_from_length, State, Me, step, Act, keeps, takes, stepped, Allows, set_here, set_else, count_cons, PUBLISHED, put, put_cases, put_here, put_else, Contents, clear_chunk, is_missed, is_empty, Deed, Answer, got_by, events_of, drawn_in, given_in, answer_to, queue_of, answers_and, Plan, AtSeat, Spot, in_queue, with_drawer, DrawerSeat, Hand, nothing, drew, View, drawing, InHand, Has, Cell, free, waits, drawn, Facts, published, IsLaid, CellOk, IsLastOf, HandOk, SpotOk, DeskOk, Knows, Kept, RingRule, drawn_of, did_draw}
+use Rattle.hs_ring.proofs.Prelude.{some, dite, ℕ_discrete, dec_le, get_elem?, Option, nil_from_length, State, Me, step, Act, keeps, takes, stepped, Allows, set_here, set_else, count_cons, ONE_DRAW, put, put_cases, put_here, put_else, Contents, clear_chunk, is_missed, is_empty, Deed, Answer, got_by, events_of, drawn_in, given_in, answer_to, queue_of, answers_and, Plan, AtSeat, Spot, in_queue, with_drawer, DrawerSeat, Hand, nothing, drew, View, drawing, InHand, Has, Cell, free, waits, drawn, Facts, published, IsLaid, CellOk, IsLastOf, HandOk, SpotOk, DeskOk, Knows, Kept, RingRule, packed, drawn_of, did_draw}
 use mathlib.Core.Option as maybe
 use Rattle.hs_words.specs.PoolHistory.{Got, Empty}
 use Rattle.hs_words.specs.Ends.{empty_by}
 use Rattle.hs_words.proofs.Deeds.{none_yet}
 use Rattle.hs_words.proofs.Waiting.{waiting_below}
 use Rattle.hs_ring.specs.Views.{drawer_seat_after}
-use Rattle.hs_ring.proofs.Updates.{ap₃, left_set}
+use Rattle.hs_ring.proofs.Updates.{ap₃, left_set, most_set}
 use Rattle.hs_ring.proofs.Spots.{now_with, still_with, spot_stays}
 use Rattle.hs_ring.proofs.Stays.{Moves, answers_stay, hand_stays, palm_stays, cell_stays, facts_after, post_stays, knows_stays}
 use Rattle.hs_ring.proofs.Counting.{at_length, first_there, at_rest, front_got, line, lap, found_drawn, found_published, found_stamp, one_more_drawn, entry_below, reseated}
@@ -37,7 +37,7 @@ module _ (plan : Plan) (s : St) (f : Facts) (k : Kept plan s f) (id : ℕ) (desk
   another j other d' is e = let same : d' ≡ d = omega arith in other (sym is ∙ ap f.seats same ∙ mine.seat)
 
   -- ---- an empty draw
-  module _ (idle : hand ≡ nothing) (some_left : 1 ≤ desk.left) (void : published n f.log ≤ drawn_in f.log) (x : ℕ) (x_is : x ≡ published n f.log * PUBLISHED + suc (drawn_in f.log)) (held : Held) where
+  module _ (idle : hand ≡ nothing) (some_left : 1 ≤ desk.left) (void : published n f.log ≤ drawn_in f.log) (x : ℕ) (x_is : x ≡ packed (published n f.log) (suc (drawn_in f.log))) (held : Held) where
     abbrev deed : Deed
     deed = empty_by (suc d)
 
@@ -68,6 +68,7 @@ module _ (plan : Plan) (s : St) (f : Facts) (k : Kept plan s f) (id : ℕ) (desk
           active = mine.active;
           seat = mine.seat;
           hand_is = mine.hand_is ∙ idle;
+          within = omega (arith, mine.within);
           answers = ap (λ (l : List Answer). answer_to deed (length f.log) ∷ l) mine.answers ∙ sym (answers_and deed f.log (suc d) refl);
           floor = le_refl (suc (length f.log));
         }
@@ -90,7 +91,7 @@ module _ (plan : Plan) (s : St) (f : Facts) (k : Kept plan s f) (id : ℕ) (desk
           within = k.within;
           homes = k.homes;
           words = length-set s.words 0 x ∙ k.words;
-          counts = get_or-set_same s.words 0 x 0 (let e = k.words in omega arith) ∙ x_is ∙ (let e : published n f.log * PUBLISHED + suc (drawn_in f.log) ≡ (n + (0 + given_in f.log)) * PUBLISHED + (1 + drawn_in f.log) = omega arith in e);
+          counts = get_or-set_same s.words 0 x 0 (let e = k.words in omega arith) ∙ x_is ∙ (let e : packed (published n f.log) (suc (drawn_in f.log)) ≡ packed (n + (0 + given_in f.log)) (1 + drawn_in f.log) = omega arith in e);
           lawful = (k.lawful, nothing_waits);
           spent = (tt, k.spent);
           voids = (let a = count_cons is_missed Empty (events_of f.log) in let b = count_cons is_empty Empty (events_of f.log) in let v = k.voids in omega arith);
@@ -109,7 +110,10 @@ module _ (plan : Plan) (s : St) (f : Facts) (k : Kept plan s f) (id : ℕ) (desk
           each_spot = λ buffer low.
               spot_stays n f.cells f.cells f.seats f.giver s.views (set s.views id w) buffer (λ number is. is) (still_with s.views id (drawing desk hand) w at (Has buffer) (λ had. subst (InHand buffer) idle had))
               (f.spots buffer) (k.each_spot buffer low);
-          left = (let e = left_set s.views id (drawing desk hand) w at in let l = k.left in omega arith);
+          allowed =
+              (let l = left_set s.views id (drawing desk hand) w at in
+              let m = most_set s.views id (drawing desk hand) w at in
+              record { ahead = omega (arith, k.allowed.ahead); life = omega (arith, k.allowed.life); most = omega (arith, k.allowed.most) });
           by_giver = ap length (answers_stay n f.log (deed ∷ []) f.cells f.cells f.spots f.spots f.hands f.hands (suc d) (in_queue 0) free empty_moves 0 (λ e. omega arith)) ∙ (let e = k.by_giver in omega arith);
           all_made = ((let a = mine.active in let b = k.still_open in omega arith), k.all_made);
           still_open = k.still_open;
@@ -118,7 +122,7 @@ module _ (plan : Plan) (s : St) (f : Facts) (k : Kept plan s f) (id : ℕ) (desk
         }
 
   -- ---- a draw that gets a buffer
-  module _ (idle : hand ≡ nothing) (some_left : 1 ≤ desk.left) (ready : drawn_in f.log < published n f.log) (x : ℕ) (x_is : x ≡ published n f.log * PUBLISHED + suc (drawn_in f.log)) (held : Held)
+  module _ (idle : hand ≡ nothing) (some_left : 1 ≤ desk.left) (ready : drawn_in f.log < published n f.log) (x : ℕ) (x_is : x ≡ packed (published n f.log) (suc (drawn_in f.log))) (held : Held)
       (b : ℕ) (front : get_elem? (queue_of n f.log) 0 ≡ some b) where
     abbrev number : ℕ
     number = drawn_in f.log
@@ -182,6 +186,7 @@ module _ (plan : Plan) (s : St) (f : Facts) (k : Kept plan s f) (id : ℕ) (desk
           active = mine.active;
           seat = mine.seat;
           hand_is = put_here f.hands d (drew number b stamp);
+          within = omega (arith, mine.within);
           answers = ap (λ (l : List Answer). answer_to got stamp ∷ l) mine.answers ∙ sym (answers_and got f.log (suc d) refl);
           floor = le_refl (suc stamp);
         }
@@ -257,7 +262,7 @@ module _ (plan : Plan) (s : St) (f : Facts) (k : Kept plan s f) (id : ℕ) (desk
           within = k.within;
           homes = length-set s.homes e₀ maybe.none ∙ k.homes;
           words = length-set s.words 0 x ∙ k.words;
-          counts = get_or-set_same s.words 0 x 0 (let e = k.words in omega arith) ∙ x_is ∙ (let e : published n f.log * PUBLISHED + suc (drawn_in f.log) ≡ (n + (0 + given_in f.log)) * PUBLISHED + (1 + drawn_in f.log) = omega arith in e);
+          counts = get_or-set_same s.words 0 x 0 (let e = k.words in omega arith) ∙ x_is ∙ (let e : packed (published n f.log) (suc (drawn_in f.log)) ≡ packed (n + (0 + given_in f.log)) (1 + drawn_in f.log) = omega arith in e);
           lawful = (k.lawful, front_got (queue_of n f.log) b front);
           spent = (tt, k.spent);
           voids = (let a = count_cons is_missed (Got b) (events_of f.log) in let c = count_cons is_empty (Got b) (events_of f.log) in let v = k.voids in omega arith);
@@ -267,7 +272,10 @@ module _ (plan : Plan) (s : St) (f : Facts) (k : Kept plan s f) (id : ℕ) (desk
           each_hand = got_hands;
           in_palm = palm_stays n f.log (got ∷ []) f.cells cells' f.spots spots' f.hands hands' (suc d) (in_queue number) (waits number b) got_moves (omega arith) (λ e. cc) (λ number e. cc) f.palm k.in_palm;
           each_spot = got_spots;
-          left = (let e = left_set s.views id (drawing desk hand) got_view at in let l = k.left in omega arith);
+          allowed =
+              (let l = left_set s.views id (drawing desk hand) got_view at in
+              let m = most_set s.views id (drawing desk hand) got_view at in
+              record { ahead = omega (arith, k.allowed.ahead); life = omega (arith, k.allowed.life); most = omega (arith, k.allowed.most) });
           by_giver = ap length (answers_stay n f.log (got ∷ []) f.cells cells' f.spots spots' f.hands hands' (suc d) (in_queue number) (waits number b) got_moves 0 (λ e. omega arith)) ∙ (let e = k.by_giver in omega arith);
           all_made = ((let a = mine.active in let b = k.still_open in omega arith), k.all_made);
           still_open = k.still_open;
@@ -277,7 +285,7 @@ module _ (plan : Plan) (s : St) (f : Facts) (k : Kept plan s f) (id : ℕ) (desk
 
 -- the step, whatever it finds
 pub draws : (plan : Plan) (slots id : ℕ) (desk : DrawerSeat) (held : Held) → 1 ≤ desk.left
-    → Allows (RingRule plan) slots id (drawing desk nothing, held) 0 (λ word. (word + 1) % 18446744073709551616) (did_draw (step slots 0 1 0 maybe.none) (drawing desk nothing, held))
+    → Allows (RingRule plan) slots id (drawing desk nothing, held) 0 (λ word. (word + ONE_DRAW) % 18446744073709551616) (did_draw (step slots 0 ONE_DRAW 0 maybe.none) (drawing desk nothing, held))
 draws plan slots id desk held some_left s (f, k) wide at small =
     let n = plan.buffers in
     let ok = k.each_seat id (drawing desk nothing) at in
@@ -285,14 +293,14 @@ draws plan slots id desk held some_left s (f, k) wide at small =
     let D = found_drawn plan s f k in
     let P = found_published plan s f k in
     let stamp = found_stamp plan s f k slots size in
-    let more = one_more_drawn plan s f k in
+    let more = one_more_drawn plan s f k id (drawing desk nothing) at some_left in
     let word = get_or s.words 0 0 in
     dite (dec_le (published n f.log) (drawn_in f.log))
     (λ none. (
       drawing (drawer_seat_after desk (length f.log) Empty) nothing,
       keeps,
       tt,
-      (facts_after f (empty_by (suc desk.number) ∷ []) f.cells f.spots f.hands f.palm, empty_kept plan s f k id desk nothing at refl some_left none ((word + 1) % 18446744073709551616) more held),
+      (facts_after f (empty_by (suc desk.number) ∷ []) f.cells f.spots f.hands f.palm, empty_kept plan s f k id desk nothing at refl some_left none ((word + ONE_DRAW) % 18446744073709551616) more held),
       (length f.log, stamp, ok.floor, (λ less. absurd (omega arith)), (λ _. refl)),
     ))
     (λ some_wait.
@@ -302,8 +310,8 @@ draws plan slots id desk held some_left s (f, k) wide at small =
     let entry : drawn_in f.log % (2 * n) ≡ drawn_of word % slots = ap₂ (λ (h : ℕ) (m : ℕ). h % m) (sym D) (sym size) in (
       drawing (drawer_seat_after desk (length f.log) (Got b)) (drew (drawn_in f.log) b (length f.log)),
       takes (drawn_in f.log % (2 * n)) (Some (clear_chunk plan.size b)),
-      full plan s f k id desk nothing at refl some_left ready ((word + 1) % 18446744073709551616) more held b first.1,
-      (_, got_kept plan s f k id desk nothing at refl some_left ready ((word + 1) % 18446744073709551616) more held b first.1),
+      full plan s f k id desk nothing at refl some_left ready ((word + ONE_DRAW) % 18446744073709551616) more held b first.1,
+      (_, got_kept plan s f k id desk nothing at refl some_left ready ((word + ONE_DRAW) % 18446744073709551616) more held b first.1),
       (
         length f.log,
         stamp,

@@ -5,7 +5,7 @@ use mathlib.Core.Option as maybe
 use Rattle.atomic_table.proofs.Lists.{exchanged, one_turn}
 use Rattle.hs_words.specs.Ends.{unread, SpendsThe, IsUnread}
 use Rattle.hs_words.proofs.Deeds.{unspent}
-use Rattle.hs_ring.proofs.Updates.{left_set}
+use Rattle.hs_ring.proofs.Updates.{allowed_set}
 use Rattle.hs_ring.proofs.Spots.{still_with, spot_stays}
 use Rattle.hs_ring.proofs.Stays.{Moves, is_last, hand_stays, queued_stays, cell_stays, facts_after, knows_stays}
 use Rattle.hs_ring.proofs.Counting.{lap, entry_below, reseated, Goes}
@@ -119,7 +119,7 @@ module _ (plan : Plan) (s : St) (f : Facts) (k : Kept plan s f) (id : ℕ) (post
               spot_stays n f.cells cells' f.seats f.giver s.views (set s.views id w) buffer
               (λ number is. queued_stays n f.log [] f.cells cells' f.spots f.spots f.hands f.hands 0 (in_queue 0) free lay_moves (λ number buffer e. cc) _ _ buffer is)
               (still_with s.views id (giving post (holds b t)) w at (Has buffer) (λ had. had)) (f.spots buffer) (k.each_spot buffer low);
-          left = (let e = left_set s.views id (giving post (holds b t)) w at in let l = k.left in omega arith);
+          allowed = allowed_set plan f.log s.views id (giving post (holds b t)) w at refl refl k.allowed;
           by_giver = k.by_giver;
           all_made = k.all_made;
           still_open = k.still_open;
@@ -201,7 +201,7 @@ module _ (plan : Plan) (s : St) (f : Facts) (k : Kept plan s f) (id : ℕ) (post
         in_palm = k.in_palm;
         each_spot = λ buffer low.
             spot_stays n f.cells f.cells f.seats f.giver s.views (set s.views id w₂) buffer (λ number is. is) (still_with s.views id (giving post (holds b t)) w₂ at (Has buffer) (λ had. had)) (f.spots buffer) (k.each_spot buffer low);
-        left = (let e = left_set s.views id (giving post (holds b t)) w₂ at in let l = k.left in omega arith);
+        allowed = allowed_set plan f.log s.views id (giving post (holds b t)) w₂ at refl refl k.allowed;
         by_giver = k.by_giver;
         all_made = k.all_made;
         still_open = k.still_open;

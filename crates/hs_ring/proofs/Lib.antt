@@ -12,6 +12,7 @@ pub mod Publishes
 pub mod Meets
 pub mod Places
 pub mod Life
+pub mod Refills
 pub mod Owed
 pub mod Givers
 pub mod Drawers

@@ -1,15 +1,14 @@
 -- How a ring begins and ends: its table at the start, the making and the closing of drawers, and the last look.
 use Rattle.std.proofs.Common.{◌≡◌, ◌≢◌, ℕ, zero, suc, ◌+◌, ◌-◌, ◌*◌, ◌%◌, ◌<◌, ◌≤◌, List, [], ◌∷◌, ◌++◌, length, map, set, get_or, Some, None, refl, sym, ap, ap₂, ◌∙◌, subst, ⊎_elim, mod-eq_of_lt, zero-le, arith, length-set}
-use Rattle.hs_ring.proofs.Prelude.{set-get_or, some, some-injective, some-ne-none, dec_le, get_elem?, length-map, Option, range_with_len, step, keeps, opening, Allows, Splits, Joins, at_set, set_else, PUBLISHED, put, put_here, put_else, Contents, clear_chunk, Deed, Answer, all_of, Plan, Within, in_queue, DrawerSeat, nothing, GiverSeat, Palm, bare, View, nobody, drawing, leasing, giving, drawer_note, giver_note, new_drawer, having_closed, Has, Cell, free, waits, Facts, CellOk, DeskOk, PostOk, Knows, Kept, RingRule, first_view, did_look, Over}
+use Rattle.hs_ring.proofs.Prelude.{set-get_or, some, some-injective, some-ne-none, dec_le, get_elem?, length-map, Option, range_with_len, step, keeps, opening, Allows, Splits, Joins, at_set, set_else, LEVEL, packed, put, put_here, put_else, Contents, clear_chunk, Deed, Answer, all_of, Plan, Within, in_queue, DrawerSeat, nothing, GiverSeat, Palm, bare, View, nobody, drawing, leasing, giving, drawer_note, giver_note, new_drawer, having_closed, Has, Cell, free, waits, Facts, CellOk, DeskOk, PostOk, Knows, Kept, RingRule, first_view, did_look, Over}
 use mathlib.Core.Option as maybe
 use Rattle.atomic_table.proofs.Lists.{at_map}
 use Rattle.hs_words.specs.Ends.{AreAnswers}
 use Rattle.hs_words.proofs.Deeds.{no_answers}
-use Rattle.hs_words.specs.Plans.{total}
 use Rattle.hs_words.proofs.Plans.{total_parts}
 use Rattle.hs_ring.specs.Views.{with_drawer}
 use Rattle.hs_ring.specs.Rule.{first_giver_seat}
-use Rattle.hs_ring.proofs.Updates.{left_set, left_and}
+use Rattle.hs_ring.proofs.Updates.{left_set, most_set, left_and, most_and, allowed_set, allowed_less}
 use Rattle.hs_ring.proofs.Counting.{found_drawn, found_published, reseated, seated_too}
 use Rattle.hs_ring.proofs.Spots.{still_with, with_more, spot_stays}
 use Rattle.hs_ring.proofs.Draws.{St, Held}
@@ -44,6 +43,7 @@ module _ (plan : Plan) (s : St) (f : Facts) (k : Kept plan s f) (id : ℕ) (post
         active = (let a = known.active in omega arith);
         seat = put_else f.seats f.made (length s.views) desk.number (λ same. let a = known.active in let o = k.still_open in omega arith) ∙ known.seat;
         hand_is = known.hand_is;
+        within = known.within;
         answers = known.answers;
         floor = known.floor;
       }
@@ -75,6 +75,7 @@ module _ (plan : Plan) (s : St) (f : Facts) (k : Kept plan s f) (id : ℕ) (post
         active = (let a = all_open in let m = own.made in omega arith);
         seat = ap seats' own.made ∙ put_here f.seats f.made (length s.views) ∙ sym (length-set s.views id w);
         hand_is = k.unmade post.made (let m = own.made in omega arith);
+        within = omega arith;
         answers = sym (no_answers f.log f.made (suc post.made) (let m = own.made in omega arith) k.all_made);
         floor = zero-le;
       }
@@ -97,7 +98,13 @@ module _ (plan : Plan) (s : St) (f : Facts) (k : Kept plan s f) (id : ℕ) (post
         each_spot = λ buffer low.
             spot_reseated plan s f k buffer seats' (set s.views id w ++ new ∷ []) (λ drawer low. put_else f.seats f.made (length s.views) drawer (λ same. let o = k.still_open in omega arith))
             (λ j had. with_more (set s.views id w) new (Has buffer) j (still_with s.views id (giving post palm) w at (Has buffer) (λ in_palm. in_palm) j had)) low;
-        left = (let e = left_set s.views id (giving post palm) w at in let a = left_and (set s.views id w) new in let t = total_parts post.spare in let l = k.left in omega arith);
+        allowed =
+            (let l = left_set s.views id (giving post palm) w at in
+            let m = most_set s.views id (giving post palm) w at in
+            let l' = left_and (set s.views id w) new in
+            let m' = most_and (set s.views id w) new in
+            let t = total_parts post.spare in
+            record { ahead = omega (arith, k.allowed.ahead); life = omega (arith, k.allowed.life); most = omega (arith, k.allowed.most) });
         by_giver = k.by_giver;
         all_made = all_of f.log (λ (d : Deed) (le : d.by ≤ f.made). omega arith) k.all_made;
         still_open = (let o = k.still_open in omega arith);
@@ -139,6 +146,7 @@ module _ (plan : Plan) (s : St) (f : Facts) (k : Kept plan s f) (id : ℕ) (post
             omega arith);
         seat = known.seat;
         hand_is = known.hand_is;
+        within = known.within;
         answers = known.answers;
         floor = known.floor;
       }
@@ -182,7 +190,7 @@ module _ (plan : Plan) (s : St) (f : Facts) (k : Kept plan s f) (id : ℕ) (post
             spot_stays plan.buffers f.cells f.cells f.seats f.giver s.views (set (set s.views id w₁) other nobody) buffer (λ number is. is)
             (λ j had. still_with (set s.views id w₁) other (drawing desk nothing) nobody desk_at (Has buffer) (λ none. none) j (still_with s.views id (giving post palm) w₁ at (Has buffer) (λ in_palm. in_palm) j had))
             (f.spots buffer) (k.each_spot buffer low);
-        left = (let e = left_set s.views id (giving post palm) w₁ at in let e' = left_set (set s.views id w₁) other (drawing desk nothing) nobody desk_at in let l = k.left in omega arith);
+        allowed = allowed_less plan f.log (set s.views id w₁) other (drawing desk nothing) nobody desk_at zero-le zero-le (allowed_set plan f.log s.views id (giving post palm) w₁ at refl refl k.allowed);
         by_giver = k.by_giver;
         all_made = k.all_made;
         still_open = (let o = k.still_open in let l = last_open in omega arith);
@@ -249,7 +257,7 @@ looks plan slots id post palm held s (f, k) wide at small =
               in_palm = k.in_palm;
               each_spot = λ buffer low.
                   spot_stays plan.buffers f.cells f.cells f.seats f.giver s.views (set s.views id w) buffer (λ number is. is) (still_with s.views id w w at (Has buffer) (λ in_palm. in_palm)) (f.spots buffer) (k.each_spot buffer low);
-              left = (let e = left_set s.views id w w at in let l = k.left in omega arith);
+              allowed = allowed_set plan f.log s.views id w w at refl refl k.allowed;
               by_giver = k.by_giver;
               all_made = k.all_made;
               still_open = k.still_open;
@@ -284,7 +292,7 @@ start_waits n e (no _) low = refl
 pub record IsLaidOut (plan : Plan) (ws : List ℕ) (xs : List (Option Contents)) : Type 0 where
   pub words : length ws ≡ suc (2 * plan.buffers)
   pub slots : length xs ≡ 2 * plan.buffers
-  pub counts : get_or ws 0 0 ≡ plan.buffers * PUBLISHED
+  pub counts : get_or ws 0 0 ≡ plan.buffers + LEVEL
   pub numbers : (e : ℕ) → e < plan.buffers → get_or ws (suc e) 0 ≡ suc e
   pub zeros : (e : ℕ) → plan.buffers ≤ e → e < 2 * plan.buffers → get_or ws (suc e) 0 ≡ 0
   pub chunks : (e : ℕ) → e < plan.buffers → get_elem? xs e ≡ some (Some (clear_chunk plan.size e))
@@ -339,7 +347,7 @@ module _ (plan : Plan) (ws : List ℕ) (xs : List (Option Contents)) (within : W
         within = within;
         homes = length-map xs some ∙ out.slots;
         words = out.words;
-        counts = out.counts ∙ (let e : n * PUBLISHED ≡ (n + 0) * PUBLISHED + 0 = omega arith in e);
+        counts = out.counts ∙ (let e : n + LEVEL ≡ packed (n + 0) 0 = omega arith in e);
         lawful = tt;
         spent = tt;
         voids = (let one = within.some_there in let z : 0 + (0 - (n + 0)) ≡ 0 = omega arith in z);
@@ -354,7 +362,7 @@ module _ (plan : Plan) (ws : List ℕ) (xs : List (Option Contents)) (within : W
         each_hand = λ d. tt;
         in_palm = tt;
         each_spot = λ buffer low. ap (start_cells n) (mod-eq_of_lt (omega arith)) ∙ start_waits n buffer (dec_le n buffer) low;
-        left = (let e : total plan.allowances + 0 + 0 ≤ total plan.allowances = omega arith in e);
+        allowed = record { ahead = omega (arith, within.draws); life = omega (arith, within.draws); most = omega arith };
         by_giver = refl;
         all_made = tt;
         still_open = zero-le;

@@ -1,6 +1,6 @@
 -- The words and the slots of a new table are as the rule wants them.
 use Rattle.std.proofs.Common.{◌≡◌, ℕ, zero, suc, ◌+◌, ◌*◌, ◌<◌, ◌≤◌, List, [], ◌∷◌, ◌++◌, length, map, get_or, replicate, Some, None, refl, sym, ap, ap₂, ◌∙◌, subst, arith, length-append, add-one}
-use Rattle.hs_ring.proofs.Prelude.{some, get_elem?, length-map, length-replicate, Option, sum, slice_get, range_with_len, length-range_with_len, opening, Splits, TableId, MOST_BUFFERS, MOST_DRAWS, Contents, clear_chunk, clear_chunks, PoolName, Plan, Within, Drawing, new_drawers, GiverSeat, bare, giving, drawer_seat_of, giver_seat_of, new_drawer, RingRule, first_view, PoolSeat, name_of, drawing_of, IsMaking}
+use Rattle.hs_ring.proofs.Prelude.{some, get_elem?, length-map, length-replicate, Option, sum, slice_get, range_with_len, length-range_with_len, opening, Splits, TableId, MOST_AHEAD, MOST_BUFFERS, Contents, clear_chunk, clear_chunks, PoolName, Plan, Within, Drawing, new_drawers, GiverSeat, bare, giving, drawer_seat_of, giver_seat_of, new_drawer, RingRule, first_view, PoolSeat, name_of, drawing_of, IsMaking}
 use Rattle.hs_words.proofs.Plans.{total_is_sum}
 use Rattle.hs_ring.specs.Views.{with_drawer}
 use Rattle.hs_ring.specs.Making.{first_words, first_slots}
@@ -66,7 +66,7 @@ laid_out plan =
     }
 
 -- A new table keeps the rule.
-pub new_ring : (plan : Plan) (words : List ℕ) (slots : List (Option Contents)) (chunks : List Contents) → 1 ≤ length chunks → length chunks ≤ MOST_BUFFERS → plan.buffers ≡ length chunks → sum plan.allowances ≤ MOST_DRAWS
+pub new_ring : (plan : Plan) (words : List ℕ) (slots : List (Option Contents)) (chunks : List Contents) → 1 ≤ length chunks → length chunks ≤ MOST_BUFFERS → plan.buffers ≡ length chunks → sum plan.allowances ≤ MOST_AHEAD
     → chunks ≡ clear_chunks (length chunks) plan.size → words ≡ first_words plan.buffers → slots ≡ first_slots chunks → RingRule plan (opening words slots (first_view plan))
 new_ring plan words slots chunks some_there few buffers draws clear words_are slots_are =
     let n = plan.buffers in
@@ -105,7 +105,7 @@ new_making table s plan chunks size allowances at buffers words slots me size_is
 -- ---- drawers
 
 abbrev pub new_drawer_of : PoolName → ℕ → ℕ → ℕ → ℕ → Drawing
-new_drawer_of pool buffers size number left = record { pool = pool; buffers = buffers; size = size; number = number; left = left; floor = 0; answers = [] }
+new_drawer_of pool buffers size number left = record { pool = pool; buffers = buffers; size = size; number = number; most = left; left = left; floor = 0; answers = [] }
 
 pub new_drawers_and : (pool : PoolName) (buffers size number : ℕ) (lefts : List ℕ) (left : ℕ)
     → new_drawers pool buffers size number (lefts ++ left ∷ []) ≡ new_drawers pool buffers size number lefts ++ new_drawer_of pool buffers size (number + length lefts) left ∷ []

@@ -1,12 +1,12 @@
 -- Two ends hear of what the other knows, by notes.
 use Rattle.std.proofs.Common.{◌≡◌, ℕ, suc, ◌≤◌, Bool, true, false, ◌==◌, List, [], ◌∷◌, ◌++◌, length, set, max, refl, sym, ap, ◌∙◌, subst, inl, inr, arith}
-use Rattle.hs_ring.proofs.Prelude.{some, get_elem?, AllByRecursion, Splits, Joins, set_else, Deed, Answer, got_by, answers_by, told_in, IsDeedAt, answer_to, draw_is_at, Plan, AtSeat, DrawerSeat, Hand, nothing, drew, GiverSeat, Palm, View, nobody, drawing, giving, drawer_note, giver_note, giver_seat_after, all_left, Has, Facts, HandOk, IsSettled, DeskOk, PostOk, Knows, Kept, RingRule}
+use Rattle.hs_ring.proofs.Prelude.{some, get_elem?, AllByRecursion, Splits, Joins, set_else, Deed, Answer, got_by, answers_by, told_in, IsDeedAt, answer_to, draw_is_at, Plan, AtSeat, DrawerSeat, Hand, nothing, drew, GiverSeat, Palm, View, nobody, drawing, giving, drawer_note, giver_note, giver_seat_after, Allowed, Has, Facts, HandOk, IsSettled, DeskOk, PostOk, Knows, Kept, RingRule}
 use borrow.Author.Tests.{eqb-true}
 use Rattle.hs_lists.proofs.Numbers.{max_le}
 use Rattle.hs_lists.proofs.Alls.{all_append}
 use Rattle.hs_words.specs.Ends.{met, stamps_in, put_if}
 use Rattle.hs_words.proofs.Deeds.{at_below, at_once}
-use Rattle.hs_ring.proofs.Updates.{left_set, left_and}
+use Rattle.hs_ring.proofs.Updates.{allowed_set, allowed_and}
 use Rattle.hs_ring.proofs.Counting.{reseated, seated_too}
 use Rattle.hs_ring.proofs.Spots.{still_with, with_more, spot_stays}
 use Rattle.hs_ring.proofs.Draws.{St}
@@ -58,7 +58,7 @@ module _ (plan : Plan) (s : St) (f : Facts) (k : Kept plan s f) (id : ℕ) (desk
             spot_stays plan.buffers f.cells f.cells f.seats f.giver s.views (set s.views id (drawing desk nothing) ++ drawer_note desk.floor (stamps_in desk.answers) ∷ []) buffer (λ number is. is)
             (λ j had. with_more (set s.views id (drawing desk nothing)) (drawer_note desk.floor (stamps_in desk.answers)) (Has buffer) j (still_with s.views id (drawing desk nothing) (drawing desk nothing) at (Has buffer) (λ none. none) j had))
             (f.spots buffer) (k.each_spot buffer low);
-        left = (let e = left_set s.views id (drawing desk nothing) (drawing desk nothing) at in let a = left_and (set s.views id (drawing desk nothing)) (drawer_note desk.floor (stamps_in desk.answers)) in let l = k.left in omega arith);
+        allowed = allowed_and plan f.log (set s.views id (drawing desk nothing)) (drawer_note desk.floor (stamps_in desk.answers)) refl refl (allowed_set plan f.log s.views id (drawing desk nothing) (drawing desk nothing) at refl refl k.allowed);
         by_giver = k.by_giver;
         all_made = k.all_made;
         still_open = k.still_open;
@@ -74,9 +74,9 @@ notes_draws plan id desk s (f, k) at = (f, note_kept plan s f k id desk at)
 -- ---- other notes change nothing but what seats know
 
 -- seats that know more
-pub known_kept : (plan : Plan) (s : St) (f : Facts) (views : List View) → Kept plan s f → all_left views ≡ all_left s.views → ((buffer j : ℕ) → AtSeat s.views (Has buffer) j → AtSeat views (Has buffer) j) → ((j : ℕ) (v : View) → get_elem? views j ≡ some v → Knows plan f j v)
+pub known_kept : (plan : Plan) (s : St) (f : Facts) (views : List View) → Kept plan s f → Allowed plan f.log views → ((buffer j : ℕ) → AtSeat s.views (Has buffer) j → AtSeat views (Has buffer) j) → ((j : ℕ) (v : View) → get_elem? views j ≡ some v → Knows plan f j v)
     → Kept plan record { words = s.words; homes = s.homes; views = views } f
-known_kept plan s f views k left withs each =
+known_kept plan s f views k allowed withs each =
     record {
       within = k.within;
       homes = k.homes;
@@ -91,7 +91,7 @@ known_kept plan s f views k left withs each =
       each_hand = k.each_hand;
       in_palm = k.in_palm;
       each_spot = λ buffer low. spot_stays plan.buffers f.cells f.cells f.seats f.giver s.views views buffer (λ number is. is) (withs buffer) (f.spots buffer) (k.each_spot buffer low);
-      left = (let l = k.left in omega arith);
+      allowed = allowed;
       by_giver = k.by_giver;
       all_made = k.all_made;
       still_open = k.still_open;
@@ -104,7 +104,7 @@ notes_floor plan id post palm s (f, k) at =
     let own : PostOk plan f id post palm = k.each_seat id (giving post palm) at in (
       f,
       known_kept plan s f (set s.views id (giving post palm) ++ giver_note post.floor ∷ []) k
-          (let e = left_set s.views id (giving post palm) (giving post palm) at in let a = left_and (set s.views id (giving post palm)) (giver_note post.floor) in omega arith)
+          (allowed_and plan f.log (set s.views id (giving post palm)) (giver_note post.floor) refl refl (allowed_set plan f.log s.views id (giving post palm) (giving post palm) at refl refl k.allowed))
           (λ buffer j had. with_more (set s.views id (giving post palm)) (giver_note post.floor) (Has buffer) j (still_with s.views id (giving post palm) (giving post palm) at (Has buffer) (λ in_palm. in_palm) j had))
           (seated_too plan f (set s.views id (giving post palm)) (giver_note post.floor) own.floor (reseated plan f s.views id (giving post palm) own (λ j v other seen. k.each_seat j v seen))),
     )
@@ -136,15 +136,15 @@ giver_hears plan id post palm other floor stamps s (f, k) at differ note_at =
     } in (
       f,
       known_kept plan s f (set (set s.views id w) other nobody) k
-          (let e = left_set s.views id (giving post palm) w at in let e' = left_set (set s.views id w) other (drawer_note floor stamps) nobody note_at in omega arith)
+          (allowed_set plan f.log (set s.views id w) other (drawer_note floor stamps) nobody note_at refl refl (allowed_set plan f.log s.views id (giving post palm) w at refl refl k.allowed))
           (λ buffer j had. still_with (set s.views id w) other (drawer_note floor stamps) nobody note_at (Has buffer) (λ none. none) j (still_with s.views id (giving post palm) w at (Has buffer) (λ in_palm. in_palm) j had))
           (both_seats plan s f k id other w nobody now tt),
     )
 
 pub drawer_hears : (plan : Plan) (id : ℕ) (desk : DrawerSeat) (hand : Hand) (other floor : ℕ)
-    → Joins (RingRule plan) id (drawing desk hand) other (giver_note floor) (drawing (record { size = desk.size; number = desk.number; left = desk.left; floor = max desk.floor floor; answers = desk.answers }) hand) nobody
+    → Joins (RingRule plan) id (drawing desk hand) other (giver_note floor) (drawing (record { size = desk.size; number = desk.number; most = desk.most; left = desk.left; floor = max desk.floor floor; answers = desk.answers }) hand) nobody
 drawer_hears plan id desk hand other floor s (f, k) at differ note_at =
-    let desk' : DrawerSeat = record { size = desk.size; number = desk.number; left = desk.left; floor = max desk.floor floor; answers = desk.answers } in
+    let desk' : DrawerSeat = record { size = desk.size; number = desk.number; most = desk.most; left = desk.left; floor = max desk.floor floor; answers = desk.answers } in
     let w : View = drawing desk' hand in
     let own : DeskOk plan f id desk hand = k.each_seat id (drawing desk hand) at in
     let note : floor ≤ length f.log = k.each_seat other (giver_note floor) (sym (set_else s.views id other w differ) ∙ note_at) in
@@ -154,12 +154,13 @@ drawer_hears plan id desk hand other floor s (f, k) at differ note_at =
       active = own.active;
       seat = own.seat;
       hand_is = own.hand_is;
+      within = own.within;
       answers = own.answers;
       floor = max_le desk.floor floor (length f.log) own.floor note;
     } in (
       f,
       known_kept plan s f (set (set s.views id w) other nobody) k
-          (let e = left_set s.views id (drawing desk hand) w at in let e' = left_set (set s.views id w) other (giver_note floor) nobody note_at in omega arith)
+          (allowed_set plan f.log (set s.views id w) other (giver_note floor) nobody note_at refl refl (allowed_set plan f.log s.views id (drawing desk hand) w at refl refl k.allowed))
           (λ buffer j had. still_with (set s.views id w) other (giver_note floor) nobody note_at (Has buffer) (λ none. none) j (still_with s.views id (drawing desk hand) w at (Has buffer) (λ in_hand. in_hand) j had))
           (both_seats plan s f k id other w nobody now tt),
     )

@@ -1,7 +1,7 @@
 -- Each step keeps the rule, for any view that can make it.
 use Rattle.std.proofs.Common.{◌≡◌, ℕ, suc, ◌+◌, ◌%◌, List, [], ◌∷◌, length, Some, None, sym, ap, ◌∙◌, subst}
 use mathlib.Core.Option as maybe
-use Rattle.hs_ring.proofs.Prelude.{either, Option, ◌==◌, Me, step, Allows, Splits, Joins, PUBLISHED, Contents, Plan, DrawerSeat, Hand, nothing, drew, kept, GiverSeat, Palm, bare, holds, lays, retakes, View, nobody, drawing, leasing, giving, drawer_note, giver_note, with_lease, note_of, new_drawer, having_closed, RingRule, did_draw, did_collect, did_lay, did_publish, did_retake, did_look}
+use Rattle.hs_ring.proofs.Prelude.{either, Option, ◌==◌, Me, step, Allows, Splits, Joins, ONE_DRAW, ONE_GIVE, Contents, Plan, DrawerSeat, Hand, nothing, drew, kept, GiverSeat, Palm, bare, holds, lays, retakes, View, nobody, drawing, leasing, giving, drawer_note, giver_note, with_lease, note_of, new_drawer, having_closed, RingRule, did_draw, did_collect, did_lay, did_publish, did_refill, did_retake, did_look}
 use Rattle.atomic_table.specs.Table.{rest}
 use Rattle.hs_ring.specs.Views.{without_lease, lease_of, having_heard, with_drawer}
 use Rattle.hs_ring.specs.Seats.{CanDraw, CanCollect, CanLease, IsLease, CanTake, CanLay, CanPublish, CanRetake}
@@ -13,9 +13,10 @@ use Rattle.hs_ring.proofs.Retakes.{retakes_it}
 use Rattle.hs_ring.proofs.Publishes.{publishes}
 use Rattle.hs_ring.proofs.Meets.{notes_draws, notes_floor, giver_hears, drawer_hears}
 use Rattle.hs_ring.proofs.Life.{makes_drawer, closes_drawer, looks}
+use Rattle.hs_ring.proofs.Refills.{refills}
 
 module _ (plan : Plan) (slots id : ℕ) where
-  pub can_draw : (v : View) (held : Held) → CanDraw v → Allows (RingRule plan) slots id (v, held) 0 (λ word. (word + 1) % 18446744073709551616) (did_draw (step slots 0 1 0 maybe.none) (v, held))
+  pub can_draw : (v : View) (held : Held) → CanDraw v → Allows (RingRule plan) slots id (v, held) 0 (λ word. (word + ONE_DRAW) % 18446744073709551616) (did_draw (step slots 0 ONE_DRAW 0 maybe.none) (v, held))
   can_draw nobody held can = absurd can
   can_draw (drawing desk nothing) held can = draws plan slots id desk held can
   can_draw (drawing desk (drew number buffer stamp)) held can = absurd can
@@ -49,15 +50,15 @@ module _ (plan : Plan) (slots id : ℕ) where
   can_lay (giver_note floor) number i held can is = absurd can
 
   pub can_publish : (v : View) (number i : ℕ) (chunk : Contents) (held : Held) → CanPublish slots number chunk v → i ≡ number % slots
-      → Allows (RingRule plan) slots id (v, (i, Some chunk) ∷ held) 0 (λ word. (word + PUBLISHED) % 18446744073709551616) (did_publish (step slots 0 PUBLISHED 0 maybe.none) (v, (i, Some chunk) ∷ held))
+      → Allows (RingRule plan) slots id (v, (i, Some chunk) ∷ held) 0 (λ word. (word + ONE_GIVE) % 18446744073709551616) (did_publish (step slots 0 ONE_GIVE 0 maybe.none) (v, (i, Some chunk) ∷ held))
   can_publish nobody number i chunk held can is = absurd can
   can_publish (drawing desk hand) number i chunk held can is = absurd can
   can_publish (leasing buffer draw) number i chunk held can is = absurd can
   can_publish (giving post bare) number i chunk held can is = absurd can
   can_publish (giving post (holds buffer draw)) number i chunk held can is = absurd can
   can_publish (giving post (lays buffer draw)) number i chunk held can is =
-      let F : Contents → Type 0 = λ c. Allows (RingRule plan) slots id (giving post (lays buffer draw), (i, Some c) ∷ held) 0 (λ word. (word + PUBLISHED) % 18446744073709551616)
-      (did_publish (step slots 0 PUBLISHED 0 maybe.none) (giving post (lays buffer draw), (i, Some c) ∷ held)) in
+      let F : Contents → Type 0 = λ c. Allows (RingRule plan) slots id (giving post (lays buffer draw), (i, Some c) ∷ held) 0 (λ word. (word + ONE_GIVE) % 18446744073709551616)
+      (did_publish (step slots 0 ONE_GIVE 0 maybe.none) (giving post (lays buffer draw), (i, Some c) ∷ held)) in
       subst F (sym can.1) (publishes plan slots id post buffer draw number i held can.0 is)
   can_publish (giving post (retakes buffer draw)) number i chunk held can is = absurd can
   can_publish (drawer_note floor stamps) number i chunk held can is = absurd can
@@ -127,9 +128,9 @@ collect_at plan slots id me v i is can =
     subst F (sym is) (can_collect plan slots id v i [] can)
 
 pub publish_at : (plan : Plan) (slots id : ℕ) (me : Mine) (v : View) (number i : ℕ) (chunk : Contents) → me ≡ (v, (i, Some chunk) ∷ []) → CanPublish slots number chunk v → i ≡ number % slots
-    → Allows (RingRule plan) slots id me 0 (λ word. (word + PUBLISHED) % 18446744073709551616) (did_publish (step slots 0 PUBLISHED 0 maybe.none) me)
+    → Allows (RingRule plan) slots id me 0 (λ word. (word + ONE_GIVE) % 18446744073709551616) (did_publish (step slots 0 ONE_GIVE 0 maybe.none) me)
 publish_at plan slots id me v number i chunk is can entry =
-    let F : Mine → Type 0 = λ m. Allows (RingRule plan) slots id m 0 (λ word. (word + PUBLISHED) % 18446744073709551616) (did_publish (step slots 0 PUBLISHED 0 maybe.none) m) in
+    let F : Mine → Type 0 = λ m. Allows (RingRule plan) slots id m 0 (λ word. (word + ONE_GIVE) % 18446744073709551616) (did_publish (step slots 0 ONE_GIVE 0 maybe.none) m) in
     subst F (sym is) (can_publish plan slots id v number i chunk [] can entry)
 
 pub retake_at : (plan : Plan) (slots id : ℕ) (me : Mine) (v : View) (number i : ℕ) → me ≡ (v, (i, None) ∷ []) → CanRetake slots number v → i ≡ number % slots
@@ -173,3 +174,7 @@ module _ (plan : Plan) (id : ℕ) where
 
 pub looks_at : (plan : Plan) (slots id : ℕ) (me : Mine) (post : GiverSeat) (palm : Palm) → me ≡ (giving post palm, []) → Allows (RingRule plan) slots id me 0 (λ n. n) (did_look (step slots 0 0 0 maybe.none) me)
 looks_at plan slots id me post palm is = let F : Mine → Type 0 = λ m. Allows (RingRule plan) slots id m 0 (λ n. n) (did_look (step slots 0 0 0 maybe.none) m) in subst F (sym is) (looks plan slots id post palm [])
+
+pub refills_at : (plan : Plan) (slots id : ℕ) (me : Mine) (desk : DrawerSeat) → me ≡ (drawing desk nothing, []) → Allows (RingRule plan) slots id me 0 (λ n. n) (did_refill (step slots 0 0 0 maybe.none) me)
+refills_at plan slots id me desk is =
+    let F : Mine → Type 0 = λ m. Allows (RingRule plan) slots id m 0 (λ n. n) (did_refill (step slots 0 0 0 maybe.none) m) in subst F (sym is) (refills plan slots id desk [])

@@ -1,6 +1,6 @@
 -- Whatever is seen of a buffer, in a slot or at a seat, is in the place that the rule knows.
 use Rattle.std.proofs.Common.{◌≡◌, ℕ, suc, ◌*◌, ◌%◌, ◌<◌, ◌≤◌, List, get_or, Some, None, refl, sym, ap, ◌∙◌, subst, arith}
-use Rattle.hs_ring.proofs.Prelude.{some, some-injective, get_elem?, Contents, clear_chunk, Plan, AtSeat, Spot, in_queue, with_drawer, leased, with_giver, Hand, nothing, drew, kept, Palm, bare, holds, lays, retakes, View, nobody, drawing, leasing, giving, drawer_note, giver_note, InHand, Has, Cell, free, waits, drawn, laid, Facts, CellOk, HandOk, PalmOk, SpotOk, Kept}
+use Rattle.hs_ring.proofs.Prelude.{some, get_elem?, Contents, clear_chunk, Plan, AtSeat, Spot, in_queue, with_drawer, leased, with_giver, Hand, nothing, drew, kept, Palm, bare, holds, lays, retakes, View, nobody, drawing, leasing, giving, drawer_note, giver_note, InHand, Has, Cell, free, waits, drawn, laid, Facts, CellOk, HandOk, PalmOk, SpotOk, Kept}
 use mathlib.Core.Option as maybe
 use Rattle.hs_ring.specs.Views.{InPalm}
 use Rattle.hs_ring.specs.Places.{BufferPlace, entry, seat, IsThere, Waits, IsInOnePlace}

@@ -3,16 +3,16 @@ pub use Rattle.atomic_table.proofs.Lists.{at_set, set_else, set_here}
 pub use Rattle.atomic_table.specs.Seated.{TableId}
 pub use Rattle.atomic_table.specs.Table.{Act, Allows, gives, Joins, keeps, Me, opening, Splits, State, step, stepped, takes}
 pub use Rattle.hs_base.proofs.Updates.{put, put_cases, put_else, put_here}
-pub use Rattle.hs_base.specs.declared.limits.TheConstants.{MOST_BUFFERS, MOST_DRAWS}
+pub use Rattle.hs_base.specs.declared.limits.TheConstants.{MOST_AHEAD, MOST_BUFFERS, MOST_DRAWS}
 pub use Rattle.hs_lists.proofs.Counts.{count_cons}
 pub use Rattle.hs_lists.proofs.Places.{elem_push_cases}
 pub use Rattle.hs_ring.specs.Making.{closed_giver_seat, IsMaking}
 pub use Rattle.hs_ring.specs.Parts.{answers_of_all, Drawing, new_drawers}
-pub use Rattle.hs_ring.specs.Rule.{Cell, CellOk, DeskOk, drawn, Facts, first_view, free, HandOk, IsLaid, IsLastOf, IsSettled, Kept, Knows, laid, PalmOk, PostOk, published, RingRule, SpotOk, waits}
+pub use Rattle.hs_ring.specs.Rule.{Allowed, Cell, CellOk, DeskOk, drawn, Facts, first_view, free, HandOk, IsLaid, IsLastOf, IsSettled, Kept, Knows, laid, PalmOk, PostOk, published, RingRule, SpotOk, waits}
 pub use Rattle.hs_ring.specs.Seats.{drawing_of, IsFree, IsSameSeat, name_of, PoolSeat}
-pub use Rattle.hs_ring.specs.Steps.{did_collect, did_draw, did_lay, did_look, did_publish, did_retake, drawn_of, Over, published_of}
-pub use Rattle.hs_ring.specs.Views.{all_left, bare, drawer_note, drawer_seat_of, DrawerSeat, drawing, drew, giver_note, giver_seat_after, giver_seat_of, GiverSeat, giving, Hand, Has, having_closed, holds, InHand, kept, lays, leasing, new_drawer, nobody, note_of, nothing, Palm, retakes, View, with_lease}
-pub use Rattle.hs_ring.specs.declared.board.TheConstants.{PUBLISHED}
+pub use Rattle.hs_ring.specs.Steps.{did_collect, did_draw, did_lay, did_look, did_publish, did_refill, did_retake, drawn_of, Over, packed, published_of}
+pub use Rattle.hs_ring.specs.Views.{all_left, all_most, bare, drawer_note, drawer_seat_of, DrawerSeat, drawing, drew, giver_note, giver_seat_after, giver_seat_of, GiverSeat, giving, Hand, Has, having_closed, holds, InHand, kept, lays, leasing, left_in, most_in, new_drawer, nobody, note_of, nothing, Palm, refilled_seat, retakes, View, with_lease}
+pub use Rattle.hs_ring.specs.declared.board.TheConstants.{DRAWN, LEVEL, ONE_DRAW, ONE_GIVE}
 pub use Rattle.hs_words.proofs.Deeds.{all_of, answers_and, answers_below, are_answers_more, draw_is_at, unread_more}
 pub use Rattle.hs_words.proofs.Waiting.{drawn_kinds, given_kinds}
 pub use Rattle.hs_words.specs.Chunks.{clear_chunk, clear_chunks, Contents}

@@ -1,21 +1,22 @@
 -- The giver publishes the number that it laid, or misses where the number was drawn before.
 use Rattle.std.proofs.Common.{◌≡◌, ◌≢◌, ℕ, suc, ◌+◌, ◌*◌, ◌%◌, ◌<◌, ◌≤◌, List, [], ◌∷◌, length, set, get_or, Some, refl, sym, ap, ap₂, ◌∙◌, subst, inl, ⊎_elim, le_refl, arith, length-set, get_or-set_other, get_or-set_same}
-use Rattle.hs_ring.proofs.Prelude.{add-mod_right, ℕ_discrete, dec_le, dite, some, get_elem?, Option, AllByRecursion, nil_from_length, step, keeps, gives, stepped, Allows, set_here, set_else, elem_push_cases, count_cons, PUBLISHED, put, put_cases, put_here, put_else, Contents, clear_chunk, is_missed, is_empty, Deed, Answer, events_of, drawn_in, given_in, answer_to, answers_in, told_in, queue_of, answers_and, answers_below, are_answers_more, unread_more, given_kinds, Plan, Spot, in_queue, with_giver, GiverSeat, bare, lays, retakes, View, giving, giver_seat_after, Has, Cell, free, waits, laid, Facts, published, IsLaid, CellOk, PalmOk, SpotOk, PostOk, Knows, Kept, RingRule, published_of, did_publish}
+use Rattle.hs_ring.proofs.Prelude.{add-mod_right, ℕ_discrete, dec_le, dite, some, get_elem?, Option, AllByRecursion, nil_from_length, step, keeps, gives, stepped, Allows, set_here, set_else, elem_push_cases, count_cons, ONE_GIVE, put, put_cases, put_here, put_else, Contents, clear_chunk, is_missed, is_empty, Deed, Answer, events_of, drawn_in, given_in, answer_to, answers_in, told_in, queue_of, answers_and, answers_below, are_answers_more, unread_more, given_kinds, Plan, Spot, in_queue, with_giver, GiverSeat, bare, lays, retakes, View, giving, giver_seat_after, Has, Cell, free, waits, laid, Facts, published, IsLaid, CellOk, PalmOk, SpotOk, PostOk, Knows, Kept, RingRule, packed, published_of, did_publish}
 use mathlib.Core.Option as maybe
 use Rattle.hs_words.specs.PoolHistory.{Given, Missed}
 use Rattle.hs_words.specs.Ends.{answered, given_of, missed}
+use Rattle.hs_words.specs.declared.token.TheConstants.{MAX_PUBLISHED}
 use Rattle.hs_words.proofs.Deeds.{got_below}
 use Rattle.hs_words.proofs.Waiting.{may_give}
-use Rattle.hs_ring.proofs.Updates.{left_set}
+use Rattle.hs_ring.proofs.Updates.{left_set, most_set}
 use Rattle.hs_ring.proofs.Spots.{still_with, spot_stays}
 use Rattle.hs_ring.proofs.Stays.{Moves, lease_stays, hand_stays, queued_stays, all_settled, cell_stays, facts_after, knows_stays}
-use Rattle.hs_ring.proofs.Counting.{at_length, line, found_drawn, found_published, found_stamp, one_more_published, entry_below, reseated}
+use Rattle.hs_ring.proofs.Counting.{at_length, line, lap, few_drawn, found_drawn, found_published, found_stamp, one_more_published, entry_below, reseated}
 use Rattle.hs_ring.proofs.Draws.{St, Held}
 use Rattle.hs_ring.proofs.Takes.{ours, no_giver}
 use Rattle.hs_ring.proofs.Lays.{next_is}
 
 module _ (plan : Plan) (s : St) (f : Facts) (k : Kept plan s f) (id : ℕ) (post : GiverSeat) (b t : ℕ) (at : get_elem? s.views id ≡ some (giving post (lays b t))) (i : ℕ) (i_is : i ≡ published plan.buffers f.log % (2 * plan.buffers)) (held : Held)
-    (x : ℕ) (x_is : x ≡ suc (published plan.buffers f.log) * PUBLISHED + drawn_in f.log) where
+    (x : ℕ) (x_is : x ≡ packed (suc (published plan.buffers f.log)) (drawn_in f.log)) where
   abbrev n : ℕ
   n = plan.buffers
 
@@ -167,7 +168,7 @@ module _ (plan : Plan) (s : St) (f : Facts) (k : Kept plan s f) (id : ℕ) (post
           within = k.within;
           homes = length-set s.homes i (some (Some (clear_chunk plan.size b))) ∙ k.homes;
           words = length-set s.words 0 x ∙ k.words;
-          counts = get_or-set_same s.words 0 x 0 (let e = k.words in omega arith) ∙ x_is ∙ (let e : suc P * PUBLISHED + drawn_in f.log ≡ (n + (1 + given_in f.log)) * PUBLISHED + (0 + drawn_in f.log) = omega arith in e);
+          counts = get_or-set_same s.words 0 x 0 (let e = k.words in omega arith) ∙ x_is ∙ (let e : packed (suc P) (drawn_in f.log) ≡ packed (n + (1 + given_in f.log)) (0 + drawn_in f.log) = omega arith in e);
           lawful = (k.lawful, may_give n b (events_of f.log) k.lawful in_hand.0.3 waits_not);
           spent = ((in_hand.0.1, in_hand.0.2), k.spent);
           voids = (let a = count_cons is_missed (Given b) (events_of f.log) in let c = count_cons is_empty (Given b) (events_of f.log) in let v = k.voids in omega arith);
@@ -177,13 +178,20 @@ module _ (plan : Plan) (s : St) (f : Facts) (k : Kept plan s f) (id : ℕ) (post
           each_hand = λ d. hand_stays n f.log (deed ∷ []) f.cells cells' f.spots spots' f.hands f.hands 0 with_giver (laid P) give_moves d (λ e. omega arith) (λ e. cc) (λ number buffer e. cc) (f.hands d) (k.each_hand d);
           in_palm = tt;
           each_spot = give_spots;
-          left = (let e = left_set s.views id (giving post (lays b t)) w at in let l = k.left in omega arith);
+          allowed =
+              (let l = left_set s.views id (giving post (lays b t)) w at in
+              let m = most_set s.views id (giving post (lays b t)) w at in
+              record { ahead = omega (arith, k.allowed.ahead); life = omega (arith, k.allowed.life); most = omega (arith, k.allowed.most) });
           by_giver = ap length (answers_and deed f.log 0 refl) ∙ (let e = k.by_giver in omega arith);
           all_made = ((let z : 0 ≤ f.made = omega arith in z), k.all_made);
           still_open = k.still_open;
           unmade = k.unmade;
           each_seat = give_seats;
         }
+
+    -- the number is not the last that a giver may publish
+    pub room : P < MAX_PUBLISHED
+    room = omega (arith, lap plan (stepped s 0 x id ((i, Some (clear_chunk plan.size b)) ∷ held) w gives) after_give give_kept, few_drawn plan s f k, k.within.few)
 
   -- ---- the number was drawn before
   module _ (late : P < drawn_in f.log) where
@@ -261,7 +269,7 @@ module _ (plan : Plan) (s : St) (f : Facts) (k : Kept plan s f) (id : ℕ) (post
           within = k.within;
           homes = k.homes;
           words = length-set s.words 0 x ∙ k.words;
-          counts = get_or-set_same s.words 0 x 0 (let e = k.words in omega arith) ∙ x_is ∙ (let e : suc P * PUBLISHED + drawn_in f.log ≡ (n + (1 + given_in f.log)) * PUBLISHED + (0 + drawn_in f.log) = omega arith in e);
+          counts = get_or-set_same s.words 0 x 0 (let e = k.words in omega arith) ∙ x_is ∙ (let e : packed (suc P) (drawn_in f.log) ≡ packed (n + (1 + given_in f.log)) (0 + drawn_in f.log) = omega arith in e);
           lawful = (k.lawful, (nothing_waits, (let v = k.voids in omega arith)));
           spent = (tt, k.spent);
           voids = (let a = count_cons is_missed Missed (events_of f.log) in let c = count_cons is_empty Missed (events_of f.log) in let v = k.voids in omega arith);
@@ -272,7 +280,10 @@ module _ (plan : Plan) (s : St) (f : Facts) (k : Kept plan s f) (id : ℕ) (post
           in_palm = (lease_stays n f.log (missed ∷ []) f.cells f.cells f.spots f.spots f.hands f.hands 0 (in_queue 0) free miss_moves b t with_giver (λ e. cc) in_hand.0, (P, (let e : suc P ≡ n + (1 + given_in f.log) = omega arith in e), in_hand.1));
           each_spot = λ buffer low.
               spot_stays n f.cells f.cells f.seats f.giver s.views (set s.views id w₂) buffer (λ number is. is) (still_with s.views id (giving post (lays b t)) w₂ at (Has buffer) (λ had. had)) (f.spots buffer) (k.each_spot buffer low);
-          left = (let e = left_set s.views id (giving post (lays b t)) w₂ at in let l = k.left in omega arith);
+          allowed =
+              (let l = left_set s.views id (giving post (lays b t)) w₂ at in
+              let m = most_set s.views id (giving post (lays b t)) w₂ at in
+              record { ahead = omega (arith, k.allowed.ahead); life = omega (arith, k.allowed.life); most = omega (arith, k.allowed.most) });
           by_giver = ap length (answers_and missed f.log 0 refl) ∙ (let e = k.by_giver in omega arith);
           all_made = ((let z : 0 ≤ f.made = omega arith in z), k.all_made);
           still_open = k.still_open;
@@ -282,8 +293,8 @@ module _ (plan : Plan) (s : St) (f : Facts) (k : Kept plan s f) (id : ℕ) (post
 
 -- the step, whatever it finds
 pub publishes : (plan : Plan) (slots id : ℕ) (post : GiverSeat) (b t number i : ℕ) (held : Held) → 2 * number ≡ slots + 2 * length (answers_in post.turns) → i ≡ number % slots
-    → Allows (RingRule plan) slots id (giving post (lays b t), (i, Some (clear_chunk post.size b)) ∷ held) 0 (λ word. (word + PUBLISHED) % 18446744073709551616)
-    (did_publish (step slots 0 PUBLISHED 0 maybe.none) (giving post (lays b t), (i, Some (clear_chunk post.size b)) ∷ held))
+    → Allows (RingRule plan) slots id (giving post (lays b t), (i, Some (clear_chunk post.size b)) ∷ held) 0 (λ word. (word + ONE_GIVE) % 18446744073709551616)
+    (did_publish (step slots 0 ONE_GIVE 0 maybe.none) (giving post (lays b t), (i, Some (clear_chunk post.size b)) ∷ held))
 publishes plan slots id post b t number i held next is s (f, k) wide at small =
     let n = plan.buffers in
     let ok = ours plan s f k id post (lays b t) at in
@@ -295,7 +306,7 @@ publishes plan slots id post b t number i held next is s (f, k) wide at small =
     let stamp = found_stamp plan s f k slots size in
     let more = one_more_published plan s f k in
     let word = get_or s.words 0 0 in
-    let x = (word + PUBLISHED) % 18446744073709551616 in
+    let x = (word + ONE_GIVE) % 18446744073709551616 in
     let counted : 2 * published_of (get_or s.words 0 0) ≡ slots + 2 * length (answers_in post.turns) = ap (λ (m : ℕ). 2 * m) (P ∙ sym number_is) ∙ next in
     let few : post.misses ≤ published_of (get_or s.words 0 0) = (let g = given_kinds f.log in let m = ok.misses in omega arith) in
     let above = below_stamp plan s f k id post b t at i i_is held x more in
@@ -309,7 +320,7 @@ publishes plan slots id post b t number i held next is s (f, k) wide at small =
         subst (λ (z : ℕ). Kept plan (stepped s 0 x id ((i, Some (clear_chunk z b)) ∷ held) (giving (giver_seat_after post (answered (record { stamp = length f.log; event = Given b; draw = t })) (suc (length f.log)) post.misses) bare) gives) (after_give plan s f k id post b t at i i_is held x more in_time)) (sym ok.size)
             (give_kept plan s f k id post b t at i i_is held x more in_time),
       ),
-      (length f.log, stamp, ok.floor, above, counted, few, (λ _. refl), (λ late. absurd (omega arith))),
+      (length f.log, stamp, ok.floor, above, counted, few, omega (arith, room plan s f k id post b t at i i_is held x more in_time), (λ _. refl), (λ late. absurd (omega arith))),
     ))
     (λ not_in_time.
     let late : published n f.log < drawn_in f.log = omega arith in (
@@ -317,5 +328,5 @@ publishes plan slots id post b t number i held next is s (f, k) wide at small =
       keeps,
       tt,
       (_, miss_kept plan s f k id post b t at i i_is held x more late),
-      (length f.log, stamp, ok.floor, above, counted, few, (λ in_time. absurd (omega arith)), (λ _. refl)),
+      (length f.log, stamp, ok.floor, above, counted, few, omega (arith, few_drawn plan s f k), (λ in_time. absurd (omega arith)), (λ _. refl)),
     ))

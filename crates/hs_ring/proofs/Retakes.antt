@@ -2,7 +2,7 @@
 use Rattle.std.proofs.Common.{◌≡◌, ℕ, suc, ◌+◌, ◌*◌, ◌%◌, ◌<◌, List, [], ◌∷◌, length, set, get_or, None, refl, sym, ap, ◌∙◌, subst, inl, arith, length-set, get_or-set_other}
 use Rattle.hs_ring.proofs.Prelude.{get_or-set_at, some, get_elem?, Option, step, gives, stepped, Allows, set_here, set_else, put, put_cases, put_else, Contents, answers_in, Plan, in_queue, GiverSeat, holds, retakes, View, giving, Has, Cell, free, laid, Facts, published, IsLaid, CellOk, PalmOk, PostOk, Knows, Kept, RingRule, did_retake}
 use mathlib.Core.Option as maybe
-use Rattle.hs_ring.proofs.Updates.{left_set}
+use Rattle.hs_ring.proofs.Updates.{allowed_set}
 use Rattle.hs_ring.proofs.Spots.{still_with, spot_stays}
 use Rattle.hs_ring.proofs.Stays.{Moves, hand_stays, queued_stays, cell_stays, facts_after, knows_stays}
 use Rattle.hs_ring.proofs.Counting.{entry_below, reseated}
@@ -96,7 +96,7 @@ module _ (plan : Plan) (s : St) (f : Facts) (k : Kept plan s f) (id : ℕ) (post
             spot_stays n f.cells cells' f.seats f.giver s.views (set s.views id w) buffer
             (λ h is. queued_stays n f.log [] f.cells cells' f.spots f.spots f.hands f.hands 0 (in_queue 0) (laid number) retake_moves (λ number buffer e. cc) _ _ buffer is)
             (still_with s.views id (giving post (retakes b t)) w at (Has buffer) (λ had. had)) (f.spots buffer) (k.each_spot buffer low);
-        left = (let e = left_set s.views id (giving post (retakes b t)) w at in let l = k.left in omega arith);
+        allowed = allowed_set plan f.log s.views id (giving post (retakes b t)) w at refl refl k.allowed;
         by_giver = k.by_giver;
         all_made = k.all_made;
         still_open = k.still_open;

@@ -1,6 +1,6 @@
 -- What a step leaves as it was. A step is made by one end, and touches at most one entry, one buffer and one drawer's hand.
 use Rattle.std.proofs.Common.{◌≡◌, ◌≢◌, ◌⊎◌, ℕ, suc, ◌+◌, ◌*◌, ◌%◌, ◌<◌, ◌≤◌, List, [], ◌∷◌, ◌++◌, length, sym, ap, ◌∙◌, subst, inl, inr, ⊎_elim, arith, length-append}
-use Rattle.hs_ring.proofs.Prelude.{some, Option, count_by, AllByRecursion, Contents, is_missed, Deed, Answer, got_by, events_of, drawn_in, answers_by, told_in, IsDeedAt, all_of, answers_below, are_answers_more, unread_more, Plan, Spot, in_queue, with_drawer, leased, with_giver, HasLease, DrawerSeat, Hand, nothing, drew, kept, GiverSeat, Palm, bare, holds, lays, retakes, View, nobody, drawing, leasing, giving, drawer_note, giver_note, Cell, free, waits, drawn, laid, Facts, published, IsLaid, CellOk, IsLastOf, HandOk, PalmOk, IsSettled, DeskOk, PostOk, Knows}
+use Rattle.hs_ring.proofs.Prelude.{Option, count_by, AllByRecursion, Contents, is_missed, Deed, Answer, got_by, events_of, drawn_in, answers_by, told_in, IsDeedAt, all_of, answers_below, are_answers_more, unread_more, Plan, Spot, in_queue, with_drawer, leased, with_giver, HasLease, DrawerSeat, Hand, nothing, drew, kept, GiverSeat, Palm, bare, holds, lays, retakes, View, nobody, drawing, leasing, giving, drawer_note, giver_note, Cell, free, waits, drawn, laid, Facts, published, IsLaid, CellOk, IsLastOf, HandOk, PalmOk, IsSettled, DeskOk, PostOk, Knows}
 use mathlib.Core.Option as maybe
 use Rattle.hs_words.specs.Ends.{Names}
 use Rattle.hs_words.proofs.Deeds.{draw_more, got_more, none_more, answers_more}
@@ -121,6 +121,7 @@ module _ (plan : Plan) (f : Facts) (added : List Deed) (cells : ℕ → Cell) (s
         active = ok.active;
         seat = ok.seat;
         hand_is = m.hands_stay desk.number other ∙ ok.hand_is;
+        within = ok.within;
         answers = ok.answers ∙ sym (answers_stay plan.buffers f.log added f.cells cells f.spots spots f.hands hands who spot cell m (suc desk.number) other);
         floor = omega (arith, ok.floor, length-append added f.log);
       }

@@ -1,7 +1,7 @@
 -- The giver takes a lease back, and makes one of the buffer that it still has.
 use Rattle.std.proofs.Common.{◌≡◌, ◌≢◌, ℕ, suc, ◌*◌, ◌<◌, List, [], ◌∷◌, ◌++◌, length, set, get_or, refl, sym, ap, ◌∙◌, subst, inl, ⊎_elim, arith, length-set}
 use Rattle.hs_ring.proofs.Prelude.{some, get_elem?, Splits, Joins, at_set, set_else, put, put_cases, put_here, put_else, Deed, Plan, AtSeat, Spot, in_queue, leased, with_giver, HasLease, Hand, GiverSeat, Palm, bare, holds, View, nobody, leasing, giving, Has, Cell, free, Facts, published, IsLaid, CellOk, PalmOk, SpotOk, PostOk, Knows, Kept, RingRule}
-use Rattle.hs_ring.proofs.Updates.{left_set, left_and}
+use Rattle.hs_ring.proofs.Updates.{allowed_set, allowed_and}
 use Rattle.hs_ring.proofs.Spots.{now_with, still_with, else_with, with_more, with_last, spot_stays}
 use Rattle.hs_ring.proofs.Stays.{Moves, hand_stays, cell_stays, facts_after, knows_stays}
 use Rattle.hs_ring.proofs.Counting.{reseated, seated_too}
@@ -111,7 +111,7 @@ module _ (plan : Plan) (s : St) (f : Facts) (k : Kept plan s f) (id : ℕ) (post
         each_hand = λ d. hand_stays n f.log [] f.cells f.cells f.spots spots' f.hands f.hands 0 (leased other) free take_moves d (λ e. omega arith) (λ e. cc) (λ number buffer e. cc) (f.hands d) (k.each_hand d);
         in_palm = (put_here f.spots b with_giver, has.1, has.2, has.3);
         each_spot = take_spots;
-        left = (let e = left_set s.views id (giving post bare) w at in let e' = left_set (set s.views id w) other (leasing b t) nobody lease_at in let l = k.left in omega arith);
+        allowed = allowed_set plan f.log (set s.views id w) other (leasing b t) nobody lease_at refl refl (allowed_set plan f.log s.views id (giving post bare) w at refl refl k.allowed);
         by_giver = k.by_giver;
         all_made = k.all_made;
         still_open = k.still_open;
@@ -197,7 +197,7 @@ module _ (plan : Plan) (s : St) (f : Facts) (k : Kept plan s f) (id : ℕ) (post
         each_hand = λ d. hand_stays plan.buffers f.log [] f.cells f.cells f.spots spots₁ f.hands f.hands 0 with_giver free lease_moves d (λ e. omega arith) (λ e. cc) (λ number buffer e. cc) (f.hands d) (k.each_hand d);
         in_palm = tt;
         each_spot = lease_spots;
-        left = (let e = left_set s.views id (giving post (holds b t)) w₁ at in let a = left_and (set s.views id w₁) (leasing b t) in let l = k.left in omega arith);
+        allowed = allowed_and plan f.log (set s.views id w₁) (leasing b t) refl refl (allowed_set plan f.log s.views id (giving post (holds b t)) w₁ at refl refl k.allowed);
         by_giver = k.by_giver;
         all_made = k.all_made;
         still_open = k.still_open;

@@ -1,16 +1,16 @@
 -- The table of a new ring: the words, the slots, and the giver's seat.
-use Rattle.std.specs.Prelude.{◌≡◌, ℕ, ◌*◌, List, [], ◌∷◌, ◌++◌, length, map, replicate, Option, Some, None}
+use Rattle.std.specs.Prelude.{◌≡◌, ℕ, ◌+◌, List, [], ◌∷◌, ◌++◌, length, map, replicate, Option, Some, None}
 use Rattle.std.specs.List.{range_with_len}
 use Rattle.atomic_table.specs.Seated.{TableId}
-use Rattle.hs_ring.specs.declared.board.TheConstants.{PUBLISHED}
+use Rattle.hs_ring.specs.declared.board.TheConstants.{LEVEL}
 use Rattle.hs_words.specs.Chunks.{Contents}
 use Rattle.hs_words.specs.Ends.{Answer}
 use Rattle.hs_ring.specs.Views.{GiverSeat, giver_seat_of}
 use Rattle.hs_ring.specs.Seats.{PoolSeat, IsSeatAt, IsFree}
 
--- the counts, then for each buffer one more than its number, then as many entries that are free
+-- the counts, of which none is drawn; then for each buffer one more than its number, then as many entries that are free
 abbrev pub first_words : ℕ → List ℕ
-first_words n = n * PUBLISHED ∷ range_with_len 1 n ++ replicate n 0
+first_words n = (n + LEVEL) ∷ range_with_len 1 n ++ replicate n 0
 
 -- the chunks, then as many slots that are empty
 abbrev pub first_slots : List Contents → List (Option Contents)

@@ -1,6 +1,6 @@
 -- What contracts see of the ends of a ring and of its leases. All name their pool. A drawer has a number of its own, and an
 -- end has a floor, which is above every stamp that it was told or heard of. The last answer or turn stands first.
-use Rattle.std.specs.Prelude.{◌≡◌, ℕ, suc, ◌-◌, ◌<◌, ◌≤◌, List, [], ◌∷◌, length, max, count_by, None, refl}
+use Rattle.std.specs.Prelude.{◌≡◌, ℕ, suc, ◌-◌, ◌<◌, ◌≤◌, List, [], ◌∷◌, length, max, count_by, None, Bool, MatchBool, refl}
 use Rattle.std.specs.List.{AllByRecursion}
 use Rattle.hs_words.specs.Pools.{PoolName}
 use Rattle.hs_words.specs.Chunks.{clear_chunk, with_page}
@@ -20,11 +20,13 @@ pub record Leased : Type 0 where
   pub draw : ℕ
   pub mark : ℕ
 
+-- a drawer, whose allowance has so many draws left of the most that it has when it is full
 pub record Drawing : Type 0 where
   pub pool : PoolName
   pub buffers : ℕ
   pub size : ℕ
   pub number : ℕ
+  pub most : ℕ
   pub left : ℕ
   pub floor : ℕ
   pub answers : List Answer
@@ -47,6 +49,7 @@ after_draw old stamp event =
       buffers = old.buffers;
       size = old.size;
       number = old.number;
+      most = old.most;
       left = old.left - 1;
       floor = suc stamp;
       answers = record { stamp = stamp; event = event; draw = 0 } ∷ old.answers;
@@ -63,6 +66,26 @@ DrawsAs mark old (drawn.Empty stamp) new = (new ≡ after_draw old stamp Empty) 
 -- the same with the mark 0
 abbrev pub Draws : {g : _} → Drawing → Drawn Leased g → Drawing → Type 0
 Draws old draw new = DrawsAs 0 old draw new
+
+-- ---- an allowance
+
+-- the drawer with its whole allowance
+abbrev pub refilled : Drawing → Drawing
+refilled old =
+    record {
+      pool = old.pool;
+      buffers = old.buffers;
+      size = old.size;
+      number = old.number;
+      most = old.most;
+      left = old.most;
+      floor = old.floor;
+      answers = old.answers;
+    }
+
+-- The allowance is whole again, or nothing changed.
+abbrev pub Refills : Drawing → Bool → Drawing → Type 0
+Refills old is_whole new = MatchBool is_whole (new ≡ refilled old) (new ≡ old)
 
 -- ---- a give
 
@@ -96,6 +119,7 @@ with_floor old floor =
       buffers = old.buffers;
       size = old.size;
       number = old.number;
+      most = old.most;
       left = old.left;
       floor = floor;
       answers = old.answers;
@@ -119,7 +143,7 @@ pub record Meets (giver : Giving) (drawer : Drawing) (giver' : Giving) (drawer' 
 abbrev pub new_drawers : PoolName → ℕ → ℕ → ℕ → List ℕ → List Drawing
 new_drawers pool buffers size number [] = []
 new_drawers pool buffers size number (left ∷ lefts) =
-    record { pool = pool; buffers = buffers; size = size; number = number; left = left; floor = 0; answers = [] } ∷ new_drawers pool buffers size (suc number) lefts
+    record { pool = pool; buffers = buffers; size = size; number = number; most = left; left = left; floor = 0; answers = [] } ∷ new_drawers pool buffers size (suc number) lefts
 
 -- A new pool of so many chunks of this size.
 pub record AreNewEnds (buffers size : ℕ) (allowances : List ℕ) (giver : Giving) (drawers : List Drawing) : Type 0 where

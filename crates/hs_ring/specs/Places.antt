@@ -1,15 +1,14 @@
 -- Where each buffer of a ring is, as its table shows it: its chunk lies in the slot of an entry, or a seat has it. That seat is
 -- a drawer's that drew it, a lease, or the giver's. A lease is a seat of its own.
-use Rattle.std.proofs.Common.{zero, ◌+◌, ◌*◌, refl, sym, ◌∙◌, subst, le_refl}
+use Rattle.std.proofs.Common.{zero, refl, sym, ◌∙◌, subst, le_refl}
 use Rattle.std.specs.Prelude.{◌≡◌, ℕ, suc, ◌%◌, ◌<◌, ◌≤◌, [], ◌∷◌, length, slice_index, Option, Some, None}
 use mathlib.Core.Option.{some, some-injective, some-ne-none}
 use lib.ListN.{get_elem?}
 use Rattle.atomic_table.specs.Table.{State}
-use Rattle.hs_ring.specs.declared.board.TheConstants.{PUBLISHED}
 use Rattle.hs_words.specs.Chunks.{Contents, clear_chunk}
 use Rattle.hs_words.specs.Seats.{AtSeat}
 use Rattle.hs_ring.specs.Views.{nothing, bare, View, drawing, leasing, giving, drawer_seat_of, giver_seat_of, nobody, Has}
-use Rattle.hs_ring.specs.Steps.{drawn_of, published_of}
+use Rattle.hs_ring.specs.Steps.{packed, drawn_of, published_of}
 
 abbrev pub Table : Type 0
 Table = State (Option Contents) View
@@ -46,7 +45,7 @@ pub record IsInOnePlace (size : ℕ) (s : Table) (buffer : ℕ) : Type 0 where
 abbrev one_lent : Table
 one_lent =
     record {
-      words = (2 * PUBLISHED + 1) ∷ 0 ∷ 2 ∷ 0 ∷ 0 ∷ [];
+      words = packed 2 1 ∷ 0 ∷ 2 ∷ 0 ∷ 0 ∷ [];
       homes = some None ∷ some (Some (clear_chunk 64 1)) ∷ some None ∷ some None ∷ [];
       views = giving (giver_seat_of nobody) bare ∷ drawing (drawer_seat_of nobody) nothing ∷ leasing 0 0 ∷ [];
     }

@@ -1,14 +1,15 @@
--- The rule of the ring's table, for n buffers. Word 0 is 2^32 times the number published and the number drawn: the buffers
--- lie under numbers, n of them are published at first, each give that has a stamp publishes one more, and each draw
--- draws one. Number h belongs to the entry h mod 2 n; word e + 1 is 0 or one more than the number that was laid there,
--- and slot e is that entry's chunk. An empty draw draws a number that is void, and the give that would publish it misses.
+-- The rule of the ring's table, for n buffers. The buffers lie under numbers, n of them are published at first, each give that
+-- has a stamp publishes one more, and each draw draws one. Word 0 has both counts: 2^24 times the number drawn, and the lead of
+-- the number published over it, with 2^23 added. Number h belongs to the entry h mod 2 n; word e + 1 is 0 or one more than the
+-- number that was laid there, and slot e is that entry's chunk. An empty draw draws a number that is void, and the give that
+-- would publish it misses. No more void numbers stand out than the lead has room for, since each drawer has an allowance.
 use Rattle.std.specs.Prelude.{◌≡◌, ℕ, suc, ◌+◌, ◌-◌, ◌*◌, ◌%◌, ◌<◌, ◌≤◌, List, [], ◌∷◌, length, slice_index, count_by, Option, Some, None}
 use Rattle.std.specs.List.{AllByRecursion}
 use mathlib.Core.Option.{some}
 use mathlib.Core.Option as maybe
 use lib.ListN.{get_elem?}
 use Rattle.atomic_table.specs.Table.{State}
-use Rattle.hs_ring.specs.declared.board.TheConstants.{PUBLISHED}
+use Rattle.hs_base.specs.declared.limits.TheConstants.{MOST_AHEAD, MOST_DRAWS}
 use Rattle.hs_words.specs.Chunks.{Contents, clear_chunk}
 use Rattle.hs_words.specs.PoolHistory.{is_missed, is_empty, IsHistoryBack}
 use Rattle.hs_words.specs.Ends.{Deed, got_by, events_of, drawn_in, given_in, answers_by, answers_in, told_in, IsDraw, IsGot, NoneSince, EachSpends, EachUnread, AreAnswers, queue_of}
@@ -16,7 +17,8 @@ use Rattle.hs_words.specs.Plans.{total, Plan, Within}
 use Rattle.hs_words.specs.Seats.{AtSeat}
 use Rattle.hs_words.specs.Spots.{Spot, in_queue, with_drawer, leased, with_giver, HasLease}
 use Rattle.hs_ring.specs.Parts.{GivesInTurn}
-use Rattle.hs_ring.specs.Views.{DrawerSeat, Hand, nothing, drew, kept, GiverSeat, Palm, bare, holds, lays, retakes, View, nobody, drawing, leasing, giving, drawer_note, giver_note, all_left, Has}
+use Rattle.hs_ring.specs.Steps.{packed}
+use Rattle.hs_ring.specs.Views.{DrawerSeat, Hand, nothing, drew, kept, GiverSeat, Palm, bare, holds, lays, retakes, View, nobody, drawing, leasing, giving, drawer_note, giver_note, all_left, all_most, Has}
 
 -- an entry is free; or it holds a number whose buffer waits, or was drawn by a drawer that has not collected it; or the
 -- giver has laid it. Where it was drawn or laid, its slot is with that end's seat.
@@ -106,6 +108,7 @@ module _ (plan : Plan) (f : Facts) (j : ℕ) where
     pub active : desk.number < f.opened
     pub seat : f.seats desk.number ≡ j
     pub hand_is : f.hands desk.number ≡ hand
+    pub within : desk.left ≤ desk.most
     pub answers : desk.answers ≡ answers_by (suc desk.number) f.log
     pub floor : desk.floor ≤ length f.log
 
@@ -130,6 +133,15 @@ module _ (plan : Plan) (f : Facts) (j : ℕ) where
   Knows (drawer_note floor stamps) = (floor ≤ length f.log) × AllByRecursion (IsSettled f.log f.hands) stamps
   Knows (giver_note floor) = floor ≤ length f.log
 
+-- ---- allowances
+
+-- What the drawers may still draw fits: with it, the numbers drawn are ahead of those published by no more than the lead has room
+-- for, and come to no more than a pool's life has.
+pub record Allowed (plan : Plan) (log : List Deed) (views : List View) : Type 0 where
+  pub ahead : all_left views + drawn_in log ≤ published plan.buffers log + MOST_AHEAD
+  pub life : all_left views + drawn_in log ≤ MOST_DRAWS
+  pub most : all_most views ≤ total plan.allowances
+
 -- ---- the whole
 
 pub record Kept (plan : Plan) (s : State (Option Contents) View) (f : Facts) : Type 0 where
@@ -137,7 +149,7 @@ pub record Kept (plan : Plan) (s : State (Option Contents) View) (f : Facts) : T
   pub homes : length s.homes ≡ 2 * plan.buffers
   pub words : length s.words ≡ suc (2 * plan.buffers)
   -- the counts, in one word
-  pub counts : slice_index s.words 0 ≡ published plan.buffers f.log * PUBLISHED + drawn_in f.log
+  pub counts : slice_index s.words 0 ≡ packed (published plan.buffers f.log) (drawn_in f.log)
   pub lawful : IsHistoryBack plan.buffers (events_of f.log)
   pub spent : EachSpends f.log
   -- the misses, and the void numbers that were not published, are the empty draws
@@ -149,7 +161,7 @@ pub record Kept (plan : Plan) (s : State (Option Contents) View) (f : Facts) : T
   pub each_hand : (drawer : ℕ) → HandOk plan.buffers f.log f.cells f.spots drawer (f.hands drawer)
   pub in_palm : PalmOk plan.buffers f.log f.cells f.spots f.palm
   pub each_spot : (buffer : ℕ) → buffer < plan.buffers → SpotOk plan.buffers f.cells f.seats f.giver s.views buffer (f.spots buffer)
-  pub left : all_left s.views + drawn_in f.log ≤ total plan.allowances
+  pub allowed : Allowed plan f.log s.views
   pub by_giver : length (answers_by 0 f.log) ≡ given_in f.log
   pub all_made : AllByRecursion (λ (deed : Deed). deed.by ≤ f.made) f.log
   pub still_open : f.opened ≤ f.made

@@ -159,6 +159,7 @@ drawing_of table buffers desk =
       buffers = buffers;
       size = desk.size;
       number = desk.number;
+      most = desk.most;
       left = desk.left;
       floor = desk.floor;
       answers = desk.answers;
@@ -167,10 +168,11 @@ drawing_of table buffers desk =
 abbrev pub IsIdle : PoolSeat → Type 0
 IsIdle s = s.me ≡ (drawing (drawer_seat_of s.me.0) nothing, [])
 
-pub record IsDrawerSeat (table : TableId) (s : PoolSeat) (buffers left : ℕ) : Type 0 where
+pub record IsDrawerSeat (table : TableId) (s : PoolSeat) (buffers most left : ℕ) : Type 0 where
   pub at : IsSeatAt table s
   pub idle : IsIdle s
   pub halves : 2 * buffers ≡ table.slots
+  pub most_is : most ≡ (drawer_seat_of s.me.0).most
   pub left_is : left ≡ (drawer_seat_of s.me.0).left
   pub above : AllBelow (drawer_seat_of s.me.0).floor (drawer_seat_of s.me.0).answers
 

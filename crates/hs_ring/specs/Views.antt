@@ -1,6 +1,6 @@
--- What each seat at the ring's table knows, and how a step changes it. A drawer's seat knows its number, what its allowance
--- has left, its floor, which is above every stamp that it knows, and its answers. The giver's seat knows its turns beside
--- its floor. A lease is a seat of its own, and so is a note that one end hands to another when they meet.
+-- What each seat at the ring's table knows, and how a step changes it. A drawer's seat knows its number, its whole
+-- allowance and what that has left, its floor, which is above every stamp that it knows, and its answers. The giver's seat knows
+-- its turns beside its floor. A lease is a seat of its own, and so is a note that one end hands to another when they meet.
 use Rattle.std.specs.Prelude.{◌≡◌, ℕ, suc, ◌+◌, ◌-◌, List, [], ◌∷◌, max}
 use Rattle.hs_words.specs.PoolHistory.{PoolEvent, Got, Empty, Given, Missed}
 use Rattle.hs_words.specs.Ends.{Answer, GiverTurn, answered, unread, met, stamps_in}
@@ -9,6 +9,7 @@ use Rattle.hs_words.specs.Plans.{first_of, rest_of, total}
 pub record DrawerSeat : Type 0 where
   pub size : ℕ
   pub number : ℕ
+  pub most : ℕ
   pub left : ℕ
   pub floor : ℕ
   pub answers : List Answer
@@ -48,7 +49,7 @@ pub data View : Type 0 where
 
 abbrev pub drawer_seat_of : View → DrawerSeat
 drawer_seat_of (drawing desk hand) = desk
-drawer_seat_of _ = record { size = 0; number = 0; left = 0; floor = 0; answers = [] }
+drawer_seat_of _ = record { size = 0; number = 0; most = 0; left = 0; floor = 0; answers = [] }
 
 abbrev pub giver_seat_of : View → GiverSeat
 giver_seat_of (giving post palm) = post
@@ -70,6 +71,7 @@ drawer_seat_after desk stamp event =
     record {
       size = desk.size;
       number = desk.number;
+      most = desk.most;
       left = desk.left - 1;
       floor = suc stamp;
       answers = record { stamp = stamp; event = event; draw = 0 } ∷ desk.answers;
@@ -90,6 +92,15 @@ keeping hand = hand
 abbrev pub having_collected : View → View
 having_collected (drawing desk hand) = drawing desk (keeping hand)
 having_collected view = view
+
+-- ---- a look that makes an allowance whole again
+
+abbrev pub refilled_seat : DrawerSeat → DrawerSeat
+refilled_seat desk = record { size = desk.size; number = desk.number; most = desk.most; left = desk.most; floor = desk.floor; answers = desk.answers }
+
+abbrev pub having_refilled : View → View
+having_refilled (drawing desk hand) = drawing (refilled_seat desk) hand
+having_refilled view = view
 
 -- ---- leases are split off and joined
 
@@ -227,7 +238,7 @@ note_of (giving post palm) = giver_note post.floor
 note_of view = nobody
 
 abbrev pub having_heard : View → View → View
-having_heard (drawing desk hand) (giver_note floor) = drawing (record { size = desk.size; number = desk.number; left = desk.left; floor = max desk.floor floor; answers = desk.answers }) hand
+having_heard (drawing desk hand) (giver_note floor) = drawing (record { size = desk.size; number = desk.number; most = desk.most; left = desk.left; floor = max desk.floor floor; answers = desk.answers }) hand
 having_heard (giving post palm) (drawer_note floor stamps) = giving (giver_seat_after post (met stamps) (max post.floor floor) post.misses) palm
 having_heard view note = view
 
@@ -247,7 +258,7 @@ with_drawer (giving post palm) =
 with_drawer view = view
 
 abbrev pub new_drawer : View → View
-new_drawer (giving post palm) = drawing (record { size = post.size; number = post.made; left = first_of post.spare; floor = 0; answers = [] }) nothing
+new_drawer (giving post palm) = drawing (record { size = post.size; number = post.made; most = first_of post.spare; left = first_of post.spare; floor = 0; answers = [] }) nothing
 new_drawer view = nobody
 
 abbrev pub having_closed : View → View → View
@@ -274,3 +285,13 @@ left_in view = 0
 abbrev pub all_left : List View → ℕ
 all_left [] = 0
 all_left (view ∷ views) = left_in view + all_left views
+
+-- its whole allowance, and what it hands out
+abbrev pub most_in : View → ℕ
+most_in (drawing desk hand) = desk.most
+most_in (giving post palm) = total post.spare
+most_in view = 0
+
+abbrev pub all_most : List View → ℕ
+all_most [] = 0
+all_most (view ∷ views) = most_in view + all_most views

@@ -1,7 +1,8 @@
 //! The table that all ends of a ring share, and what each seat at it knows.
 //!
-//! Word 0 has the two counts, 2^32 times the number published and the number drawn. Word e + 1 is 0, or one more than
-//! the number that was laid at entry e. Slot e holds the chunk of that number.
+//! Word 0 has the two counts: 2^24 times the number drawn, and the lead of the number published over it, with 2^23 added. So
+//! the lead has room for void numbers, which were drawn and not published. Word e + 1 is 0, or one more than the number that was
+//! laid at entry e. Slot e holds the chunk of that number.
 
 use atomic_table::{Seat, Shared, Table, TableRule};
 use hs_words::Chunk;
@@ -9,8 +10,17 @@ use std::alloc::Global;
 use std::marker::Model;
 use std::snapshot::Snapshot;
 
-/// One published number, in word 0.
-pub const PUBLISHED: u64 = 1 << 32;
+/// One drawn number, in word 0, where the lead stands below it.
+pub const DRAWN: u64 = 1 << 24;
+
+/// The lead where as many numbers were published as were drawn.
+pub const LEVEL: u64 = 1 << 23;
+
+/// What a draw adds to word 0: one drawn number, and the lead is one less.
+pub const ONE_DRAW: u64 = (1 << 24) - 1;
+
+/// What a give adds to word 0: the lead is one more.
+pub const ONE_GIVE: u64 = 1;
 
 /// How many chunks a pool has, the first of them, which has the size of all, and the allowance of each drawer.
 #[derive(Drop)]

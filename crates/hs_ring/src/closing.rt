@@ -31,6 +31,7 @@ fn close_drawers(entries: &Entries, place: &mut Place, mut drawers: List<Drawer>
         let Drawer {
             board: _,
             place: seat,
+            most: _,
             left: _,
             buffers: _,
         } = drawer;

@@ -1,8 +1,8 @@
 //! The two counts that stand in one word.
-ghost use Rattle.std.specs.Prelude.{◌≡◌, ◌+◌, ◌*◌, ◌%◌, ◌<◌, ◌≤◌};
+ghost use Rattle.std.specs.Prelude.{◌≡◌, ◌+◌, ◌*◌, ◌%◌, ◌^◌, ◌<◌, ◌≤◌};
 ghost use Rattle.hs_ring.specs.Steps.{drawn_of, published_of};
 
-use crate::board::PUBLISHED;
+use crate::board::{DRAWN, LEVEL};
 
 /// How many numbers were drawn and how many were published, as one step found them.
 #[derive(Clone, Copy)]
@@ -17,16 +17,17 @@ impl Counts {
         ensures drawn { result.drawn ≡ drawn_of word }
         ensures published { result.published ≡ published_of word }
     {
+        let drawn = word / DRAWN;
         Counts {
-            drawn: word % PUBLISHED,
-            published: word / PUBLISHED,
+            drawn,
+            published: (drawn + word % DRAWN).saturating_sub(LEVEL),
         }
     }
 
     /// The stamp of the event of that step, in a pool of so many buffers.
     pub fn stamp(self, buffers: u32) -> u64
         requires low { buffers ≤ self.drawn + self.published }
-        requires high { self.drawn + self.published < 8589934592 }
+        requires high { self.drawn + self.published < 2 ^ 42 }
         ensures { result + buffers ≡ self.drawn + self.published }
     {
         self.drawn + self.published - u64::from(buffers)

@@ -1,6 +1,6 @@
 //! What each step on the table tells its caller. These types are for the proofs alone.
 ghost use Rattle.hs_ring.specs.Views.{nobody, same, note_of, lease_of, without_lease, with_lease, having_heard, with_drawer, new_drawer, having_closed};
-ghost use Rattle.hs_ring.specs.Steps.{did_draw, did_collect, did_lay, did_publish, did_retake, did_look};
+ghost use Rattle.hs_ring.specs.Steps.{did_draw, did_collect, did_lay, did_publish, did_retake, did_refill, did_look};
 
 use crate::board::View;
 use atomic_table::{Join, Play, Split};
@@ -39,6 +39,13 @@ pub struct Retake;
 
 impl Play<Option<Chunk>, View> for Retake {
     ghost then = { did_retake };
+}
+
+/// A drawer looks at the counts, and its allowance is whole again or stays.
+pub struct Refill;
+
+impl Play<Option<Chunk>, View> for Refill {
+    ghost then = { did_refill };
 }
 
 /// The giver looks at the counts when all drawers were closed.

@@ -1,14 +1,14 @@
 //! How a ring is made.
 ghost use Rattle.std.specs.Prelude.{◌≡◌, ℕ, ◌+◌, ◌*◌, ◌^◌, ◌≤◌, ◌<◌, [], length, sum, IfOk};
 ghost use Rattle.std.specs.Arc.{arc_value};
-ghost use Rattle.hs_base.specs.declared.limits.TheConstants.{MOST_BUFFERS, MOST_DRAWS};
+ghost use Rattle.hs_base.specs.declared.limits.TheConstants.{MOST_BUFFERS, MOST_AHEAD};
 ghost use Rattle.hs_words.specs.Chunks.{clear_chunks};
 ghost use Rattle.hs_ring.specs.Views.{giver_seat_of};
 ghost use Rattle.hs_ring.specs.Parts.{AreNewEnds, new_drawers};
 ghost use Rattle.hs_ring.specs.Seats.{IsSeatAt, name_of};
 ghost use Rattle.hs_ring.specs.Making.{first_words, first_slots, IsMaking};
 
-use crate::board::{Board, PUBLISHED, Place, Plan};
+use crate::board::{Board, LEVEL, Place, Plan};
 use crate::drawer::Drawer;
 use crate::giver::Giver;
 use crate::plays::MakeDrawer;
@@ -28,7 +28,7 @@ fn words_of(alloc: Global, buffers: u32) -> Result<Vec<u64>, Memory>
     ensures { IfOk result (λ words. words.items ≡ first_words buffers) }
 {
     let mut words = Vec::with_capacity(alloc, 2 * buffers as usize + 1)?;
-    words.push_reserved(u64::from(buffers) * PUBLISHED);
+    words.push_reserved(u64::from(buffers) + LEVEL);
     for number in 0..buffers {
         words.push_reserved(u64::from(number) + 1);
     }
@@ -63,7 +63,7 @@ fn table_of(
     requires some { 1 ≤ length chunks.items }
     requires few { length chunks.items ≤ MOST_BUFFERS }
     requires clear { (size : ℕ) × (chunks.items ≡ clear_chunks (length chunks.items) size) }
-    requires draws { sum allowances.now ≤ MOST_DRAWS }
+    requires draws { sum allowances.now ≤ MOST_AHEAD }
     ensures { (size : ℕ) → chunks.items ≡ clear_chunks (length chunks.items) size
         → IfOk result (λ made. IsMaking made.0.shared.table_id made.1 size 0 allowances.now × (made.0.shared.table_id.slots ≡ 2 * length chunks.items)) }
 {
@@ -104,6 +104,7 @@ fn drawers_of(
         drawers.push(Drawer {
             board: shared,
             place: seat,
+            most: *left,
             left: *left,
             buffers,
         });
@@ -124,7 +125,7 @@ impl RingPool {
         requires few { length chunks.items ≤ MOST_BUFFERS }
         requires clear { (size : ℕ) × (chunks.items ≡ clear_chunks (length chunks.items) size) }
         requires drawers { 1 ≤ length allowances.now }
-        requires draws { sum allowances.now ≤ MOST_DRAWS }
+        requires draws { sum allowances.now ≤ MOST_AHEAD }
         ensures { (size : ℕ) → chunks.items ≡ clear_chunks (length chunks.items) size
             → IfOk result (λ made. AreNewEnds (length chunks.items) size allowances.now made.0 made.1.items) }
     {

@@ -6,7 +6,7 @@ ghost use Rattle.hs_ring.specs.Views.{having_collected, having_laid, having_unre
 ghost use Rattle.hs_ring.specs.Steps.{did_draw, did_publish};
 ghost use Rattle.hs_ring.specs.Seats.{IsSeatAt, IsSameSeat, CanDraw, CanCollect, CanLease, CanTake, IsLease, CanLay, CanPublish, CanRetake};
 
-use crate::board::{Entries, PUBLISHED, Place};
+use crate::board::{Entries, ONE_DRAW, ONE_GIVE, Place};
 use crate::plays::{Collect, DrawNumber, Lay, MakeLease, Publish, Retake, TakeLease};
 use hs_words::Chunk;
 
@@ -15,9 +15,9 @@ pub fn draw_number(entries: &Entries, place: &mut Place) -> u64
     requires seat { IsSeatAt entries.now.table_id place.old }
     requires can { CanDraw place.old.me.0 }
     ensures seat { IsSameSeat place.old place.new }
-    ensures did { did_draw (step entries.now.table_id.slots 0 1 0 none) place.old.me result place.new.me }
+    ensures did { did_draw (step entries.now.table_id.slots 0 ONE_DRAW 0 none) place.old.me result place.new.me }
 {
-    entries.fetch_add::<DrawNumber>(place, 0, 1)
+    entries.fetch_add::<DrawNumber>(place, 0, ONE_DRAW)
 }
 
 /// Takes the chunk of a number that was drawn out of its entry.
@@ -81,13 +81,13 @@ pub fn publish(entries: &Entries, place: &mut Place, entry: usize, chunk: Chunk)
     requires can { (number : ℕ) × CanPublish entries.now.table_id.slots number chunk place.old.me.0 × (entry ≡ number % entries.now.table_id.slots) }
     requires slot { place.old.me.1 ≡ (entry, None) ∷ [] }
     ensures seat { IsSameSeat place.old place.new }
-    ensures did { did_publish (step entries.now.table_id.slots 0 PUBLISHED 0 none) (place.old.me.0, (entry, Some chunk) ∷ []) result place.new.me }
+    ensures did { did_publish (step entries.now.table_id.slots 0 ONE_GIVE 0 none) (place.old.me.0, (entry, Some chunk) ∷ []) result place.new.me }
 {
     match entries.exchange(place, entry, Some(chunk)) {
         None => {}
         Some(_) => unreachable!(),
     }
-    entries.fetch_add::<Publish>(place, 0, PUBLISHED)
+    entries.fetch_add::<Publish>(place, 0, ONE_GIVE)
 }
 
 /// Takes the chunk out of the entry again, whose number was void.

@@ -1,6 +1,6 @@
 -- What a pool between threads is made with: its buffers, and for each drawer how often it may draw.
 use Rattle.std.specs.Prelude.{ℕ, ◌+◌, ◌≤◌, List, [], ◌∷◌}
-use Rattle.hs_base.specs.declared.limits.TheConstants.{MOST_BUFFERS, MOST_DRAWS}
+use Rattle.hs_base.specs.declared.limits.TheConstants.{MOST_BUFFERS, MOST_AHEAD}
 
 -- how many buffers there are, their size, and the allowances of the drawers
 pub record Plan : Type 0 where
@@ -27,4 +27,4 @@ total (x ∷ xs) = x + total xs
 pub record Within (plan : Plan) : Type 0 where
   pub some_there : 1 ≤ plan.buffers
   pub few : plan.buffers ≤ MOST_BUFFERS
-  pub draws : total plan.allowances ≤ MOST_DRAWS
+  pub draws : total plan.allowances ≤ MOST_AHEAD

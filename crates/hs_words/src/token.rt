@@ -6,7 +6,7 @@ ghost use Rattle.hs_words.specs.Pools.{PoolName};
 use crate::chunk::Chunk;
 
 /// The most numbers that a giver publishes. Each answer with a stamp publishes one, and so does each buffer that a pool begins with.
-pub const MAX_PUBLISHED: u64 = 4_294_967_296;
+pub const MAX_PUBLISHED: u64 = 1_099_511_693_311;
 
 /// The right to write one chunk, which whoever has the token has. It can only be handed on, so it has no calls.
 pub trait Token: Drop {

@@ -1,5 +1,5 @@
 use Rattle.std.proofs.Common.{◌≡◌, ℕ, ◌≤◌, List, length, sym, ap, ◌∙◌, arith}
-use Rattle.hs_ring.proofs.Prelude.{sum, MOST_DRAWS, Contents, clear_chunks}
+use Rattle.hs_ring.proofs.Prelude.{sum, MOST_AHEAD, Contents, clear_chunks}
 use Rattle.hs_ring.proofs.Making.{new_ring, first_size, new_making}
 use Rattle.hs_ring.proofs.pool.table_of.Goals as goal
 
@@ -7,7 +7,7 @@ pub new-requires : goal.new-requires
 new-requires c =
     let size : c.of.result.value.size ≡ c.requires.clear.0 =
     ap (λ (x : Contents). x.size) c.of.ensures ∙ first_size c.args.chunks.items c.requires.clear.0 c.in-Some.first.now c.requires.clear.1 c.requires.some c.in-Some.ensures in
-    let draws : sum c.in_ok-from_slice.field-0.items ≤ MOST_DRAWS = omega (arith, ap (λ (l : List ℕ). sum l) c.in_ok-from_slice.ensures.items, c.requires.draws) in
+    let draws : sum c.in_ok-from_slice.field-0.items ≤ MOST_AHEAD = omega (arith, ap (λ (l : List ℕ). sum l) c.in_ok-from_slice.ensures.items, c.requires.draws) in
     new_ring _ _ _ c.args.chunks.items c.requires.some c.requires.few c.len-buffers.ensures draws (c.requires.clear.1 ∙ ap (clear_chunks (length c.args.chunks.items)) (sym size))
     (c.as_slice.ensures.value ∙ c.in_ok-words.ensures) c.in_ok-slots.ensures
 

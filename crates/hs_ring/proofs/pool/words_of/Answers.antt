@@ -1,5 +1,5 @@
-use Rattle.std.proofs.Common.{ℕ, ◌*◌, List, ◌∷◌, ◌++◌, length, sym, ap, ap₂, ◌∙◌, [], arith, replicate, length-append}
-use Rattle.hs_ring.proofs.Prelude.{length-replicate, range_with_len, length-range_with_len, PUBLISHED}
+use Rattle.std.proofs.Common.{ℕ, ◌+◌, List, ◌∷◌, ◌++◌, length, sym, ap, ap₂, ◌∙◌, [], arith, replicate, length-append}
+use Rattle.hs_ring.proofs.Prelude.{length-replicate, range_with_len, length-range_with_len, LEVEL}
 use Rattle.hs_ring.proofs.Making.{range_and}
 use Rattle.hs_ring.proofs.pool.words_of.Goals as goal
 
@@ -11,7 +11,7 @@ pub loop-number-preserved : goal.loop-number-preserved
 loop-number-preserved c = (
   c.push_reserved-in-loop-number.ensures.items
       ∙ ap₂ (λ (l : List ℕ) (x : ℕ). l ++ x ∷ []) c.loop-number.invariant.0 (omega (arith, c.from-in-loop-number.ensures))
-      ∙ ap (λ (l : List ℕ). c.args.buffers * PUBLISHED ∷ l) (sym (range_and 1 c.loop-number.number)),
+      ∙ ap (λ (l : List ℕ). (c.args.buffers + LEVEL) ∷ l) (sym (range_and 1 c.loop-number.number)),
   c.push_reserved-in-loop-number.ensures.capacity ∙ c.loop-number.invariant.1,
 )
 
