@@ -1,6 +1,6 @@
 -- The table of a new locked pool is as the rule wants it, and so are its drawers.
 use Rattle.std.proofs.Common.{◌≡◌, ℕ, suc, ◌+◌, ◌≤◌, List, [], ◌∷◌, ◌++◌, length, map, refl, sym, ap, ap₂, ◌∙◌, subst, arith, add-one}
-use Rattle.hs_locked.proofs.Prelude.{sum, AllByRecursion, range_with_len, opening, Splits, TableId, MOST_DRAWS, Contents, clear_chunks, PoolName, Tally, Plan, Within, IsAfter, Drawing, new_drawers, name_of, IsSameSeat, Store, GiverSeat, bare, away, giving, drawer_seat_of, giver_seat_of, new_drawer, StoreOk, LockedRule, first_giver_seat, first_view, PoolSeat, IsFree, drawing_of, IsMaking}
+use Rattle.hs_locked.proofs.Prelude.{sum, AllByRecursion, range_with_len, opening, Splits, TableId, MOST_AHEAD, Contents, clear_chunks, PoolName, Tally, Plan, Within, IsAfter, Drawing, new_drawers, name_of, IsSameSeat, Store, GiverSeat, bare, away, giving, drawer_seat_of, giver_seat_of, new_drawer, StoreOk, LockedRule, first_giver_seat, first_view, PoolSeat, IsFree, drawing_of, IsMaking}
 use Rattle.hs_base.specs.declared.limits.TheConstants.{MOST_BUFFERS}
 use Rattle.hs_words.specs.Chunks.{clear_chunk}
 use Rattle.hs_words.proofs.Plans.{total_is_sum}
@@ -36,7 +36,7 @@ pub record IsNew (chunks : List Contents) (store : Store) : Type 0 where
   pub tally : store.tally ≡ no_tally
 
 -- A new table keeps the rule.
-pub new_locked : (plan : Plan) (words : List ℕ) (slots : List Store) (store : Store) (chunks : List Contents) → 1 ≤ length chunks → length chunks ≤ MOST_BUFFERS → plan.buffers ≡ length chunks → sum plan.allowances ≤ MOST_DRAWS
+pub new_locked : (plan : Plan) (words : List ℕ) (slots : List Store) (store : Store) (chunks : List Contents) → 1 ≤ length chunks → length chunks ≤ MOST_BUFFERS → plan.buffers ≡ length chunks → sum plan.allowances ≤ MOST_AHEAD
     → chunks ≡ clear_chunks (length chunks) plan.size → IsNew chunks store → words ≡ 0 ∷ 0 ∷ [] → slots ≡ store ∷ [] → LockedRule plan (opening words slots (first_view plan))
 new_locked plan words slots store chunks some_there few buffers draws clear new words_are slots_are =
     let within : Within plan = record { some_there = omega arith; few = omega arith; draws = (let t = total_is_sum plan.allowances in omega arith) } in
@@ -70,7 +70,7 @@ new_making table s plan buffers size allowances at words slots me buffers_are si
 -- ---- drawers
 
 abbrev pub new_drawer_of : PoolName → ℕ → ℕ → ℕ → ℕ → Drawing
-new_drawer_of pool buffers size number left = record { pool = pool; buffers = buffers; size = size; number = number; left = left; floor = 0; answers = [] }
+new_drawer_of pool buffers size number left = record { pool = pool; buffers = buffers; size = size; number = number; most = left; left = left; floor = 0; answers = [] }
 
 pub new_drawers_and : (pool : PoolName) (buffers size number : ℕ) (lefts : List ℕ) (left : ℕ)
     → new_drawers pool buffers size number (lefts ++ left ∷ []) ≡ new_drawers pool buffers size number lefts ++ new_drawer_of pool buffers size (number + length lefts) left ∷ []

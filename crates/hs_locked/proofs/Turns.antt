@@ -1,6 +1,6 @@
 -- A ticket is taken, and its turn comes; the giver takes the store at the end.
 use Rattle.std.proofs.Common.{◌≡◌, ◌≢◌, ℕ, zero, suc, ◌+◌, ◌*◌, ◌%◌, ◌<◌, ◌≤◌, Bool, true, false, ◌==◌, ◌||◌, List, [], ◌∷◌, length, set, get_or, refl, sym, ap, ◌∙◌, subst, arith, mod-eq_of_lt, length-set, get_or-set_other, get_or-set_same}
-use Rattle.hs_locked.proofs.Prelude.{some, ℕ_discrete, get_elem?, step, stepped, Allows, set_here, MOST_DRAWS, Deed, AreAnswers, queue_of, all_of, total, Plan, in_queue, with_giver, HasLease, HasSize, waiting, now_with, still_with, Store, DrawerSeat, Hand, nothing, GiverSeat, bare, holds, Stand, away, queued, inside, closing, View, drawing, giving, Has, HasStore, left_in, all_left, Slot, home, out, Facts, SlotOk, StandOk, PalmOk, DeskOk, PostOk, Knows, Kept, LockedRule, did_take_ticket, did_look, did_close}
+use Rattle.hs_locked.proofs.Prelude.{some, ℕ_discrete, get_elem?, step, stepped, Allows, set_here, MOST_AHEAD, Deed, AreAnswers, queue_of, all_of, total, Plan, in_queue, with_giver, HasLease, HasSize, waiting, now_with, still_with, Store, DrawerSeat, Hand, nothing, GiverSeat, bare, holds, Stand, away, queued, inside, closing, View, drawing, giving, Has, HasStore, left_in, all_left, Slot, home, out, Facts, SlotOk, StandOk, PalmOk, DeskOk, PostOk, Knows, Kept, LockedRule, did_take_ticket, did_look, did_close}
 use mathlib.Core.Option as maybe
 use mathlib.Core.Logic.{dite}
 use borrow.Author.Tests.{eqb-true}
@@ -21,10 +21,10 @@ St = State Store View
 abbrev pub Held : Type 0
 Held = List (ℕ × Store)
 
-pub one_more : (n word : ℕ) → n ≤ 2 * MOST_DRAWS → word ≡ n → (word + 1) % 18446744073709551616 ≡ suc n
+pub one_more : (n word : ℕ) → n ≤ 2 * MOST_AHEAD → word ≡ n → (word + 1) % 18446744073709551616 ≡ suc n
 one_more n word small is = let below : word + 1 < 18446744073709551616 = omega arith in mod-eq_of_lt below ∙ (let e : word + 1 ≡ suc n = omega arith in e)
 
-pub few_tickets : (plan : Plan) (s : St) (f : Facts) → Kept plan s f → f.tickets ≤ 2 * MOST_DRAWS
+pub few_tickets : (plan : Plan) (s : St) (f : Facts) → Kept plan s f → f.tickets ≤ 2 * MOST_AHEAD
 few_tickets plan s f k = let left = k.left in let draws = k.within.draws in omega arith
 
 -- an end that has not the store stands otherwise

@@ -97,6 +97,7 @@ drawing_of table desk =
       buffers = desk.buffers;
       size = desk.size;
       number = desk.number;
+      most = desk.most;
       left = desk.left;
       floor = desk.floor;
       answers = desk.answers;

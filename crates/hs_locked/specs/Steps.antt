@@ -1,7 +1,7 @@
 -- What each step at the table of a locked pool tells the end that makes it: what it found, and how the seat's view goes on.
 use Rattle.std.specs.Prelude.{◌≡◌, ◌≢◌, ℕ, ◌*◌, ◌<◌, ◌≤◌, List, ◌∷◌}
 use Rattle.atomic_table.specs.Table.{Me, Step, rest}
-use Rattle.hs_base.specs.declared.limits.TheConstants.{MOST_DRAWS}
+use Rattle.hs_base.specs.declared.limits.TheConstants.{MOST_AHEAD}
 use Rattle.hs_words.specs.Ends.{Deed, IsTogether, Counts}
 use Rattle.hs_pool.specs.Pool.{HasSize, IsOut}
 use Rattle.hs_locked.specs.declared.store.Store.{Store}
@@ -28,7 +28,7 @@ Fits store (giver_note floor) = Unit {0}
 pub record Finds (view : View) (store : Store) : Type 0 where
   pub sized : HasSize (size_of view) store.pool
   pub floor : floor_of view ≤ store.pool.events
-  pub few : store.pool.events ≤ 2 * MOST_DRAWS
+  pub few : store.pool.events ≤ 2 * MOST_AHEAD
   pub counted : IsCounted store
   pub fits : Fits store view
 

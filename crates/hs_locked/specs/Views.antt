@@ -13,6 +13,7 @@ pub record DrawerSeat : Type 0 where
   pub buffers : ℕ
   pub size : ℕ
   pub number : ℕ
+  pub most : ℕ
   pub left : ℕ
   pub floor : ℕ
   pub answers : List Answer
@@ -57,7 +58,7 @@ pub data View : Type 0 where
 
 abbrev pub drawer_seat_of : View → DrawerSeat
 drawer_seat_of (drawing desk hand stand) = desk
-drawer_seat_of _ = record { buffers = 0; size = 0; number = 0; left = 0; floor = 0; answers = [] }
+drawer_seat_of _ = record { buffers = 0; size = 0; number = 0; most = 0; left = 0; floor = 0; answers = [] }
 
 abbrev pub giver_seat_of : View → GiverSeat
 giver_seat_of (giving post palm stand) = post
@@ -158,6 +159,7 @@ drawer_seat_after desk stamp event =
       buffers = desk.buffers;
       size = desk.size;
       number = desk.number;
+      most = desk.most;
       left = desk.left - 1;
       floor = suc stamp;
       answers = record { stamp = stamp; event = event; draw = 0 } ∷ desk.answers;
@@ -232,7 +234,7 @@ note_of (giving post palm stand) = giver_note post.floor
 note_of view = nobody
 
 abbrev pub with_floor : DrawerSeat → ℕ → DrawerSeat
-with_floor desk floor = record { buffers = desk.buffers; size = desk.size; number = desk.number; left = desk.left; floor = floor; answers = desk.answers }
+with_floor desk floor = record { buffers = desk.buffers; size = desk.size; number = desk.number; most = desk.most; left = desk.left; floor = floor; answers = desk.answers }
 
 abbrev pub having_heard : View → View → View
 having_heard (drawing desk hand stand) (giver_note floor) = drawing (with_floor desk (max desk.floor floor)) hand stand
@@ -256,7 +258,7 @@ with_drawer view = view
 
 abbrev pub new_drawer : View → View
 new_drawer (giving post palm stand) =
-    drawing (record { buffers = post.buffers; size = post.size; number = post.made; left = first_of post.spare; floor = 0; answers = [] }) nothing away
+    drawing (record { buffers = post.buffers; size = post.size; number = post.made; most = first_of post.spare; left = first_of post.spare; floor = 0; answers = [] }) nothing away
 new_drawer view = nobody
 
 abbrev pub having_closed : View → View → View

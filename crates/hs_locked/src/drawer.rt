@@ -14,8 +14,9 @@ use std::sync::{Arc, Wait};
 
 /// An end of a locked pool that draws. It can move to another thread.
 ///
-/// Contracts see it as they see a ring's: its pool, how many chunks that has and their size, its own number, what its
-/// allowance has left, its floor, and its answers, of which the last stands first.
+/// Contracts see it as they see a ring's: its pool, how many chunks that has and their size, its own number, its
+/// whole allowance and what that has left, its floor, and its answers, of which the last stands first. No call makes an allowance
+/// whole again.
 #[derive(Drop)]
 pub struct LockedDrawer {
     pub(crate) lock: Arc<TicketLock>,

@@ -1,7 +1,7 @@
 //! How a locked pool is made.
 ghost use Rattle.std.specs.Prelude.{◌≡◌, ℕ, ◌≤◌, [], length, sum, IfOk};
 ghost use Rattle.std.specs.Arc.{arc_value};
-ghost use Rattle.hs_base.specs.declared.limits.TheConstants.{MOST_BUFFERS, MOST_DRAWS};
+ghost use Rattle.hs_base.specs.declared.limits.TheConstants.{MOST_BUFFERS, MOST_AHEAD};
 ghost use Rattle.hs_words.specs.Chunks.{clear_chunks};
 ghost use Rattle.hs_ring.specs.Parts.{AreNewEnds, new_drawers};
 ghost use Rattle.hs_ring.specs.Seats.{name_of};
@@ -34,7 +34,7 @@ fn lock_of(
     requires some { 1 ≤ length chunks.items }
     requires few { length chunks.items ≤ MOST_BUFFERS }
     requires clear { (size : ℕ) × (chunks.items ≡ clear_chunks (length chunks.items) size) }
-    requires draws { sum allowances.now ≤ MOST_DRAWS }
+    requires draws { sum allowances.now ≤ MOST_AHEAD }
     ensures { (size : ℕ) → chunks.items ≡ clear_chunks (length chunks.items) size
         → IfOk result (λ made. IsMaking made.0.board.shared.table_id made.1 (length chunks.items) size 0 allowances.now) }
 {
@@ -100,7 +100,7 @@ impl LockedPool {
         requires few { length chunks.items ≤ MOST_BUFFERS }
         requires clear { (size : ℕ) × (chunks.items ≡ clear_chunks (length chunks.items) size) }
         requires drawers { 1 ≤ length allowances.now }
-        requires draws { sum allowances.now ≤ MOST_DRAWS }
+        requires draws { sum allowances.now ≤ MOST_AHEAD }
         ensures { (size : ℕ) → chunks.items ≡ clear_chunks (length chunks.items) size
             → IfOk result (λ made. AreNewEnds (length chunks.items) size allowances.now made.0 made.1.items) }
     {
