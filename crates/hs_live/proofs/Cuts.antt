@@ -1,11 +1,12 @@
 -- A client that has recorded some pieces of a payload, and has the rest of it still to record.
-use Rattle.std.proofs.Common.{◌≡◌, ℕ, suc, ◌+◌, ◌-◌, ◌<◌, ◌≤◌, List, [], ◌∷◌, ◌++◌, length, map, take, drop, Bool, Option, IsSome, refl, sym, ap, ap₂, ◌∙◌, arith, subst, append_assoc, length-append}
+use Rattle.std.proofs.Common.{◌≡◌, ℕ, suc, ◌+◌, ◌-◌, ◌<◌, ◌≤◌, List, [], ◌∷◌, ◌++◌, length, map, take, drop, Bool, true, false, Option, IsSome, refl, sym, ap, ap₂, ◌∙◌, arith, subst, append_assoc, length-append}
 use Rattle.hs_live.proofs.Prelude.{option_to_list_short, AllByRecursion, option_to_list, Piece, Segment, piece_limit, record_pieces, Drawn, PoolEvent, Got, Empty, Answer, Buffer, Core, after_step, closed, supplied, Outgoing, sent, Leased, Drawing, after_draw, Key, GoesOn, Made, Writing, IsSound, IsWriting, WritesPieces, DrawsAs}
 use Rattle.hs_base.specs.declared.limits.TheConstants.{MIN_SIZE}
 use Rattle.hs_records.specs.Records.{payload_pieces, piece_count, count_cuts}
 use Rattle.hs_records.proofs.Payloads.{AreCut}
 use Rattle.hs_words.specs.declared.token.Drawn.TheVariants as drawn
 use Rattle.hs_link.specs.Contents.{HasPlaces}
+use Rattle.hs_ring.specs.Parts.{Refills}
 use Rattle.hs_live.specs.Writing.{DrawsOn, IsDraw, IsDrawn, Spends}
 use Rattle.hs_live.proofs.Senders.{goes_trans, goes_same, places_left}
 use Rattle.hs_live.proofs.Steps.{piece_of}
@@ -66,6 +67,12 @@ drew_at old new stamp event draw is above =
 -- nothing was drawn
 pub draws_none : (drawer : Drawing) → DrawsOn drawer drawer
 draws_none drawer = record { pool = refl; buffers = refl; size = refl; number = refl; floor = omega arith; added = []; since = refl; above = tt; drawn = tt }
+
+-- nothing was drawn where the allowance was made whole, or stayed
+pub draws_refilled : (old new : Drawing) (is_whole : Bool) → Refills old is_whole new → DrawsOn old new
+draws_refilled old new true is =
+    subst (λ (d : Drawing). DrawsOn old d) (sym is) (record { pool = refl; buffers = refl; size = refl; number = refl; floor = omega arith; added = []; since = refl; above = tt; drawn = tt })
+draws_refilled old new false is = subst (λ (d : Drawing). DrawsOn old d) (sym is) (draws_none old)
 
 -- a page was drawn for
 pub draws_one : {g : _} (mark : ℕ) (old new : Drawing) (draw : Drawn Leased g) → DrawsAs mark old draw new → DrawsOn old new

@@ -1,5 +1,5 @@
 -- A client that has done some operations does one more.
-use Rattle.std.proofs.Common.{◌≡◌, ℕ, ◌+◌, Bool, false, List, [], ◌∷◌, ◌++◌, reverse, Option, Some, None, IsSome, refl, sym, ap, ap₂, ◌∙◌, subst, append_assoc, arith, ◌<◌}
+use Rattle.std.proofs.Common.{◌≡◌, ℕ, ◌+◌, Bool, true, false, List, [], ◌∷◌, ◌++◌, reverse, Option, Some, None, IsSome, refl, sym, ap, ap₂, ◌∙◌, subst, append_assoc, arith, ◌<◌}
 use Rattle.hs_live.proofs.Prelude.{append-nil, reverse-append, is_some, ClientId, TraceId, Crumb, Trigger, Operation, Begin, Point, End, Fire, Piece, Segment, numbered_of, record_pieces, segments_from, segments_of, Watch, HasSampled, Core, Current, Step, Began, after_step, AreSteps, IsBook, May, with_all, Outgoing, sent, Leased, trigger_in, Key, PlainClient, Made, new_of, Writing, IsWriting, WritesPieces, writing_of, HasDone, AreWatching, OneMore, Does, DoesNothing, made_of, Buffer}
 use Rattle.hs_base.specs.declared.ids.NodeId.{NodeId}
 use Rattle.hs_records.specs.Plain as plain
@@ -9,6 +9,8 @@ use Rattle.hs_client.proofs.Bare.{book_bare}
 use Rattle.hs_law_sends.specs.SoFar.{has_open_page}
 use Rattle.hs_law_sends.specs.Sending.{crumb_in, sent_crumbs, sent_triggers}
 use Rattle.hs_live.specs.Writing.{WritesEnd}
+use Rattle.hs_ring.specs.Parts.{Drawing, Refills}
+use Rattle.hs_live.proofs.Cuts.{draws_refilled}
 use Rattle.hs_law_sends.specs.OneMore.{next_behind, open_after, items_of}
 use Rattle.hs_law_sends.proofs.Adding.{page_more, at, unseen, begin_unseen, point_unseen, end_unseen, crumb_unseen, fire_unseen, begin_no_crumb, begin_no_trigger, point_no_crumb, point_no_trigger, end_no_crumb, end_no_trigger, coming_crumb, crumb_no_trigger, coming_fire, fire_no_crumb, trigger_of_fire}
 use Rattle.hs_law_sends.proofs.OneMore.{open_push}
@@ -226,6 +228,17 @@ nothing_done old new core autos answers pool size chunks crumbs triggers = λ ma
       autos = subst (λ (autos : List Watch). AreWatching made.autos (reverse (numbered_of (made.earlier ++ ops))) autos) (sym autos) h.autos;
       before = h.before;
     }
+
+-- the allowance of its draws was made whole, or stayed
+pub nothing_refilled : (old new : PlainClient) (is_whole : Bool) → new ≡ record old { drawer = new.drawer } → Refills old.drawer is_whole new.drawer → DoesNothing old new
+nothing_refilled old new is_whole only refills =
+    let draws = draws_refilled old.drawer new.drawer is_whole refills in
+    nothing_done old new (ap (λ (c : PlainClient). c.core) only) (ap (λ (c : PlainClient). c.autos) only) (answers is_whole refills) draws.pool draws.size (ap (λ (c : PlainClient). sent c.chunks) only)
+    (ap (λ (c : PlainClient). sent c.crumbs) only) (ap (λ (c : PlainClient). sent c.triggers) only)
+  where
+    answers : (is_whole : Bool) → Refills old.drawer is_whole new.drawer → new.drawer.answers ≡ old.drawer.answers
+    answers true is = ap (λ (d : Drawing). d.answers) is
+    answers false is = ap (λ (d : Drawing). d.answers) is
 
 -- ---- a new client
 

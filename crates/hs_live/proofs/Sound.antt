@@ -1,11 +1,11 @@
 -- What holds between calls holds after a page was supplied, too.
-use Rattle.std.proofs.Common.{◌≡◌, ℕ, ◌≤◌, Bool, List, length, Option, Some, None, IsSome, MatchOption, refl, sym, ap, ◌∙◌, subst, subst₂, arith}
+use Rattle.std.proofs.Common.{◌≡◌, ℕ, ◌≤◌, Bool, true, false, List, length, Option, Some, None, IsSome, MatchOption, refl, sym, ap, ◌∙◌, subst, subst₂, arith}
 use Rattle.hs_live.proofs.Prelude.{option_map, option_to_list, TraceId, Drawn, Contents, Buffer, buffer_of, Core, Current, after_step, closed, handed, supplied, Outgoing, sent, IsSameSender, Leased, Drawing, Key, GoesOn, Writing, IsSound, DrawsAs}
 use Rattle.std.specs.Option.{option_and_then}
 use Rattle.hs_words.specs.declared.token.Drawn.TheVariants as drawn
 use Rattle.hs_words.specs.Pages.{Piece}
 use Rattle.hs_client.specs.Core.{next_page, next_header, piece}
-use Rattle.hs_ring.specs.Parts.{with_floor}
+use Rattle.hs_ring.specs.Parts.{with_floor, refilled, Refills}
 use Rattle.hs_live.specs.Keys.{IsChunkOf}
 use Rattle.hs_live.specs.Writing.{IsNamed}
 
@@ -75,3 +75,11 @@ sound_met old drawer chunks floor taken s drawer_is chunks_are =
     let is : IsSound (record { core = old.core; drawer = with_floor old.drawer floor; chunks = heard }) =
     record { least = s.least; drawn = s.drawn; named = record { owner = s.named.owner; pool = s.named.pool; size = s.named.size }; ready = s.ready; held = s.held } in
     subst₂ (λ (d : Drawing) (c : Outgoing (Buffer Leased) Key). IsSound (record { core = old.core; drawer = d; chunks = c })) (sym drawer_is) (sym chunks_are) is
+
+-- after the allowance of its draws was made whole, or stayed
+pub sound_refilled : (old : Writing) (drawer : Drawing) (is_whole : Bool) → IsSound old → Refills old.drawer is_whole drawer → IsSound (record { core = old.core; drawer = drawer; chunks = old.chunks })
+sound_refilled old drawer true s is =
+    let there : IsSound (record { core = old.core; drawer = refilled old.drawer; chunks = old.chunks }) =
+    record { least = s.least; drawn = s.drawn; named = record { owner = s.named.owner; pool = s.named.pool; size = s.named.size }; ready = s.ready; held = s.held } in
+    subst (λ (d : Drawing). IsSound (record { core = old.core; drawer = d; chunks = old.chunks })) (sym is) there
+sound_refilled old drawer false s is = subst (λ (d : Drawing). IsSound (record { core = old.core; drawer = d; chunks = old.chunks })) (sym is) s

@@ -8,6 +8,7 @@ ghost use Rattle.hs_client.specs.Core.{is_null, after_step, Fits, NeedsPage, Wro
 ghost use Rattle.hs_client.specs.Calls.{May};
 ghost use Rattle.hs_base.specs.declared.limits.TheConstants.{FRAME_COST, MIN_SIZE, MAX_SIZE};
 ghost use Rattle.hs_link.specs.Contents.{sent, HasPlaces, TakesPlaces};
+ghost use Rattle.hs_ring.specs.Parts.{Refills};
 ghost use Rattle.hs_live.specs.declared.called.Called.TheVariants.{Done};
 ghost use Rattle.hs_live.specs.Keys.{IsTriggerOf};
 ghost use Rattle.hs_live.specs.Live.{outgoing, incoming, GoesOn, Sends, Flushes};
@@ -309,11 +310,29 @@ impl Client {
         self.writer.core.left()
     }
 
-    /// The draws that it may still make.
+    /// The draws that it may still make before its allowance is made whole again.
     pub fn draws_left(&self) -> u32
         ensures { result ≡ self.now.drawer.left }
     {
         self.writer.drawer.left()
+    }
+
+    /// The draws of its whole allowance.
+    pub fn draws_most(&self) -> u32
+        ensures { result ≡ self.now.drawer.most }
+    {
+        self.writer.drawer.most()
+    }
+
+    /// Makes the allowance of draws whole again, and answers whether it is. It is not where a void number of the pool stands out, which
+    /// a later give fills, or where the pool's life is at its end, and then nothing changes. It may be called in any state, is no
+    /// operation, and neither waits nor takes memory.
+    pub fn refill_draws(&mut self) -> bool
+        ensures draws { Refills self.old.drawer result self.new.drawer }
+        ensures only { self.new ≡ record self.old { drawer = self.new.drawer } }
+        ensures does { DoesNothing self.old self.new }
+    {
+        self.writer.drawer.refill()
     }
 
     /// How many chunks more may be sent, whatever the agent does.
