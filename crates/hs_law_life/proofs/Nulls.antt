@@ -195,16 +195,16 @@ noted_keeps : (trace : TraceId) (state : SegmentState) (place : Place) (notebook
 noted_keeps trace state place notebook notebook' counted tally (was_sent, notes, is) = ap (λ (t : Tally). t.past.null_pages) is ∙ note_keeps was_sent counted
 
 -- the sum behind a renewal, and where there was none
-at_begin : (b : Bool) (nulls draws : ℕ) (tally : Tally)
-    → (cond b (opened 0 draws (renewed nulls tally)) (opened nulls draws tally)).past.null_pages ≡ cond b (more tally.past.null_pages nulls) tally.past.null_pages
-at_begin true nulls draws tally = refl
-at_begin false nulls draws tally = refl
+at_begin : (b : Bool) (nulls pages : ℕ) (tally : Tally)
+    → (cond b (opened 0 0 (renewed nulls tally)) (opened nulls pages tally)).past.null_pages ≡ cond b (more tally.past.null_pages nulls) tally.past.null_pages
+at_begin true nulls pages tally = refl
+at_begin false nulls pages tally = refl
 
 sum_at_begin : (trace : TraceId) (old new : PlainNodeClient) → NotesIt trace Opened (place_in new.live.core) old.notebook (tally_at_begin old) new.notebook new.tally
     → new.tally.past.null_pages ≡ cond (nat_lt old.live.core.calls (2 * old.live.core.counted)) (more old.tally.past.null_pages (nulls_of old.live.core)) old.tally.past.null_pages
 sum_at_begin trace old new notes =
     noted_keeps trace Opened (place_in new.live.core) old.notebook new.notebook (tally_at_begin old) new.tally notes
-    ∙ at_begin (nat_lt old.live.core.calls (2 * old.live.core.counted)) (nulls_of old.live.core) old.live.drawer.left old.tally
+    ∙ at_begin (nat_lt old.live.core.calls (2 * old.live.core.counted)) (nulls_of old.live.core) (length old.live.core.pages) old.tally
 
 pub begins : Books → Sends → (trace : TraceId) (old new : PlainNodeClient) (life life' : ClientLife) → HasCounted life old → KeepsEnds old.live new.live → Turns old.live.core life life'
     → HasLife (with_op (Begin trace) life') new.live → NotesIt trace Opened (place_in new.live.core) old.notebook (tally_at_begin old) new.notebook new.tally → HasCounted (with_op (Begin trace) life') new
@@ -271,7 +271,7 @@ pub end_keeps : (old new : PlainNodeClient) → answers.EndsBy old.live called.D
 end_keeps old new some ends = go old.live.core.trace some ends
   where
     go : (o : Option TraceId) → IsSome o
-        → IfSome o (λ trace. NotesIt trace (Closed (segment_counts (nulls_of new.live.core) new.live.drawer.left old.tally)) (place_in new.live.core) old.notebook (closed old.tally) new.notebook new.tally)
+        → IfSome o (λ trace. NotesIt trace (Closed (segment_counts (nulls_of new.live.core) (length new.live.core.pages) old.tally)) (place_in new.live.core) old.notebook (closed old.tally) new.notebook new.tally)
         → KeepsNulls old new
     go None none notes = let never : false ≡ true = none in absurd cc
     go (Some trace) is notes = noted_keeps trace _ (place_in new.live.core) old.notebook new.notebook (closed old.tally) new.tally notes

@@ -5,7 +5,7 @@ use Rattle.std.proofs.lemmas.List.Folds.{sum_by-replicate}
 use Rattle.std.proofs.lemmas.Option.{same_Some, slice_get_within}
 use Rattle.std.specs.List.{AllByRecursion}
 use Rattle.std.specs.Prelude.{replicate, slice_get, sum}
-use Rattle.hs_base.specs.declared.limits.TheConstants.{MOST_DRAWS, MOST_CLIENTS}
+use Rattle.hs_base.specs.declared.limits.TheConstants.{MOST_AHEAD, MOST_CLIENTS}
 use Rattle.hs_link.specs.Contents.{Incoming, AreNewEnds, Outgoing}
 use Rattle.hs_lists.proofs.Places.{get_push_cases, get_front, get_there, item_there}
 use Rattle.hs_live.specs.Calls.{IsOf, IsPort}
@@ -24,7 +24,7 @@ all_same zero x = tt
 all_same (suc n) x = (refl, all_same n x)
 
 abbrev drawing : PoolName → (buffers size number left : ℕ) → Drawing
-drawing pool buffers size number left = record { pool = pool; buffers = buffers; size = size; number = number; left = left; floor = 0; answers = [] }
+drawing pool buffers size number left = record { pool = pool; buffers = buffers; size = size; number = number; most = left; left = left; floor = 0; answers = [] }
 
 drawer_at : (pool : PoolName) (buffers size number left : ℕ) (lefts : List ℕ) (place : ℕ) (drawer : Drawing) → AllByRecursion (λ y. y ≡ left) lefts
     → slice_get (new_drawers pool buffers size number lefts) place ≡ Some drawer → drawer ≡ drawing pool buffers size (number + place) left
@@ -160,7 +160,7 @@ is_port limits rules giver clients r are some few =
 
 -- ---- the shares of the draws
 
-pub shares_few : (clients : ℕ) → 1 ≤ clients → sum (shares clients) ≤ MOST_DRAWS
+pub shares_few : (clients : ℕ) → 1 ≤ clients → sum (shares clients) ≤ MOST_AHEAD
 shares_few clients some =
     let all = sum_by-replicate (λ n. n) clients (share clients) in
     omega (arith, some, all)

@@ -39,17 +39,17 @@ renewed_life old new calls only does (core ∷ cores) h =
     record { client = old; calls = calls; did = h.0; made = ap (λ (c : PlainClient). renewed_of core.made core.ops c) only } in
     (made, (does core.made core.ops h.0, (renewed, h.1)))
 
--- a begin after its core was renewed, or not
-pub begins_in : (trace : TraceId) (old mid : PlainNodeClient) (new : PlainClient) → TurnsInto old mid → Does (Begin trace) LiveDone mid.live new → BeginsIn trace old.live new
-begins_in trace old mid new turns does = λ life h.
+-- a begin after its core was renewed, or not, and draws were kept
+pub begins_in : (trace : TraceId) (old mid : PlainNodeClient) (kept new : PlainClient) → TurnsInto old mid → DoesNothing mid.live kept → Does (Begin trace) LiveDone kept new → BeginsIn trace old.live new
+begins_in trace old mid kept new turns nothing does = λ life h.
     let core = old.live.core in
     dite (dec_le (2 * core.counted) core.calls)
     (λ half.
     let same : mid.live ≡ old.live = ap (λ (c : PlainNodeClient). c.live) (turns.half half) in
     let turned : Turns core life life = record { renewed = λ low. absurd (omega (arith, low, half)); same = λ _. refl } in
-    (life, turned, lives_done (Begin trace) mid.live new does life (lives_same old.live mid.live same life h)))
+    (life, turned, lives_more (Begin trace) mid.live kept new nothing does life (lives_same old.live mid.live same life h)))
     (λ not.
     let low : IsLow core = lt_of_not-le not in
     let next = (turns.low low).lives life h in
     let turned : Turns core life (record { made = next.0; ops = [] } ∷ life) = record { renewed = λ _. (next.0, refl); same = λ half. absurd (omega (arith, low, half)) } in
-    (record { made = next.0; ops = [] } ∷ life, turned, lives_done (Begin trace) mid.live new does (record { made = next.0; ops = [] } ∷ life) next.1))
+    (record { made = next.0; ops = [] } ∷ life, turned, lives_more (Begin trace) mid.live kept new nothing does (record { made = next.0; ops = [] } ∷ life) next.1))

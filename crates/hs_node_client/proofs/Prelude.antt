@@ -4,7 +4,7 @@ pub use Rattle.hs_base.specs.declared.told.Crumb.{Crumb}
 pub use Rattle.hs_base.specs.declared.told.Trigger.{Trigger}
 pub use Rattle.hs_client.specs.Core.{after_step, Core, Fits, NeedsPage, renewed_core}
 pub use Rattle.hs_link.specs.Contents.{HasPlaces, Outgoing, sent}
-pub use Rattle.hs_live.proofs.Cuts.{draws_none, draws_trans}
+pub use Rattle.hs_live.proofs.Cuts.{draws_none, draws_refilled, draws_trans}
 pub use Rattle.hs_live.proofs.Senders.{goes_same, goes_trans}
 pub use Rattle.hs_live.specs.Calls.{counts, renewed_of, WritesOnly}
 pub use Rattle.hs_live.specs.Done.{Does, DoesNothing, HasDone}

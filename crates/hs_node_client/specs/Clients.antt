@@ -1,6 +1,6 @@
 -- What contracts see of a client of a service: the client of the library, the link for crumbs of traces that need not be open, what it
 -- notes of its segments, and what it counts.
-use Rattle.std.specs.Prelude.{◌≡◌, ℕ, ◌+◌, ◌*◌, ◌^◌, ◌<◌, ◌≤◌, Bool, true, false, if◌then◌else◌, nat_lt, length, count_by, IfSome}
+use Rattle.std.specs.Prelude.{◌≡◌, ℕ, ◌+◌, ◌*◌, ◌/◌, ◌^◌, ◌<◌, ◌≤◌, Bool, true, false, if◌then◌else◌, nat_lt, length, count_by, IfSome}
 use Rattle.hs_base.specs.declared.ids.TraceId.{TraceId}
 use Rattle.hs_base.specs.declared.told.Crumb.{Crumb}
 use Rattle.hs_client.specs.Core.{Core, is_null}
@@ -8,7 +8,7 @@ use Rattle.hs_link.specs.Contents.{Outgoing}
 use Rattle.hs_live.specs.Keys.{Key}
 use Rattle.hs_live.specs.Live.{PlainClient, GoesOn}
 use Rattle.hs_live.specs.Writing.{DrawsOn}
-use Rattle.hs_ring.specs.Parts.{Leased}
+use Rattle.hs_ring.specs.Parts.{Leased, Drawing, Refills}
 use Rattle.hs_node_client.specs.declared.counts.Tally.{Tally}
 use Rattle.hs_node_client.specs.declared.notebook.Notebook.{Notebook}
 use Rattle.hs_node_client.specs.declared.paged.Place.{Place}
@@ -43,6 +43,17 @@ pub record KeepsEnds (old new : PlainClient) : Type 0 where
   pub size : new.core.size ≡ old.core.size
   pub calls : new.core.calls ≡ old.core.calls
 
+-- ---- draws
+
+-- Fewer than half of the draws of the whole allowance are left.
+abbrev pub HasFewDraws : Drawing → Type 0
+HasFewDraws drawer = drawer.left < drawer.most / 2
+
+-- Where few draws were left, the allowance was made whole, or could not be, and the drawer stayed. Where enough were left it stayed.
+pub record KeepsDraws (old new : Drawing) : Type 0 where
+  pub few : HasFewDraws old → (is_whole : Bool) × Refills old is_whole new
+  pub enough : old.most / 2 ≤ old.left → new ≡ old
+
 -- ---- what is noted
 
 -- what a note leaves of the counts
@@ -61,11 +72,11 @@ nulls_of core = count_by is_null core.draws
 -- the counts where a trace is opened: after a renewal, if fewer than half of the core's calls were left
 abbrev pub tally_at_begin : PlainNodeClient → Tally
 tally_at_begin old =
-    if nat_lt old.live.core.calls (2 * old.live.core.counted) then opened 0 old.live.drawer.left (renewed (nulls_of old.live.core) old.tally) else opened (nulls_of old.live.core) old.live.drawer.left old.tally
+    if nat_lt old.live.core.calls (2 * old.live.core.counted) then opened 0 0 (renewed (nulls_of old.live.core) old.tally) else opened (nulls_of old.live.core) (length old.live.core.pages) old.tally
 
 -- The end of the open segment is noted with its counts.
 abbrev pub NotesEnd : PlainNodeClient → PlainNodeClient → Type 0
-NotesEnd old new = IfSome old.live.core.trace (λ trace. NotesIt trace (Closed (segment_counts (nulls_of new.live.core) new.live.drawer.left old.tally)) (place_in new.live.core) old.notebook (closed old.tally) new.notebook new.tally)
+NotesEnd old new = IfSome old.live.core.trace (λ trace. NotesIt trace (Closed (segment_counts (nulls_of new.live.core) (length new.live.core.pages) old.tally)) (place_in new.live.core) old.notebook (closed old.tally) new.notebook new.tally)
 
 -- What became of a crumb of a trace that need not be open is noted, if a number is left beside that for the end of a segment. Else nothing is.
 pub record NotesLate (trace : TraceId) (state : SegmentState) (old : PlainNodeClient) (counted : Tally) (new : PlainNodeClient) : Type 0 where

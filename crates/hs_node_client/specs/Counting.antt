@@ -22,18 +22,18 @@ abbrev pub none_past : Counts
 none_past = record { points = 0; null_pages = 0; stray_points = 0; full_points = 0; long_points = 0; spent_points = 0; refused_crumbs = 0; refused_triggers = 0; dropped_notes = 0 }
 
 abbrev pub no_counts : Tally
-no_counts = record { here = none_here; past = none_past; nulls = 0; draws = 0 }
+no_counts = record { here = none_here; past = none_past; nulls = 0; page = 0 }
 
 -- ---- segments
 
--- a segment begins, where the core has so many null pages and the client so many draws left
+-- a segment begins, where the core has so many null pages, and so many pages in all
 abbrev pub opened : ℕ → ℕ → Tally → Tally
-opened nulls draws tally = record tally { here = none_here; nulls = nulls; draws = draws }
+opened nulls pages tally = record tally { here = none_here; nulls = nulls; page = pages }
 
--- The counts of a segment that ends, where the core has so many null pages and the client so many draws left. Each draw since its begin
--- made a page, which was sent, or found the pool empty.
+-- The counts of a segment that ends, where the core has so many null pages, and so many pages in all. Each page since its begin was drawn
+-- for, and was sent, or the draw found the pool empty.
 abbrev pub segment_counts : ℕ → ℕ → Tally → SegmentCounts
-segment_counts nulls draws tally = record tally.here { pages = tally.draws - draws - (nulls - tally.nulls); null_pages = nulls - tally.nulls }
+segment_counts nulls pages tally = record tally.here { pages = pages - tally.page - (nulls - tally.nulls); null_pages = nulls - tally.nulls }
 
 abbrev pub closed : Tally → Tally
 closed tally = record tally { here = none_here; past = record tally.past { points = more tally.past.points tally.here.points } }
@@ -105,7 +105,7 @@ all_counts nulls tally = record tally.past { points = more tally.past.points tal
 abbrev three_points : Tally
 three_points = with_point called.Full (with_point called.Done (with_point called.Done (opened 4 90 no_counts)))
 
-counted_here : segment_counts 5 87 three_points ≡ record { points = 2; pages = 2; null_pages = 1; full_points = 1; long_points = 0; spent_points = 0; refused_crumbs = 0; crumbs = no_nodes }
+counted_here : segment_counts 5 93 three_points ≡ record { points = 2; pages = 2; null_pages = 1; full_points = 1; long_points = 0; spent_points = 0; refused_crumbs = 0; crumbs = no_nodes }
 counted_here = refl
 
 -- an end changes no sum

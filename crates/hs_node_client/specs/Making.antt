@@ -3,7 +3,7 @@ use Rattle.std.specs.Prelude.{◌≡◌, ℕ, ◌/◌, List, [], ◌∷◌, leng
 use Rattle.std.specs.List.{AllByRecursion}
 use Rattle.hs_auto.specs.Watching.{Watch, HasSampled}
 use Rattle.hs_base.specs.declared.ids.ClientId.{ClientId}
-use Rattle.hs_base.specs.declared.limits.TheConstants.{MOST_DRAWS}
+use Rattle.hs_base.specs.declared.limits.TheConstants.{MOST_AHEAD}
 use Rattle.hs_base.specs.declared.settings.AutoRule.{AutoRule}
 use Rattle.hs_base.specs.declared.settings.TriggerRule.{TriggerRule}
 use Rattle.hs_base.specs.declared.told.Crumb.{Crumb}
@@ -43,9 +43,9 @@ id_of limits number = record { node = limits.node; number = number }
 abbrev pub key_of : PlainRules → Giving → ClientId → Key
 key_of rules giver id = record { client = id; pool = giver.pool; size = giver.size; nodes = rules.nodes; rules = rules.triggers }
 
--- the equal shares of the draws of a pool
+-- the equal shares of the draws that all clients may make before they look at the counts of the pool again
 abbrev pub share : ℕ → ℕ
-share clients = MOST_DRAWS / clients
+share clients = MOST_AHEAD / clients
 
 abbrev pub shares : ℕ → List ℕ
 shares clients = replicate clients (share clients)
@@ -53,7 +53,7 @@ shares clients = replicate clients (share clients)
 -- the drawer of the client with this number in a new pool
 abbrev pub drawer_of : ClientLimits → Giving → ℕ → Drawing
 drawer_of limits giver number =
-    record { pool = giver.pool; buffers = limits.buffers; size = limits.size; number = number; left = share limits.clients; floor = 0; answers = [] }
+    record { pool = giver.pool; buffers = limits.buffers; size = limits.size; number = number; most = share limits.clients; left = share limits.clients; floor = 0; answers = [] }
 
 -- the giver of a new pool
 abbrev pub IsGiverOf : ClientLimits → Giving → Type 0

@@ -12,7 +12,7 @@ ghost use Rattle.hs_node_client.specs.declared.limits.TheConstants.{MIN_CALLS};
 ghost use Rattle.hs_node_client.specs.declared.segment.SegmentState.TheVariants.{Opened, Refused, Led};
 ghost use Rattle.hs_node_client.specs.Counting.{no_counts, all_counts, with_point, with_crumb_called, with_refused_late, with_refused_trigger, if_full};
 ghost use Rattle.hs_node_client.specs.Answers.{BeginsBy, PointsBy, CrumbsBy, LateBy, TriggersBy, SamplesBy, EndsBy, MayRenew, IsAtItsLast};
-ghost use Rattle.hs_node_client.specs.Clients.{PutsThrough, KeepsEnds, NotesIt, NotesEnd, NotesLate, tally_at_begin, waiting};
+ghost use Rattle.hs_node_client.specs.Clients.{PutsThrough, KeepsEnds, NotesIt, NotesEnd, NotesLate, KeepsDraws, tally_at_begin, waiting};
 ghost use Rattle.hs_node_client.specs.Known.{AreDeclared, rules_in};
 ghost use Rattle.hs_node_client.specs.Notes.{PutsOn};
 ghost use Rattle.hs_node_client.specs.Paging.{place_in};
@@ -98,7 +98,8 @@ impl NodeClient {
         }
     }
 
-    /// Opens a trace. Where fewer than half of the core's calls are left, the core is renewed first.
+    /// Opens a trace. Where fewer than half of the core's calls are left, the core is renewed first. Where fewer than half of the draws
+    /// of its allowance are left, the allowance is made whole again, or stays where it cannot be.
     pub fn begin(&mut self, trace: TraceId) -> Called
         ensures answer { BeginsBy self.old result }
         ensures does { LivesByBegin trace result self.old.live self.new.live }
@@ -106,6 +107,7 @@ impl NodeClient {
         ensures keeps { KeepsEnds self.old.live self.new.live }
         ensures opens { result ≡ Done → self.new.live.core.trace ≡ Some trace }
         ensures half { result ≡ Done → HasHalf self.new.live.core }
+        ensures draws { result ≡ Done → KeepsDraws self.old.live.drawer self.new.live.drawer }
         ensures notes { result ≡ Done → NotesIt trace Opened (place_in self.new.live.core) self.old.notebook (tally_at_begin self.old) self.new.notebook self.new.tally }
         ensures late { self.new.late ≡ self.old.late }
     {
@@ -115,12 +117,13 @@ impl NodeClient {
         if self.notebook.number >= MOST_NOTES || !self.has_calls() {
             return Called::Spent;
         }
+        self.live.keep_draws();
         let place = self.live.place();
         match self.live.begin(trace) {
             Live::Done => {}
             Live::Spent | Live::AlreadyOpen | Live::NoTrace | Live::TooWide => unreachable!(),
         }
-        self.tally.open(self.live.nulls(), self.live.draws_left());
+        self.tally.open(self.live.nulls(), place.page);
         if !self.notebook.note(place, trace, SegmentState::Opened) {
             self.tally.drop_note();
         }
@@ -342,8 +345,8 @@ impl NodeClient {
         };
         let called = acts::end(&mut self.live);
         if let Called::Done = called {
-            let counts = self.tally.close(self.live.nulls(), self.live.draws_left());
             let place = self.live.place();
+            let counts = self.tally.close(self.live.nulls(), place.page);
             if !self
                 .notebook
                 .note(place, trace, SegmentState::Closed(counts))

@@ -40,8 +40,8 @@ pub(crate) struct Tally {
     pub(crate) past: Counts,
     /// How many null pages the core had when the segment was opened.
     pub(crate) nulls: u32,
-    /// How many draws the client had left then.
-    pub(crate) draws: u32,
+    /// How many pages the core had then: the number of the segment's first page.
+    pub(crate) page: u32,
 }
 
 /// A count with some more, as far as its type goes.
@@ -90,27 +90,27 @@ impl Tally {
             here: NONE_HERE,
             past: NONE_PAST,
             nulls: 0,
-            draws: 0,
+            page: 0,
         }
     }
 
-    /// A segment is opened, where the core has so many null pages and the client so many draws left.
-    pub(crate) fn open(&mut self, nulls: u32, draws: u32)
-        ensures { self.new ≡ opened nulls draws self.old }
+    /// A segment is opened, where the core has so many null pages, and so many pages in all.
+    pub(crate) fn open(&mut self, nulls: u32, pages: u32)
+        ensures { self.new ≡ opened nulls pages self.old }
     {
         self.here = NONE_HERE;
         self.nulls = nulls;
-        self.draws = draws;
+        self.page = pages;
     }
 
-    /// The segment is closed, where the core has so many null pages and the client so many draws left. Its counts are the answer.
-    pub(crate) fn close(&mut self, nulls: u32, draws: u32) -> SegmentCounts
-        ensures counts { result ≡ segment_counts nulls draws self.old }
+    /// The segment is closed, where the core has so many null pages, and so many pages in all. Its counts are the answer.
+    pub(crate) fn close(&mut self, nulls: u32, pages: u32) -> SegmentCounts
+        ensures counts { result ≡ segment_counts nulls pages self.old }
         ensures closed { self.new ≡ closed self.old }
     {
         let null_pages = nulls.saturating_sub(self.nulls);
         let counts = SegmentCounts {
-            pages: self.draws.saturating_sub(draws).saturating_sub(null_pages),
+            pages: pages.saturating_sub(self.page).saturating_sub(null_pages),
             null_pages,
             ..self.here
         };

@@ -13,7 +13,7 @@ use crate::limits::{ClientLimits, MakeFault};
 use crate::paged::Paged;
 use crate::segment::{Segment, SegmentKey};
 use hs_auto::Auto;
-use hs_base::limits::MOST_DRAWS;
+use hs_base::limits::MOST_AHEAD;
 use hs_base::{AutoRule, ClientId, Crumb, List, Memory, Trigger, TriggerId, TriggerRule};
 use hs_client::ClientCore;
 use hs_link::{Receiver, Sender, link};
@@ -64,7 +64,7 @@ struct Joined {
 }
 
 /// The clients of one of so many nodes, with their pool and their links. It takes all memory of their lives: no call of a client takes
-/// any. Each client may make an equal share of the pool's draws.
+/// any. Each client has an equal share of the draws that clients may make before a look at the pool's counts, and makes it whole again.
 pub fn make_clients(
     alloc: Global,
     limits: &ClientLimits,
@@ -123,12 +123,12 @@ fn pool(alloc: Global, limits: &ClientLimits) -> Result<(Giver, List<Drawer>), M
     RingPool::make(alloc, stock, allowances.as_slice())
 }
 
-/// How many draws each client may make.
+/// How many draws each client has where its allowance is whole.
 fn allowances_of(alloc: Global, clients: u16) -> Result<List<u32>, Memory>
     requires { 1 ≤ clients }
     ensures { IfOk result (λ allowances. allowances.items ≡ shares clients) }
 {
-    let share = MOST_DRAWS / u32::from(clients);
+    let share = MOST_AHEAD / u32::from(clients);
     let mut allowances = List::with_room(alloc, clients as usize)?;
     for _ in 0..clients {
         allowances.push(share);

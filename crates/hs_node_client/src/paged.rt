@@ -14,6 +14,8 @@ ghost use Rattle.hs_live.specs.Live.{outgoing, GoesOn, Sends, Flushes};
 ghost use Rattle.hs_live.specs.Writing.{Spends, writing_of};
 ghost use Rattle.hs_records.specs.Plain.{Begin, Point, Crumb as LeaveCrumb, End, Fire, Sample};
 ghost use Rattle.hs_records.specs.Records.{piece_count};
+ghost use Rattle.hs_ring.specs.Parts.{Refills};
+ghost use Rattle.hs_node_client.specs.Clients.{KeepsDraws};
 ghost use Rattle.hs_node_client.specs.Paging.{place_behind, place_in};
 
 use crate::laws::{ends_take_none, points_take_pages};
@@ -217,6 +219,29 @@ impl Paged {
         called
     }
 
+    /// Makes the allowance of draws whole again where fewer than half of it are left. Where it cannot be made whole it stays as it is.
+    #[inline(always)]
+    pub(crate) fn keep_draws(&mut self)
+        ensures draws { KeepsDraws self.old.drawer self.new.drawer }
+        ensures only { self.new ≡ record self.old { drawer = self.new.drawer } }
+        ensures does { DoesNothing self.old self.new }
+    {
+        if self.draws_left() < self.draws_most() / 2 {
+            self.refill_draws();
+        }
+    }
+
+    /// Makes the allowance of draws whole again, and answers whether it is. It stands apart, since it looks at what all threads share.
+    #[cold]
+    #[inline(never)]
+    pub(crate) fn refill_draws(&mut self) -> bool
+        ensures draws { Refills self.old.drawer result self.new.drawer }
+        ensures only { self.new ≡ record self.old { drawer = self.new.drawer } }
+        ensures does { DoesNothing self.old self.new }
+    {
+        self.live.refill_draws()
+    }
+
     /// Closes the open trace.
     pub(crate) fn end(&mut self) -> Called
         requires { HasPlaces 1 self.old.chunks }
@@ -267,11 +292,18 @@ impl Paged {
         self.live.calls_left()
     }
 
-    /// The draws that it may still make.
+    /// The draws that it may still make before its allowance is made whole again.
     pub(crate) fn draws_left(&self) -> u32
         ensures { result ≡ self.now.drawer.left }
     {
         self.live.draws_left()
+    }
+
+    /// The draws of its whole allowance.
+    pub(crate) fn draws_most(&self) -> u32
+        ensures { result ≡ self.now.drawer.most }
+    {
+        self.live.draws_most()
     }
 
     /// How many chunks more may be sent, whatever the agent does.

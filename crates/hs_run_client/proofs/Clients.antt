@@ -80,7 +80,7 @@ each_few size (ops ∷ clients) few =
 -- ---- the drawers
 
 abbrev drawing : PoolName → (buffers size number left : ℕ) → Drawing
-drawing pool buffers size number left = record { pool = pool; buffers = buffers; size = size; number = number; left = left; floor = 0; answers = [] }
+drawing pool buffers size number left = record { pool = pool; buffers = buffers; size = size; number = number; most = left; left = left; floor = 0; answers = [] }
 
 pub drawer_at : (pool : PoolName) (buffers size number pages : ℕ) (clients : List (Listing Op)) (place : ℕ) (ops : Listing Op) (drawer : Drawing) → slice_get clients place ≡ Some ops
     → slice_get (new_drawers pool buffers size number (lefts_of pages clients)) place ≡ Some drawer → drawer ≡ drawing pool buffers size (number + place) (client_pieces pages (operations_of ops))

@@ -44,6 +44,7 @@ drawer_for settings giver number ops =
       buffers = settings.buffers;
       size = settings.size;
       number = number;
+      most = client_pieces settings.size ops;
       left = client_pieces settings.size ops;
       floor = 0;
       answers = [];

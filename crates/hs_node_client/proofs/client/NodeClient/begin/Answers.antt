@@ -23,7 +23,7 @@ invariant_of-self c =
     let is = turned c.args.self.now (node_client_of s) turns in
     let number : s.notebook.number ≡ c.self.inside.notebook.number = ap (λ (n : Notebook). n.number) is.number ∙ sym (ap (λ (p : PlainNodeClient). p.notebook.number) c.self.view_is) in
     let none = ap (λ (t : Tally). t.here.points) c.drop_note.ensures ∙ ap (λ (t : Tally). t.here.points) c.open.ensures in
-    begun_inside c.args.trace s c.begin.new.self c.note.new.self c.drop_note.new.self c.self-2.invariant c.in-Done.ensures.after is.half c.note.ensures.number (omega (arith, number, c.if-self-ge-MOST_NOTES.false)) none
+    begun_inside c.args.trace s c.keep_draws.new.self c.begin.new.self c.note.new.self c.drop_note.new.self c.self-2.invariant c.keep_draws.ensures.only c.in-Done.ensures.after is.half c.note.ensures.number (omega (arith, number, c.if-self-ge-MOST_NOTES.false)) none
 
 pub invariant_of-self-else-not-note : goal.invariant_of-self-else-not-note
 invariant_of-self-else-not-note c =
@@ -32,38 +32,38 @@ invariant_of-self-else-not-note c =
     let is = turned c.args.self.now (node_client_of s) turns in
     let number : s.notebook.number ≡ c.self.inside.notebook.number = ap (λ (n : Notebook). n.number) is.number ∙ sym (ap (λ (p : PlainNodeClient). p.notebook.number) c.self.view_is) in
     let none = ap (λ (t : Tally). t.here.points) c.open.ensures in
-    begun_inside c.args.trace s c.begin.new.self c.note.new.self c.open.new.self c.self-2.invariant c.in-Done.ensures.after is.half c.note.ensures.number (omega (arith, number, c.if-self-ge-MOST_NOTES.false)) none
+    begun_inside c.args.trace s c.keep_draws.new.self c.begin.new.self c.note.new.self c.open.new.self c.self-2.invariant c.keep_draws.ensures.only c.in-Done.ensures.after is.half c.note.ensures.number (omega (arith, number, c.if-self-ge-MOST_NOTES.false)) none
 
 pub returns-then-not-note-clause-does : goal.returns-then-not-note-clause-does
 returns-then-not-note-clause-does c =
     let mid = node_client_of c.self-2.inside in
     let turns = subst (λ (m : PlainNodeClient). TurnsInto c.args.self.now m) (sym c.self-2.view_is) (c.if-not-has_calls.ensures.turns refl) in
-    begins_in c.args.trace c.args.self.now mid c.begin.new.self turns c.in-Done.ensures.does
+    begins_in c.args.trace c.args.self.now mid c.keep_draws.new.self c.begin.new.self turns c.keep_draws.ensures.does c.in-Done.ensures.does
 
 pub returns-then-not-note-clause-keeps : goal.returns-then-not-note-clause-keeps
 returns-then-not-note-clause-keeps c =
     let mid = node_client_of c.self-2.inside in
     let turns = subst (λ (m : PlainNodeClient). TurnsInto c.args.self.now m) (sym c.self-2.view_is) (c.if-not-has_calls.ensures.turns refl) in
-    begin_keeps c.args.trace c.args.self.now mid c.begin.new.self turns c.in-Done.ensures.after
+    begin_keeps c.args.trace c.args.self.now mid c.keep_draws.new.self c.begin.new.self turns c.keep_draws.ensures.draws c.keep_draws.ensures.only c.in-Done.ensures.after
 
 pub returns-else-not-note-clause-does : goal.returns-else-not-note-clause-does
 returns-else-not-note-clause-does c =
     let mid = node_client_of c.self-2.inside in
     let turns = subst (λ (m : PlainNodeClient). TurnsInto c.args.self.now m) (sym c.self-2.view_is) (c.if-not-has_calls.ensures.turns refl) in
-    begins_in c.args.trace c.args.self.now mid c.begin.new.self turns c.in-Done.ensures.does
+    begins_in c.args.trace c.args.self.now mid c.keep_draws.new.self c.begin.new.self turns c.keep_draws.ensures.does c.in-Done.ensures.does
 
 pub returns-else-not-note-clause-keeps : goal.returns-else-not-note-clause-keeps
 returns-else-not-note-clause-keeps c =
     let mid = node_client_of c.self-2.inside in
     let turns = subst (λ (m : PlainNodeClient). TurnsInto c.args.self.now m) (sym c.self-2.view_is) (c.if-not-has_calls.ensures.turns refl) in
-    begin_keeps c.args.trace c.args.self.now mid c.begin.new.self turns c.in-Done.ensures.after
+    begin_keeps c.args.trace c.args.self.now mid c.keep_draws.new.self c.begin.new.self turns c.keep_draws.ensures.draws c.keep_draws.ensures.only c.in-Done.ensures.after
 
 pub returns-then-not-note-clause-half : goal.returns-then-not-note-clause-half
 returns-then-not-note-clause-half c =
     let mid = node_client_of c.self-2.inside in
-    let turns = subst (λ (m : PlainNodeClient). TurnsInto c.args.self.now m) (sym c.self-2.view_is) (c.if-not-has_calls.ensures.turns refl) in λ _. begun_half c.args.trace c.args.self.now mid c.begin.new.self turns c.in-Done.ensures.after
+    let turns = subst (λ (m : PlainNodeClient). TurnsInto c.args.self.now m) (sym c.self-2.view_is) (c.if-not-has_calls.ensures.turns refl) in λ _. begun_half c.args.trace c.args.self.now mid c.keep_draws.new.self c.begin.new.self turns c.keep_draws.ensures.only c.in-Done.ensures.after
 
 pub returns-else-not-note-clause-half : goal.returns-else-not-note-clause-half
 returns-else-not-note-clause-half c =
     let mid = node_client_of c.self-2.inside in
-    let turns = subst (λ (m : PlainNodeClient). TurnsInto c.args.self.now m) (sym c.self-2.view_is) (c.if-not-has_calls.ensures.turns refl) in λ _. begun_half c.args.trace c.args.self.now mid c.begin.new.self turns c.in-Done.ensures.after
+    let turns = subst (λ (m : PlainNodeClient). TurnsInto c.args.self.now m) (sym c.self-2.view_is) (c.if-not-has_calls.ensures.turns refl) in λ _. begun_half c.args.trace c.args.self.now mid c.keep_draws.new.self c.begin.new.self turns c.keep_draws.ensures.only c.in-Done.ensures.after
