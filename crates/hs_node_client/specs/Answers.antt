@@ -5,6 +5,7 @@ use Rattle.hs_base.specs.declared.ids.NodeId.{NodeId}
 use Rattle.hs_base.specs.declared.told.Trigger.{Trigger}
 use Rattle.hs_base.specs.declared.limits.TheConstants.{MAX_PAYLOAD, PIECE_COST}
 use Rattle.hs_client.specs.Core.{Core, Fits, NeedsPage}
+use Rattle.hs_link.specs.Contents.{HasPlaces}
 use Rattle.hs_live.specs.Live.{PlainClient}
 use Rattle.hs_records.specs.Records.{piece_count}
 use Rattle.hs_ring.specs.Parts.{Leased}
@@ -35,13 +36,25 @@ IsAtItsEnd client = (2 ^ 64 ≤ client.notebook.number + 2) ⊎ IsAtItsLast clie
 abbrev pub set_aside : ℕ → ℕ
 set_aside size = size / PIECE_COST + 2
 
--- The core has calls for so many pieces and those set aside, and the drawer has as many draws.
+-- The core has calls for so many pieces and those set aside.
+abbrev pub HasCallsFor : ℕ → Core Leased → Type 0
+HasCallsFor pieces core = core.counted + pieces + set_aside core.size ≤ core.calls
+
+abbrev pub LacksCallsFor : ℕ → Core Leased → Type 0
+LacksCallsFor pieces core = core.calls < core.counted + pieces + set_aside core.size
+
+-- The core has these calls, and the drawer as many draws as pieces.
 pub record HasNumbers (pieces : ℕ) (client : PlainClient) : Type 0 where
-  pub calls : client.core.counted + pieces + set_aside client.core.size ≤ client.core.calls
+  pub calls : HasCallsFor pieces client.core
   pub draws : pieces ≤ client.drawer.left
 
+-- The core has these calls, and the drawer has as many draws, or would have them if its allowance were whole.
+pub record MayHaveNumbers (pieces : ℕ) (client : PlainClient) : Type 0 where
+  pub calls : HasCallsFor pieces client.core
+  pub draws : (pieces ≤ client.drawer.left) ⊎ (pieces ≤ client.drawer.most)
+
 abbrev pub LacksNumbers : ℕ → PlainClient → Type 0
-LacksNumbers pieces client = (client.core.calls < client.core.counted + pieces + set_aside client.core.size) ⊎ (client.drawer.left < pieces)
+LacksNumbers pieces client = LacksCallsFor pieces client.core ⊎ (client.drawer.left < pieces)
 
 -- the pieces of a payload of so many bytes
 abbrev pub pieces_in : PlainClient → ℕ → ℕ
@@ -58,9 +71,20 @@ BeginsBy old called.Full = ⊥
 BeginsBy old called.Unknown = ⊥
 BeginsBy old called.Spent = (old.live.core.trace ≡ None) × IsAtItsEnd old
 
--- A point that the open page has room for is done. Any other needs numbers, and places for as many chunks as it has pieces.
+-- What is answered where numbers, and places for chunks, are wanted for so many pieces.
+abbrev pub PreparesBy : ℕ → PlainClient → Called → PlainClient → Type 0
+PreparesBy pieces old called.Done new = MayHaveNumbers pieces old × HasNumbers pieces new × HasPlaces pieces new.chunks
+PreparesBy pieces old called.NoTrace new = ⊥
+PreparesBy pieces old called.AlreadyOpen new = ⊥
+PreparesBy pieces old called.TooWide new = ⊥
+PreparesBy pieces old called.Full new = HasNumbers pieces old × Lacks pieces old.chunks new.chunks
+PreparesBy pieces old called.Unknown new = ⊥
+PreparesBy pieces old called.Spent new = LacksNumbers pieces old
+
+-- A point that the open page has room for is done. Any other needs numbers, and places for as many chunks as it has pieces. If only draws
+-- are wanting, the allowance is made whole first, where it can be.
 abbrev pub PointsBy : PlainClient → ℕ → Called → PlainClient → Type 0
-PointsBy old bytes called.Done new = IsSome old.core.trace × (bytes ≤ MAX_PAYLOAD) × (Fits old.core bytes ⊎ HasNumbers (pieces_in old bytes) old)
+PointsBy old bytes called.Done new = IsSome old.core.trace × (bytes ≤ MAX_PAYLOAD) × (Fits old.core bytes ⊎ MayHaveNumbers (pieces_in old bytes) old)
 PointsBy old bytes called.NoTrace new = old.core.trace ≡ None
 PointsBy old bytes called.AlreadyOpen new = ⊥
 PointsBy old bytes called.TooWide new = IsSome old.core.trace × (MAX_PAYLOAD < bytes)

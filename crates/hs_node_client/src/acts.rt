@@ -4,10 +4,12 @@ ghost use Rattle.std.specs.Prelude.{◌≡◌, ◌<◌, ◌≤◌, ◌+◌, true
 ghost use Rattle.hs_base.specs.declared.limits.TheConstants.{MAX_PAYLOAD};
 ghost use Rattle.hs_client.specs.Core.{NeedsPage};
 ghost use Rattle.hs_live.specs.Calls.{IsAutoOf};
+ghost use Rattle.hs_link.specs.Contents.{HasPlaces};
+ghost use Rattle.hs_live.specs.Done.{DoesNothing};
 ghost use Rattle.hs_live.specs.Keys.{IsTriggerOf};
 ghost use Rattle.hs_records.specs.Plain.{Point, Crumb as LeaveCrumb, End, Fire, Sample};
 ghost use Rattle.hs_node_client.specs.declared.called.Called.TheVariants.{Done};
-ghost use Rattle.hs_node_client.specs.Answers.{PointsBy, CrumbsBy, TriggersBy, SamplesBy, EndsBy, HasNumbers, LacksNumbers, pieces_in};
+ghost use Rattle.hs_node_client.specs.Answers.{PointsBy, CrumbsBy, TriggersBy, SamplesBy, EndsBy, HasCallsFor, LacksCallsFor, PreparesBy, pieces_in};
 ghost use Rattle.hs_node_client.specs.Clients.{PutsThrough, KeepsEnds};
 ghost use Rattle.hs_node_client.specs.Known.{rules_in};
 ghost use Rattle.hs_node_client.specs.Lives.{Lives};
@@ -34,13 +36,61 @@ fn pieces_of(client: &Paged, bytes: usize) -> u32
     }
 }
 
-/// Whether the core has calls, and the drawer draws, for so many pieces on new pages.
-fn has_numbers(client: &Paged, pieces: u32) -> bool
-    ensures has { result ≡ true → HasNumbers pieces client.now }
-    ensures lacks { result ≡ false → LacksNumbers pieces client.now }
+/// Whether the core has calls for so many pieces on new pages, beside those that are set aside.
+fn has_calls(client: &Paged, pieces: u32) -> bool
+    ensures has { result ≡ true → HasCallsFor pieces client.now.core }
+    ensures lacks { result ≡ false → LacksCallsFor pieces client.now.core }
 {
     let aside = u64::from(client.size()) / PIECE_COST as u64 + 2;
-    u64::from(pieces) + aside <= u64::from(client.calls_left()) && pieces <= client.draws_left()
+    u64::from(pieces) + aside <= u64::from(client.calls_left())
+}
+
+/// Sees to calls of the core, draws and places for so many pieces on new pages, and answers whether there are as many. Where draws alone
+/// are wanting, the allowance is made whole.
+fn prepare(client: &mut Paged, pieces: u32) -> Called
+    ensures answer { PreparesBy pieces client.old result client.new }
+    ensures refused { (result ≡ Done → ⊥) → PutsThrough client.old client.new }
+    ensures keeps { KeepsEnds client.old client.new }
+    ensures core { client.new.core ≡ client.old.core }
+    ensures rules { rules_in client.new ≡ rules_in client.old }
+    ensures does { DoesNothing client.old client.new }
+{
+    if !has_calls(client, pieces) {
+        return Called::Spent;
+    }
+    if client.draws_left() < pieces {
+        if refill_for(client, pieces) {
+            return Called::Done;
+        }
+        return Called::Spent;
+    }
+    if has_chunk_places(client, pieces) {
+        return Called::Done;
+    }
+    Called::Full
+}
+
+/// Makes the allowance of draws whole for so many pieces, if it has as many and the outbox has as many places, and answers whether all of
+/// this is so. Else no draw is added.
+#[cold]
+#[inline(never)]
+fn refill_for(client: &mut Paged, pieces: u32) -> bool
+    ensures most { result ≡ true → pieces ≤ client.old.drawer.most }
+    ensures draws { result ≡ true → pieces ≤ client.new.drawer.left }
+    ensures places { result ≡ true → HasPlaces pieces client.new.chunks }
+    ensures refused { result ≡ false → PutsThrough client.old client.new }
+    ensures keeps { KeepsEnds client.old client.new }
+    ensures core { client.new.core ≡ client.old.core }
+    ensures rules { rules_in client.new ≡ rules_in client.old }
+    ensures does { DoesNothing client.old client.new }
+{
+    if client.draws_most() < pieces {
+        return false;
+    }
+    if !has_chunk_places(client, pieces) {
+        return false;
+    }
+    client.refill_draws()
 }
 
 /// Records a payload that the open page has no room for.
@@ -52,7 +102,7 @@ pub(crate) fn point(client: &mut Paged, moment: u64, payload: &[u8]) -> Called
     ensures keeps { KeepsEnds client.old client.new }
     ensures rules { rules_in client.new ≡ rules_in client.old }
     ensures trace { client.new.core.trace ≡ client.old.core.trace }
-    ensures numbers { result ≡ Done → HasNumbers (pieces_in client.old (length payload.now)) client.old }
+    ensures calls { result ≡ Done → HasCallsFor (pieces_in client.old (length payload.now)) client.old.core }
     ensures counted { result ≡ Done → client.new.core.counted ≡ client.old.core.counted + pieces_in client.old (length payload.now) }
     ensures some { result ≡ Done → 1 ≤ pieces_in client.old (length payload.now) }
 {
@@ -63,11 +113,11 @@ pub(crate) fn point(client: &mut Paged, moment: u64, payload: &[u8]) -> Called
         return Called::TooWide;
     }
     let pieces = pieces_of(client, payload.len());
-    if !has_numbers(client, pieces) {
-        return Called::Spent;
-    }
-    if !has_chunk_places(client, pieces) {
-        return Called::Full;
+    match prepare(client, pieces) {
+        Called::Done => {}
+        Called::Full => return Called::Full,
+        Called::Spent => return Called::Spent,
+        Called::NoTrace | Called::AlreadyOpen | Called::TooWide | Called::Unknown => unreachable!(),
     }
     match client.point(moment, payload) {
         Live::Done => Called::Done,

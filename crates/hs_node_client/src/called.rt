@@ -18,7 +18,8 @@ pub enum Called {
     Full,
     /// There is no such node, no such trigger id, or no such autotrigger.
     Unknown,
-    /// Numbers end: the calls of this trace, the draws of the client, or the numbers of its renewals and notes.
+    /// Numbers end: the calls of this trace, the draws of the client where its allowance cannot be made whole, or the numbers of its
+    /// renewals and notes.
     Spent,
 }
 
@@ -36,7 +37,7 @@ pub enum Pointed {
     TooWide,
     /// The outbox has fewer places than the call asks for. The same call may be done later.
     Full,
-    /// Numbers end: the calls of this trace, or the draws of the client.
+    /// Numbers end: the calls of this trace, or the draws of the client where its allowance cannot be made whole.
     Spent,
 }
 

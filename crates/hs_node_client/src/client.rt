@@ -163,7 +163,8 @@ impl NodeClient {
         }
     }
 
-    /// Records a payload at a moment, in microseconds.
+    /// Records a payload at a moment, in microseconds. Where it needs more draws than are left, the allowance is made whole first, if it can
+    /// be, so that a segment may be of any length.
     pub fn point(&mut self, moment: u64, payload: &[u8]) -> Called
         ensures answer { PointsBy self.old.live (length payload.now) result self.new.live }
         ensures does { Lives (Point moment payload.now) result self.old.live self.new.live }
