@@ -1,7 +1,8 @@
 -- Triggers that an intake takes, with a number for one more or without.
-use Rattle.std.proofs.Common.{◌≡◌, ℕ, ◌+◌, ◌<◌, ◌≤◌, Bool, true, false, if◌then◌else◌, List, [], ◌∷◌, ◌++◌, length, map, Option, Some, None, refl, sym, ap, subst, ◌∙◌, arith}
+use Rattle.std.proofs.Common.{◌≡◌, ℕ, ◌+◌, ◌<◌, ◌≤◌, Bool, true, false, not, if◌then◌else◌, List, [], ◌∷◌, ◌++◌, length, map, Option, Some, None, refl, sym, ap, subst, ◌∙◌, arith}
 use Rattle.std.specs.Prelude.{filter_map}
-use Rattle.std.specs.Option.{option_to_list}
+use Rattle.std.specs.Int.{from_bool}
+use Rattle.std.specs.Option.{option_to_list, is_some}
 use Rattle.hs_base.specs.declared.limits.TheConstants.{MAX_TAKEN}
 use Rattle.hs_base.specs.declared.told.Told.{Told}
 use Rattle.hs_base.specs.declared.told.Trigger.{Trigger}
@@ -15,10 +16,10 @@ use Rattle.hs_agent.specs.Tries.{after_trigger}
 use Rattle.hs_mail.specs.Letters.{Letters}
 use Rattle.hs_claimed.specs.Claims.{PlainClaims}
 use Rattle.hs_intake.specs.Intakes.{PlainIntake, Triggers, TakesTrigger, after_act, life, has_left, told_on, limit_of, limited_in, Stands, Tells, SaysIt, told_in, trigger_line, HasRoom, claims_life, claim_by}
-use Rattle.hs_intake.specs.declared.took.Next.TheVariants as nexts
+use Rattle.hs_intake.specs.declared.took.Fired.TheVariants as fired
 use Rattle.hs_intake.specs.declared.took.Stop.{Stop}
 use Rattle.hs_intake.specs.declared.took.Stop.TheVariants.{Empty, Most, Memory, Words, Claims}
-use Rattle.hs_intake.specs.Taking.{Receives, TakesOne, TakesNext, TakesMost, HoldsOne}
+use Rattle.hs_intake.specs.Taking.{Receives, TakesFired, TakesMost, HoldsOne}
 use Rattle.hs_intake.proofs.Lines.{keys_after, receives_one, trigger_came, length_set}
 use Rattle.hs_intake.proofs.Claiming.{tells_claimed, tells_listed}
 use Rattle.hs_intake.proofs.Acts.{said_since, waits_now}
@@ -95,21 +96,23 @@ trigger_tells : (run : Run Leased) (d new : PlainIntake) (client : ℕ) (trigger
 trigger_tells run d new client trigger told mid none room entered is says_it =
     tells_listed d new told (told_on run client trigger) is (tells_claimed d new told mid none room entered says_it)
 
-pub took_trigger : (run : Run Leased) (d : PlainIntake) (client : ℕ) (trigger : Trigger) (port : Port) (agent : PlainAgent Leased) (told : Option Told) (mid : PlainClaims) (m : Letters) (claims : PlainClaims) (unsaid : Option Told)
+pub took_trigger : (run : Run Leased) (d : PlainIntake) (client : ℕ) (trigger : Trigger) (port : Port) (agent : PlainAgent Leased) (told : Option Told) (tells : Bool) (mid : PlainClaims) (m : Letters) (claims : PlainClaims) (unsaid : Option Told)
     → Stands run d → ReceivesAt client d.port.triggers (Some trigger) port.triggers → port ≡ record d.port { triggers = port.triggers } → Follows agent (after_act run (TakesTrigger client trigger))
-    → d.unsaid ≡ None → HasRoom d.claims → mid ≡ claims_life d.claims (filter_map claim_by (option_to_list told)) → told ≡ told_on run client trigger → SaysIt d.mail mid told m claims unsaid
-    → TakesOne run trigger_line client d (record d { agent = agent; port = port; mail = m; claims = claims; unsaid = unsaid })
-took_trigger run d client trigger port agent told mid m claims unsaid stands receives only follows none room entered is says_it =
-    record {
-      item = trigger;
-      moves = record { receives = receives_one client trigger d.port.triggers port.triggers receives; others = ap (λ (p : Port). record { port = p; late = d.late }) only; clients = refl };
-      back = refl;
-      goes =
-          record {
-            stands = trigger_stands run d client trigger port agent m claims unsaid stands receives only follows;
-            tells = trigger_tells run d (record d { agent = agent; port = port; mail = m; claims = claims; unsaid = unsaid }) client trigger told mid none room entered is says_it;
-          };
-    }
+    → d.unsaid ≡ None → HasRoom d.claims → mid ≡ claims_life d.claims (filter_map claim_by (option_to_list told)) → told ≡ told_on run client trigger → tells ≡ is_some told → SaysIt d.mail mid told m claims unsaid
+    → TakesFired run client d (fired.Taken tells) (record d { agent = agent; port = port; mail = m; claims = claims; unsaid = unsaid })
+took_trigger run d client trigger port agent told tells mid m claims unsaid stands receives only follows none room entered is some says_it = (
+  record {
+    item = trigger;
+    moves = record { receives = receives_one client trigger d.port.triggers port.triggers receives; others = ap (λ (p : Port). record { port = p; late = d.late }) only; clients = refl };
+    back = refl;
+    goes =
+        record {
+          stands = trigger_stands run d client trigger port agent m claims unsaid stands receives only follows;
+          tells = trigger_tells run d (record d { agent = agent; port = port; mail = m; claims = claims; unsaid = unsaid }) client trigger told mid none room entered is says_it;
+        };
+  },
+  some ∙ ap (λ (o : Option Told). is_some o) is,
+)
 
 pub held_trigger : (run : Run Leased) (d : PlainIntake) (client : ℕ) (trigger : Trigger) (port : Port)
     → Stands run d → (r : Incoming Trigger Key) × IsEnd client d.port.triggers r × IsTriggerOf r.key trigger → ReceivesAt client d.port.triggers (Some trigger) port.triggers
@@ -147,23 +150,30 @@ limited_append : (run : Run Leased) (client : ℕ) (xs ys : List Trigger) → li
 limited_append run client [] ys = omega arith
 limited_append run client (x ∷ xs) ys = let rest = limited_append (after_act run (TakesTrigger client x)) client xs ys in omega (arith, rest)
 
--- So many triggers were taken, and so many of them found no number left.
+-- So many triggers were taken, and so many of them admitted no group.
 abbrev pub SoMany : Run Leased → ℕ → PlainIntake → ℕ → ℕ → PlainIntake → Type 0
 SoMany run client old count limited new = (so : SoFar run trigger_line client old count new) × (limited ≡ limited_in run client so.items)
 
-pub one_trigger_more : (run : Run Leased) (client : ℕ) (old mid new : PlainIntake) (count limited limit : ℕ) → SoMany run client old count limited mid
-    → ((later : Run Leased) → Stands later mid → limit ≡ limit_of later) → ((later : Run Leased) → Stands later mid → TakesOne later trigger_line client mid new)
-    → SoMany run client old (count + 1) (limited + limit) new
+pub one_at_most : (b : Bool) → from_bool b ≤ 1
+one_at_most true = omega arith
+one_at_most false = omega arith
+
+no_limit : (tells : Bool) → from_bool (not tells) ≡ (if tells then 0 else 1)
+no_limit true = refl
+no_limit false = refl
+
+pub one_trigger_more : (run : Run Leased) (client : ℕ) (old mid new : PlainIntake) (count limited limit : ℕ) (tells : Bool) → limit ≡ from_bool (not tells) → SoMany run client old count limited mid
+    → ((later : Run Leased) → Stands later mid → TakesFired later client mid (fired.Taken tells) new) → SoMany run client old (count + 1) (limited + limit) new
 unfolding one_more
-one_trigger_more run client old mid new count limited limit (so, is) limit_is next =
+one_trigger_more run client old mid new count limited limit tells limit_is (so, is) next =
     let later = life run (map (TakesTrigger client) so.items) in
-    let one = next later so.goes.stands in
-    let here = limit_is later so.goes.stands in
+    let (one, told) = next later so.goes.stands in
+    let here : limit ≡ limit_of later client one.item = limit_is ∙ no_limit tells ∙ ap (λ (b : Bool). if b then 0 else 1) told in
     let all = limited_append run client so.items (one.item ∷ []) in
-    (one_more run trigger_line client (λ p xs ys. refl) old mid new count so next, omega (arith, is, here, all))
+    (one_more run trigger_line client (λ p xs ys. refl) old mid new count so (λ r stands. (next r stands).0), omega (arith, is, here, all))
 
 pub triggers_stopped : (run : Run Leased) (client : ℕ) (old mid new : PlainIntake) (count limited : ℕ) (stop : Stop) → count ≤ MAX_TAKEN → SoMany run client old count limited mid
-    → ((later : Run Leased) → Stands later mid → TakesNext later trigger_line client mid (nexts.Stopped stop) new) → TakesMost run client old (record { took = record { count = count; stop = stop }; limited = limited }) new
+    → ((later : Run Leased) → Stands later mid → TakesFired later client mid (fired.Stopped stop) new) → TakesMost run client old (record { took = record { count = count; stop = stop }; limited = limited }) new
 unfolding stopped
 triggers_stopped run client old mid new count limited Empty few (so, is) next = (stopped run trigger_line client (λ p xs ys. refl) old mid new count Empty few so next, is)
 triggers_stopped run client old mid new count limited Most few (so, is) next = absurd (next (life run (map (TakesTrigger client) so.items)) so.goes.stands)

@@ -11,7 +11,7 @@ use Rattle.hs_ring.specs.Parts.{Leased}
 use Rattle.hs_words.specs.Buffers.{Buffer}
 use Rattle.hs_link.specs.Contents.{Incoming}
 use Rattle.hs_live.specs.Keys.{Key}
-use Rattle.hs_base.specs.Samples.{one_rule}
+use Rattle.hs_base.specs.Samples.{t, rule, one_rule}
 use Rattle.hs_words.specs.Pages.{page_bytes}
 use Rattle.hs_law_agent.specs.Standings.{sample_sheet}
 use Rattle.hs_law_agent.specs.Samples.{settings_with, chunk, trigger, group, turned}
@@ -49,16 +49,28 @@ noted told page standing = refl
 a_chunk_waits : (run : Run Leased) (buffer : Buffer Leased) → (acts_in (Some (Chunk 3 buffer)) ≡ TakesChunk 3 buffer ∷ []) × (told_in run (TakesChunk 3 buffer ∷ Turns ∷ []) ≡ [])
 a_chunk_waits run buffer = (refl, refl)
 
--- A number is left at the beginning.
-a_number_is_left : (settings : PlainSettings) → limit_of (new_run settings 0) ≡ 0
-a_number_is_left settings = refl
+-- Id 1 has a burst of one, and no token comes back. So the first of two triggers is admitted, and the second is not. A third of id 2 is.
+abbrev two_ids : PlainSettings
+two_ids = settings_with 4 8 4 (rule 1 1 0 ∷ rule 2 1 0 ∷ [])
 
--- After 2 ^ 32 - 1 triggers were admitted none is left, and two more change nothing.
-abbrev at_the_end : PlainSettings → Run Leased
-at_the_end settings = record (new_run settings 0) { start = record (start settings) { admitted = 4294967295 } }
+abbrev fired_at : (moment id lead : ℕ) → Trigger
+fired_at moment id lead = record { moment = moment; trigger = record { 0 = id }; lead = t lead; laterals = [] }
+
+one_is_admitted : (limit_of (new_run two_ids 0) 3 (fired_at 5 1 7) ≡ 0) × (limited_in (new_run two_ids 0) 3 (fired_at 5 1 7 ∷ []) ≡ 0)
+one_is_admitted = (refl, refl)
+
+one_finds_no_token : (limited_in (new_run two_ids 0) 3 (fired_at 5 1 7 ∷ fired_at 6 1 8 ∷ []) ≡ 1) × (limited_in (new_run two_ids 0) 3 (fired_at 5 1 7 ∷ fired_at 6 1 8 ∷ fired_at 6 2 9 ∷ []) ≡ 1)
+one_finds_no_token = (refl, refl)
+
+-- Before the last of 2 ^ 32 - 1 numbers is given one of two triggers is admitted. Then none is left, and two more change nothing.
+abbrev at : ℕ → PlainSettings → Run Leased
+at admitted settings = record (new_run settings 0) { start = record (start settings) { admitted = admitted } }
+
+one_is_left : limited_in (at 4294967294 two_ids) 3 (fired_at 5 1 7 ∷ fired_at 6 2 8 ∷ []) ≡ 1
+one_is_left = refl
 
 none_is_left : (settings : PlainSettings) (trigger : Trigger)
-    → (limited_in (at_the_end settings) 3 (trigger ∷ trigger ∷ []) ≡ 2) × (life (at_the_end settings) (TakesTrigger 3 trigger ∷ []) ≡ at_the_end settings)
+    → (limited_in (at 4294967295 settings) 3 (trigger ∷ trigger ∷ []) ≡ 2) × (life (at 4294967295 settings) (TakesTrigger 3 trigger ∷ []) ≡ at 4294967295 settings)
 none_is_left settings trigger = (refl, refl)
 
 -- A trigger fires on trace 1, its chunk comes in buffer 5, with a lease of mark 9, and a turn reports it.

@@ -2,7 +2,7 @@
 -- of the agent's model it stands at, and what an act makes of that run.
 use Rattle.std.specs.Prelude.{◌≡◌, ℕ, ◌+◌, ◌<◌, ◌≤◌, ◌^◌, nat_lt, if◌then◌else◌, Bool, true, false, List, [], ◌∷◌, ◌++◌, length, map, fold, filter, filter_map, Option, Some, None, Ok}
 use Rattle.std.specs.List.{AllByRecursion}
-use Rattle.std.specs.Option.{option_to_list}
+use Rattle.std.specs.Option.{option_to_list, is_some}
 use Rattle.hs_base.specs.Rules.{is_declared}
 use Rattle.hs_base.specs.declared.told.Ask.{Ask}
 use Rattle.hs_base.specs.declared.told.Crumb.{Crumb}
@@ -106,14 +106,14 @@ abbrev pub told_in : Run Leased → List Act → List Told
 told_in run [] = []
 told_in run (act ∷ acts) = told_at run act ++ told_in (after_act run act) acts
 
--- one, if a trigger that comes now finds no number left
-abbrev pub limit_of : Run Leased → ℕ
-limit_of run = if has_left run then 0 else 1
+-- one, if a trigger that comes now admits no group
+abbrev pub limit_of : Run Leased → ℕ → Trigger → ℕ
+limit_of run client trigger = if is_some (told_on run client trigger) then 0 else 1
 
--- how many of these triggers of a client find no number left
+-- how many of these triggers of a client admit no group
 abbrev pub limited_in : Run Leased → ℕ → List Trigger → ℕ
 limited_in run client [] = 0
-limited_in run client (trigger ∷ triggers) = limit_of run + limited_in (after_act run (TakesTrigger client trigger)) client triggers
+limited_in run client (trigger ∷ triggers) = limit_of run client trigger + limited_in (after_act run (TakesTrigger client trigger)) client triggers
 
 -- ---- where an intake stands
 

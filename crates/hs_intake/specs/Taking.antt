@@ -1,6 +1,6 @@
 -- What is taken of one line of a client: the next item, or as many as a pass takes.
 use Rattle.std.specs.Prelude.{◌≡◌, ℕ, ◌+◌, ◌<◌, ◌≤◌, ◌==◌, ◌&&◌, nat_lt, Bool, true, false, List, [], ◌∷◌, ◌++◌, length, map, slice_set, Option, Some, None, IsSome, ◌⊎◌, Ok, Err}
-use Rattle.std.specs.Option.{is_none, option_map_or}
+use Rattle.std.specs.Option.{is_none, is_some, option_map_or}
 use Rattle.hs_base.specs.declared.told.Ask.{Ask}
 use Rattle.hs_base.specs.declared.told.Trigger.{Trigger}
 use Rattle.hs_claimed.specs.declared.answers.Claimant.{Claimant}
@@ -17,6 +17,8 @@ use Rattle.hs_live.specs.Keys.{Key}
 use Rattle.hs_live.specs.Live.{IsEnd}
 use Rattle.hs_law_agent.specs.Lives.{is_settled}
 use Rattle.hs_agent.specs.Runs.{Run, state_of, IsSpent}
+use Rattle.hs_intake.specs.declared.took.Fired.{Fired}
+use Rattle.hs_intake.specs.declared.took.Fired.TheVariants as fired
 use Rattle.hs_intake.specs.declared.took.Next.{Next}
 use Rattle.hs_intake.specs.declared.took.Next.TheVariants as nexts
 use Rattle.hs_intake.specs.declared.took.Stop.{Stop}
@@ -26,7 +28,7 @@ use Rattle.hs_intake.specs.declared.took.TookTriggers.{TookTriggers}
 use Rattle.hs_intake.specs.declared.took.Turned.{Turned}
 use Rattle.hs_intake.specs.declared.took.Turned.TheVariants.{Done, Full, Spent}
 use Rattle.hs_intake.specs.Intakes as acts
-use Rattle.hs_intake.specs.Intakes.{PlainIntake, Line, lines_of, trigger_line, limited_in, HasRoom, Stands, Goes, Turns, Forgets, after_act, acts_in}
+use Rattle.hs_intake.specs.Intakes.{PlainIntake, Line, lines_of, trigger_line, told_on, limited_in, HasRoom, Stands, Goes, Turns, Forgets, after_act, acts_in}
 
 -- The end of the client with this number received these items, and all other ends are as they were.
 pub record Receives {T : Type 0} (client : ℕ) (items : List T) (old new : List (Incoming T Key)) : Type 0 where
@@ -108,7 +110,12 @@ TakesLine run line client old took new =
 
 -- ---- triggers
 
--- The first triggers came, and so many of them found no number left.
+-- The next trigger, and whether it told anything if it was taken.
+abbrev pub TakesFired : Run Leased → ℕ → PlainIntake → Fired → PlainIntake → Type 0
+TakesFired run client old (fired.Taken tells) new = (one : TakesOne run trigger_line client old new) × (tells ≡ is_some (told_on run client one.item))
+TakesFired run client old (fired.Stopped stop) new = TakesNext run trigger_line client old (nexts.Stopped stop) new
+
+-- The first triggers came, and so many of them admitted no group.
 abbrev pub TakesMost : Run Leased → ℕ → PlainIntake → TookTriggers → PlainIntake → Type 0
 TakesMost run client old took new = (many : TakesMany run trigger_line client old took.took new) × (took.limited ≡ limited_in run client many.items)
 

@@ -39,8 +39,8 @@ impl Took {
     }
 }
 
-/// How many triggers were taken, and why no more. For `limited` of them no number was left, or no place for what they may claim, and they
-/// changed nothing.
+/// How many triggers were taken, and why no more. `limited` of them admitted no group: the bucket of their id had no token, no number was
+/// left, or what they may claim had no place.
 #[derive(Clone, Copy, Debug, PartialEq, Eq)]
 pub struct TookTriggers {
     pub took: Took,
@@ -135,6 +135,14 @@ pub(crate) enum Say {
 #[derive(Clone, Copy)]
 pub(crate) enum Next {
     Taken,
+    Stopped(Stop),
+}
+
+/// What became of the next trigger.
+#[derive(Clone, Copy)]
+pub(crate) enum Fired {
+    /// It was taken, and tells of its group if it admitted one.
+    Taken { tells: bool },
     Stopped(Stop),
 }
 

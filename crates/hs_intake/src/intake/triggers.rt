@@ -1,59 +1,49 @@
 //! The triggers that an intake takes.
 
-ghost use Rattle.std.specs.Prelude.{◌≡◌, ◌<◌, ◌≤◌, true, false, None, IfOk, OnOk, OnErr};
+ghost use Rattle.std.specs.Prelude.{◌≡◌, ◌<◌, Bool, true, false, None, IfOk, OnOk, OnErr};
 ghost use Rattle.hs_base.specs.Rules.{is_declared};
 ghost use Rattle.hs_ring.specs.Parts.{Leased};
 ghost use Rattle.hs_agent.specs.Runs.{Run, Follows, Knows};
-ghost use Rattle.hs_intake.specs.Intakes.{Stands, TakesTrigger, after_act, told_on, limit_of, trigger_line};
-ghost use Rattle.hs_intake.specs.declared.took.Next.TheVariants.{Taken};
-ghost use Rattle.hs_intake.specs.Taking.{TakesNext, TakesMost, DropsOne, DropsMany, TakesTriggers};
+ghost use Rattle.hs_intake.specs.Intakes.{Stands, TakesTrigger, after_act, told_on, trigger_line};
+ghost use Rattle.hs_intake.specs.declared.took.Fired.TheVariants.{Taken};
+ghost use Rattle.hs_intake.specs.Taking.{TakesFired, TakesMost, DropsOne, DropsMany, TakesTriggers};
 
 use super::{Intake, enter, say};
-use crate::took::{Back, Next, Stop, Took, TookTriggers};
+use crate::took::{Back, Fired, Stop, Took, TookTriggers};
 use hs_agent::Agent;
 use hs_base::limits::MAX_TAKEN;
 use hs_base::{Memory, Told, Trigger};
 use hs_ring::Lease;
 
 impl Intake {
-    /// One, if no number is left for a trigger more.
-    fn limit(&self) -> u32
-        ensures limit { (run : Run Leased) → Stands run self.now → result ≡ limit_of run }
-        ensures one { result ≤ 1 }
-    {
-        if self.agent.admitted() == u32::MAX {
-            return 1;
-        }
-        0
-    }
-
     /// The agent takes the next trigger of a client, if one has come and a word has a place. What it tells is said.
-    fn take_trigger(&mut self, client: u16) -> Next
+    fn take_trigger(&mut self, client: u16) -> Fired
         requires low { client < self.old.clients }
         requires front { self.old.back ≡ None }
-        ensures next { (run : Run Leased) → Stands run self.old → TakesNext run trigger_line client self.old result self.new }
+        ensures next { (run : Run Leased) → Stands run self.old → TakesFired run client self.old result self.new }
         ensures clients { self.new.clients ≡ self.old.clients }
-        ensures taken { result ≡ Taken → self.new.back ≡ None }
+        ensures taken { (tells : Bool) → result ≡ Taken tells → self.new.back ≡ None }
     {
         if self.is_mute() {
-            return Next::Stopped(Stop::Words);
+            return Fired::Stopped(Stop::Words);
         }
         if self.is_short() {
-            return Next::Stopped(Stop::Claims);
+            return Fired::Stopped(Stop::Claims);
         }
         let Some(trigger) = self.port.trigger(client) else {
-            return Next::Stopped(Stop::Empty);
+            return Fired::Stopped(Stop::Empty);
         };
         match fire(&mut self.agent, client, &trigger) {
             Ok(told) => {
+                let tells = told.is_some();
                 self.unsaid = told;
                 enter(&mut self.claims, &self.unsaid);
                 say(&mut self.mail, &mut self.claims, &mut self.unsaid);
-                Next::Taken
+                Fired::Taken { tells }
             }
             Err(_) => {
                 self.back = Some(Back::Trigger { client, trigger });
-                Next::Stopped(Stop::Memory)
+                Fired::Stopped(Stop::Memory)
             }
         }
     }
@@ -67,14 +57,15 @@ impl Intake {
     {
         let mut limited = 0;
         for count in 0..MAX_TAKEN {
-            let limit = self.limit();
-            if let Next::Stopped(stop) = self.take_trigger(client) {
-                return TookTriggers {
-                    took: Took { count, stop },
-                    limited,
-                };
+            match self.take_trigger(client) {
+                Fired::Taken { tells } => limited += u32::from(!tells),
+                Fired::Stopped(stop) => {
+                    return TookTriggers {
+                        took: Took { count, stop },
+                        limited,
+                    };
+                }
             }
-            limited += limit;
         }
         TookTriggers {
             took: Took {
@@ -108,8 +99,9 @@ impl Intake {
     }
 
     /// The agent takes the triggers of a client that have come, at most 64, while words and claims have a place. Where claims have none at
-    /// first, or no number is left for one more that is admitted, a trigger leaves its link, and the agent does not see it: the answer
-    /// counts these. There is no more of a client that is not there, and while something waits at the front nothing is taken.
+    /// first, or no number is left for one more that is admitted, a trigger leaves its link, and the agent does not see it. The answer
+    /// counts these, and those of whose id the bucket has no token. There is no more of a client that is not there, and while something
+    /// waits at the front nothing is taken.
     pub fn triggers_of(&mut self, client: u16) -> TookTriggers
         ensures { (run : Run Leased) → Stands run self.old → TakesTriggers run client self.old result self.new }
     {

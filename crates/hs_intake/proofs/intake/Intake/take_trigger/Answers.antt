@@ -5,7 +5,8 @@ use Rattle.hs_agent.specs.Keeping.{PlainAgent}
 use Rattle.hs_agent.specs.Runs.{Run}
 use Rattle.hs_intake.specs.Intakes.{PlainIntake, Stands, Triggers, HasRoom, trigger_line}
 use Rattle.hs_intake.specs.IntakeLayout.{intake_in}
-use Rattle.hs_intake.specs.Taking.{TakesOne, HoldsOne}
+use Rattle.hs_intake.specs.declared.took.Fired.TheVariants as fired
+use Rattle.hs_intake.specs.Taking.{TakesFired, HoldsOne}
 use Rattle.hs_intake.proofs.Triggers.{took_trigger, held_trigger, trigger_alive, held_trigger_alive, triggers_counted}
 use Rattle.hs_intake.proofs.Lines.{receives_one}
 use Rattle.hs_intake.proofs.intake.Intake.take_trigger.Goals as goal
@@ -16,10 +17,10 @@ returns-in-Ok-clause-next c = λ run stands.
     let there : Stands run d = subst (λ (x : PlainIntake). Stands run x) (sym c.self.view_is) stands in
     let none : d.unsaid ≡ None = ap (λ (x : PlainIntake). x.unsaid) c.self.view_is ∙ c.is_mute.ensures.open c.if-is_mute.false in
     let room : HasRoom d.claims = subst (λ (x : PlainIntake). HasRoom x.claims) (sym c.self.view_is) (c.is_short.ensures.room c.if-is_short.false) in
-    subst (λ (x : PlainIntake). TakesOne run trigger_line c.args.client x (record d { agent = c.fire.new.agent; port = c.trigger.new.self; mail = c.say.new.mail; claims = c.say.new.claims; unsaid = c.say.new.unsaid }))
+    subst (λ (x : PlainIntake). TakesFired run c.args.client x (fired.Taken c.is_some-tells.result) (record d { agent = c.fire.new.agent; port = c.trigger.new.self; mail = c.say.new.mail; claims = c.say.new.claims; unsaid = c.say.new.unsaid }))
     c.self.view_is
-    (took_trigger run d c.args.client c.in-Some.trigger c.trigger.new.self c.fire.new.agent c.in-Ok.told c.enter.new.claims c.say.new.mail c.say.new.claims c.say.new.unsaid there c.in-Some.ensures.received
-    c.trigger.ensures.only (c.in-Ok.ensures.after run there.follows) none room c.enter.ensures (c.in-Ok.ensures.told run there.follows) c.say.ensures)
+    (took_trigger run d c.args.client c.in-Some.trigger c.trigger.new.self c.fire.new.agent c.in-Ok.told c.is_some-tells.result c.enter.new.claims c.say.new.mail c.say.new.claims c.say.new.unsaid there c.in-Some.ensures.received
+    c.trigger.ensures.only (c.in-Ok.ensures.after run there.follows) none room c.enter.ensures (c.in-Ok.ensures.told run there.follows) c.is_some-tells.ensures c.say.ensures)
 
 pub returns-in-Err-clause-next : goal.returns-in-Err-clause-next
 returns-in-Err-clause-next c = λ run stands.

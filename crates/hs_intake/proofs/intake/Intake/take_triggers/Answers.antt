@@ -1,5 +1,5 @@
-use Rattle.std.proofs.Common.{refl, ◌∙◌, arith}
-use Rattle.hs_intake.proofs.Triggers.{no_trigger_yet, one_trigger_more, triggers_stopped, all_triggers}
+use Rattle.std.proofs.Common.{not, refl, ◌∙◌, arith}
+use Rattle.hs_intake.proofs.Triggers.{one_at_most, no_trigger_yet, one_trigger_more, triggers_stopped, all_triggers}
 use Rattle.hs_intake.proofs.intake.Intake.take_triggers.Goals as goal
 
 pub loop-count-init : goal.loop-count-init
@@ -15,11 +15,11 @@ pub loop-count-preserved : goal.loop-count-preserved
 loop-count-preserved c =
     record {
       clients = c.take_trigger.ensures.clients ∙ c.loop-count.invariant.clients;
-      front = c.take_trigger.ensures.taken c.in_default.is;
-      low = (let low = c.loop-count.invariant.low in let one = c.limit-limit.ensures.one in omega (arith, low, one));
+      front = c.take_trigger.ensures.taken c.in-Taken.tells c.in-Taken.is;
+      low = (let low = c.loop-count.invariant.low in let is = c.from-limited.ensures in let one = one_at_most (not c.in-Taken.tells) in omega (arith, low, is, one));
       so_far = (λ run stands.
-          one_trigger_more run c.args.client c.args.self.now c.loop-count.self c.take_trigger.new.self c.loop-count.count c.loop-count.limited c.limit-limit.result (c.loop-count.invariant.so_far run stands)
-          c.limit-limit.ensures.limit c.in_default.ensures.next);
+          one_trigger_more run c.args.client c.args.self.now c.loop-count.self c.take_trigger.new.self c.loop-count.count c.loop-count.limited c.from-limited.result c.in-Taken.tells
+          c.from-limited.ensures (c.loop-count.invariant.so_far run stands) c.in-Taken.ensures.next);
     }
 
 pub returns-in-Stopped : goal.returns-in-Stopped
