@@ -61,8 +61,8 @@ impl Node {
         self.intake.again();
     }
 
-    /// How many triggers left unseen, since no number or no place was left for them. The count stays at the greatest number of its type
-    /// once it is there.
+    /// How many triggers of clients admitted no group: the bucket of their id had no token, no number was left, or what they may claim had
+    /// no place. The count stays at the greatest number of its type once it is there.
     pub fn limited(&self) -> u64
         ensures { result ≡ self.now.limited }
     {
