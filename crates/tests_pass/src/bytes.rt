@@ -3,9 +3,10 @@
 use hs_base::{Laterals, TraceId, Trigger, TriggerId};
 use hs_node_client::{Called, NodeClient};
 
-/// Two nodes with one client each, and eight buffers of 64 bytes. `docs/FORMATS.md` says which settings are which.
+/// Two nodes with one client each, and eight buffers of 64 bytes. The bucket of the trigger id has one token, and a token comes back in a
+/// second. `docs/FORMATS.md` says which settings are which.
 pub const SETTINGS: &[u8] =
-    b"nodes 2\nclients 1\nbuffers 8\nsize 64\nthreshold 2\npins 2\nbacklog 4\nclaims 4\nremember 16\ntriggerid 1\n";
+    b"nodes 2\nclients 1\nbuffers 8\nsize 64\nthreshold 2\npins 2\nbacklog 4\nclaims 4\nremember 16\ntriggerid 1 1 1 1\n";
 
 /// The one trigger id.
 pub const ID: TriggerId = TriggerId(1);

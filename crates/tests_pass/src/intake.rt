@@ -92,6 +92,12 @@ const ONE: Took = Took {
     stop: Stop::Empty,
 };
 
+/// Two were taken, and no more had come.
+const TWO: Took = Took {
+    count: 2,
+    stop: Stop::Empty,
+};
+
 /// The first group of node 0.
 const GROUP: Group = Group {
     id: GroupId { node: 0, number: 0 },
@@ -155,6 +161,17 @@ fn takes_crumbs(parts: &mut Parts) -> bool {
         && triggers.took == ONE
         && triggers.limited == 0
         && hands_out(&mut parts.intake, 0, TOLD, 59, 2)
+}
+
+/// The bucket of the id has one token: of two triggers of one moment the first is told, and the second is limited.
+fn limits(parts: &mut Parts) -> bool {
+    let fired = fires(&mut parts.client) && fires(&mut parts.client);
+    let triggers = parts.intake.triggers_of(0);
+    fired
+        && triggers.took == TWO
+        && triggers.limited == 1
+        && hands_out(&mut parts.intake, 0, TOLD, 43, 0)
+        && parts.intake.next().is_none()
 }
 
 /// The one chunk was pinned, and a turn puts it into the hand.
@@ -279,6 +296,7 @@ fn is_begin(note: &Option<Segment>) -> bool {
 #[derive(Clone, Copy)]
 enum Row {
     TakesCrumbs,
+    Limits,
     Gives,
     States,
     Answers,
@@ -291,6 +309,7 @@ fn with_intake(alloc: Global, row: Row) -> Result<bool, Memory> {
     let mut parts = make_parts(alloc)?;
     Ok(match row {
         Row::TakesCrumbs => takes_crumbs(&mut parts),
+        Row::Limits => limits(&mut parts),
         Row::Gives => gives(&mut parts),
         Row::States => states(&mut parts),
         Row::Answers => answers(&mut parts),
@@ -303,6 +322,7 @@ fn with_intake(alloc: Global, row: Row) -> Result<bool, Memory> {
 fn an_intake(rt: HostRuntime) {
     let alloc = rt.alloc();
     row(&rt, "takes crumbs", with_intake(alloc, Row::TakesCrumbs));
+    row(&rt, "limits", with_intake(alloc, Row::Limits));
     row(&rt, "gives", with_intake(alloc, Row::Gives));
     row(&rt, "states", with_intake(alloc, Row::States));
     row(&rt, "answers", with_intake(alloc, Row::Answers));

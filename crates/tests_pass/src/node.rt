@@ -62,6 +62,21 @@ fn reports(pair: &mut Pair) -> bool {
         && pair.node.limited() == 0
 }
 
+/// The bucket of the id has one token: of two triggers of one moment the first fires, and the second is counted.
+fn limits(pair: &mut Pair) -> bool {
+    let fired = fires(&mut pair.client);
+    let first = pair.node.pass();
+    let none = pair.node.limited();
+    let again = fires(&mut pair.client);
+    let second = pair.node.pass();
+    fired
+        && again
+        && first == Passed::Done
+        && second == Passed::Done
+        && none == 0
+        && pair.node.limited() == 1
+}
+
 /// The ask waits for the pass, which answers it (why 1). Of the trace nothing was heard (2). The group claims its one trace.
 fn answers(pair: &mut Pair) -> bool {
     let delivered = pair.node.deliver(&ASK);
@@ -94,6 +109,7 @@ fn carries(pair: &mut Pair) -> bool {
 #[derive(Clone, Copy)]
 enum Row {
     Reports,
+    Limits,
     Answers,
     Carries,
 }
@@ -103,6 +119,7 @@ fn with_node(alloc: Global, row: Row) -> Result<bool, Memory> {
     let mut pair = make_pair(alloc)?;
     Ok(match row {
         Row::Reports => reports(&mut pair),
+        Row::Limits => limits(&mut pair),
         Row::Answers => answers(&mut pair),
         Row::Carries => carries(&mut pair),
     })
@@ -120,6 +137,7 @@ fn refuses(alloc: Global) -> Result<bool, Memory> {
 fn a_node(rt: HostRuntime) {
     let alloc = rt.alloc();
     row(&rt, "reports", with_node(alloc, Row::Reports));
+    row(&rt, "limits", with_node(alloc, Row::Limits));
     row(&rt, "answers", with_node(alloc, Row::Answers));
     row(&rt, "carries", with_node(alloc, Row::Carries));
     row(&rt, "refuses", refuses(alloc));
