@@ -151,6 +151,9 @@ uint32_t hindcore_node_again(hindcore_node *node);
 /* Delivers an ask for this node: DONE, FULL (no place until the next pass), NO_MESSAGE (it is no ask for this node, or of an id that the settings do
  * not declare). */
 uint32_t hindcore_node_deliver(hindcore_node *node, const uint8_t *bytes, size_t len);
+/* Writes how many triggers of clients admitted no group since the node was made: the bucket of their id had no token, no number was left, or what
+ * they may claim had no place. */
+uint32_t hindcore_node_limited(hindcore_node *node, uint64_t *count);
 /* Frees what stands behind the handle, which is vacant from then on. Clients go on, and what they send comes nowhere. */
 uint32_t hindcore_node_free(hindcore_node *node);
 

@@ -53,6 +53,10 @@ static void vacant_handles(void) {
     EXPECT(hindcore_take(&nowhere, 0), HINDCORE_VACANT);
     EXPECT(hindcore_take_notes(&nowhere, 0), HINDCORE_VACANT);
     EXPECT(hindcore_port_free(&nowhere), HINDCORE_VACANT);
+    hindcore_node nobody;
+    memset(&nobody, 0, sizeof nobody);
+    EXPECT(hindcore_node_limited(&nobody, &waits), HINDCORE_VACANT);
+    EXPECT(waits, 7);
 }
 
 static void refused_settings(void) {
@@ -218,6 +222,35 @@ static void refused_memory(void) {
     printf("%ld allocations refused\n", tried);
 }
 
+static uint64_t limited_of(hindcore_node *node) {
+    uint64_t limited = 7;
+    EXPECT(hindcore_node_limited(node, &limited), HINDCORE_DONE);
+    return limited;
+}
+
+/* An id has a burst of one, and one token comes back in a second: the second of three triggers comes a microsecond too early. What is refused at the
+ * client comes to no node, and is not counted. */
+static void limited_triggers(void) {
+    static const char one[] = "triggerid 1 1 1 1\nnodes 4\nbuffers 64\nsize 64\nthreshold 8\npins 8\nclients 1\n";
+    static hindcore_node node;
+    hindcore_client *c = &clients[0];
+    uint32_t says;
+    EXPECT(hindcore_node_open((const uint8_t *)one, sizeof one - 1, 0, 1, &node, &fault), HINDCORE_DONE);
+    EXPECT(hindcore_node_client(&node, c), HINDCORE_DONE);
+    EXPECT(hindcore_trigger(c, 5, 1, &first, NULL, 0), HINDCORE_DONE);
+    EXPECT(hindcore_trigger(c, 1000004, 1, &second, NULL, 0), HINDCORE_DONE);
+    EXPECT(hindcore_trigger(c, 1000005, 1, &second, NULL, 0), HINDCORE_DONE);
+    EXPECT(hindcore_trigger(c, 1000006, 2, &second, NULL, 0), HINDCORE_UNKNOWN);
+    EXPECT(limited_of(&node), 0);
+    EXPECT(hindcore_node_pass(&node, &says), HINDCORE_DONE);
+    EXPECT(limited_of(&node), 1);
+    EXPECT(hindcore_node_pass(&node, &says), HINDCORE_DONE);
+    EXPECT(limited_of(&node), 1);
+    EXPECT(hindcore_client_free(c), HINDCORE_DONE);
+    EXPECT(hindcore_node_free(&node), HINDCORE_DONE);
+    EXPECT(live, 0);
+}
+
 /* ---- pages as they lie in buffers (docs/FORMATS.md, "The page") ---- */
 
 /* the worked page there: trace 1, node 0, client 0, page 0, record 0, and a piece of one byte at moment 5 */
@@ -360,6 +393,7 @@ int main(void) {
     a_full_outbox();
     an_empty_pool();
     refused_memory();
+    limited_triggers();
     pages_in_buffers();
     if (failed) fprintf(stderr, "%d failed\n", failed);
     return failed != 0;

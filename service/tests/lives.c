@@ -11,8 +11,8 @@
  *      trace come in their order. Its group was told before and names its trace, and it is the group that claimed the trace first.
  *   3. Numbers of messages rise by one, and next, sent, acknowledged and again answer as a list does. Groups that fired have rising numbers. Each is
  *      a trigger that was done; where buckets refuse nothing all of these fire, and where there is one client those fire that the buckets of the
- *      model let through. Each ask that was taken is answered once, in order, and what is no ask is refused. Crumbs that are told were left; where
- *      nothing is evicted, all that were left of a claimed trace are told.
+ *      model let through. The node counts each trigger that was done and that did not fire. Each ask that was taken is answered once, in order, and
+ *      what is no ask is refused. Crumbs that are told were left; where nothing is evicted, all that were left of a claimed trace are told.
  *   4. A standing is news of its claim. Where no note was dropped, no memory refused and no page taken before its segment was heard, it
  *      counts the pages that were handed out before it. Where the node then heard all that was written, it says exactly what is open, what was lost by
  *      each cause that a client counts, and how whole the trace is. Once all is acknowledged each claim has one, and what was sent of the trace is
@@ -1257,6 +1257,9 @@ static void check_claims(void) {
     if (is_blind) return;
     must_be("hellos", hellos, hellos_seen);
     must_be("asks that are answered", ask_count, answered);
+    uint64_t limited;
+    must_be("how many triggers are limited", HINDCORE_DONE, hindcore_node_limited(&node, &limited));
+    must_be("triggers that are limited", trigger_count - triggers_used, limited);
     if (triggers_are_exact())
         for (unsigned i = 0; i < trigger_count; i++) must_be("a trigger that is let through fires", (uint64_t)triggers[i].is_let, (uint64_t)triggers[i].is_used);
 }

@@ -30,8 +30,8 @@ pub use hubs::{
 pub use messages::{HindHead, hindcore_message_copy, hindcore_message_head};
 pub use nodes::{
     HindDigest, hindcore_node_acknowledged, hindcore_node_again, hindcore_node_client,
-    hindcore_node_deliver, hindcore_node_free, hindcore_node_hello, hindcore_node_next,
-    hindcore_node_open, hindcore_node_pass, hindcore_node_sent,
+    hindcore_node_deliver, hindcore_node_free, hindcore_node_hello, hindcore_node_limited,
+    hindcore_node_next, hindcore_node_open, hindcore_node_pass, hindcore_node_sent,
 };
 pub use opening::{hindcore_client_open, hindcore_open};
 pub use pages::{HindPage, HindPiece, hindcore_page_read};

@@ -336,6 +336,24 @@ pub extern "C" fn hindcore_node_hello(
     }
 }
 
+/// Writes how many triggers of clients admitted no group since the node was made.
+#[unsafe(no_mangle)]
+pub extern "C" fn hindcore_node_limited(alloc: Global, node: &mut HindNode, count: &mut u64) -> u32
+    ensures idle { IsIdleNode node.old result node.new }
+    ensures limited { DoesNode (λ old code new. (code ≡ done) × (new ≡ old) × (count.new ≡ old.limited)) node.old result node.new }
+    ensures idle_count { (node.old.live ≡ 1 → ⊥) → count.new ≡ count.old }
+{
+    if node.live != 1 {
+        return VACANT;
+    }
+    let cell = replace(&mut node.slot, NodeSlot::vacant())
+        .open(alloc)
+        .into_box();
+    *count = cell.node.limited();
+    node.slot = NodeSlot::full(Loose::of(cell));
+    DONE
+}
+
 /// Frees what stands behind the handle, which is vacant from then on. Clients go on, and what they send comes nowhere.
 #[unsafe(no_mangle)]
 pub extern "C" fn hindcore_node_free(alloc: Global, node: &mut HindNode) -> u32
