@@ -208,6 +208,7 @@ typedef struct {
     uint64_t salvaged;          /* pages that earlier lives left: those that were handed out and are not kept any more, */
     uint64_t torn;              /* .. those that do not read, */
     uint64_t salvaging;         /* .. and messages of earlier lives that were handed out and are kept: now. `messages` and the like have none of these */
+    uint64_t limited_triggers;  /* triggers that a pass took and that admitted no group: above the rate of their id, or `claims` is full */
 } hind_node_counts;
 /* OK, INVALID (`size` is none that this library knows), FORKED. */
 HIND_API hind_code hind_node_get_counts(hind_node *node, hind_node_counts *counts);

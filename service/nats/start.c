@@ -186,6 +186,7 @@ static void put_clients(metrics *m, const hind_node_counts *c) {
     metrics_put(m, METRICS_COUNTER, "hindsight_node_stray_records_total", "Records that were refused since no trace was open.", c->stray_points);
     metrics_put(m, METRICS_COUNTER, "hindsight_node_refused_crumbs_total", "Crumbs that were refused.", c->refused_crumbs);
     metrics_put(m, METRICS_COUNTER, "hindsight_node_refused_triggers_total", "Triggers that were refused.", c->refused_triggers);
+    metrics_put(m, METRICS_COUNTER, "hindsight_node_limited_triggers_total", "Triggers that were taken and that claimed nothing: above the rate of their id, or claims are full.", c->limited_triggers);
     metrics_put(m, METRICS_COUNTER, "hindsight_node_dropped_notes_total", "Notes of segments that found no place: those traces are not called whole.", c->dropped_notes);
     metrics_put(m, METRICS_GAUGE, "hindsight_node_clients", "Clients of the settings.", c->clients);
     metrics_put(m, METRICS_GAUGE, "hindsight_node_used_clients", "Clients that a thread or somebody else has.", c->used_clients);

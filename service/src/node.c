@@ -396,15 +396,17 @@ static uint64_t used_clients(hind_node *n) {
 
 hind_code hind_node_get_counts(hind_node *node, hind_node_counts *counts) {
     hindcore_count of = {0, 0, 0, 0, 0, 0, 0, 0, 0};
+    uint64_t limited = 0;
     hind_code code = enter(node);
     if (code) return code;
     const node_work *w = &node->work;
     const past_counts left = past_count(node->past);
+    hindcore_node_limited(&node->core, &limited);
     for (size_t i = 0; i < node->count; i++) hindlib_add_shown(&node->clients[i], &of);
     hind_node_counts own = {sizeof own, w->passes, node->count, used_clients(node),
                             of.points, of.null_pages, of.stray_points, of.full_points, of.long_points, of.spent_points, of.refused_crumbs, of.refused_triggers, of.dropped_notes,
                             w->messages, w->of_kind[HELLO], w->of_kind[TOLD], w->of_kind[REPORTED], w->of_kind[STANDING], w->repeats, w->acknowledged, w->unacknowledged,
-                            w->asks, w->full_asks, w->refused_asks, left.pages, left.torn, left.unacknowledged};
+                            w->asks, w->full_asks, w->refused_asks, left.pages, left.torn, left.unacknowledged, limited};
     (void)leave(node, HINDCORE_DONE);
     return hindlib_give(counts, &own, sizeof own);
 }

@@ -590,6 +590,30 @@ static void counts_of_messages(void) {
     EXPECT(hind_node_close(node), HIND_OK);
 }
 
+/* An id has a burst of two, and no token comes back: the third trigger is taken and claims nothing. */
+static void limited_triggers(void) {
+    static const char two[] = "triggerid 1 1 2 0\nnodes 4\nbuffers 64\nsize 256\nthreshold 8\npins 8\nclients 1\nbacklog 8\n";
+    hind_node_options o = HIND_NODE_OPTIONS_INIT;
+    hind_node *node;
+    hind_client *c;
+    o.settings = two;
+    o.settings_len = sizeof two - 1;
+    EXPECT(hind_node_open(&o, &node), HIND_OK);
+    EXPECT(hind_client_open(node, &c), HIND_OK);
+    for (int i = 0; i < 3; i++) EXPECT(hind_trigger(c, 1, i ? &second : &first, NULL, 0), HIND_OK);
+    EXPECT(hind_flush(c, NULL), HIND_OK);
+    EXPECT(counted(node).limited_triggers, 0);
+    EXPECT(say_all(node, 0), 5); /* the hello, and of two groups what it tells and how it stands */
+    hind_node_counts n = counted(node);
+    HOLDS(n.limited_triggers == 1 && n.tells == 2 && n.standings == 2 && n.refused_triggers == 0);
+    /* a program that was compiled with the header of 0.2.0 */
+    n = (hind_node_counts){.size = offsetof(hind_node_counts, salvaged), .limited_triggers = 77};
+    EXPECT(hind_node_get_counts(node, &n), HIND_OK);
+    HOLDS(n.tells == 2 && n.limited_triggers == 77);
+    EXPECT(hind_client_close(c), HIND_OK);
+    EXPECT(hind_node_close(node), HIND_OK);
+}
+
 /* ---- two nodes and a hub */
 
 /* Carries messages until nobody has anything to do for a while. */
@@ -761,6 +785,7 @@ int main(void) {
     dry();
     messages();
     counts_of_messages();
+    limited_triggers();
     a_trace();
     later_lives();
     if (failed) fprintf(stderr, "%d failed\n", failed);

@@ -178,6 +178,7 @@ static void numbers(hind_nats *front) {
     HOLDS(len == strlen(text));
     HOLDS(strstr(text, "\nhindsight_node_records_total{node=\"front\"} 100\n"));
     HOLDS(strstr(text, "\nhindsight_node_reports_total{node=\"front\"} 10\n"));
+    HOLDS(strstr(text, "\nhindsight_node_limited_triggers_total{node=\"front\"} 0\n"));
     HOLDS(strstr(text, "\nhindsight_node_broker_up{node=\"front\"} 1\n"));
 }
 

@@ -10,7 +10,7 @@ type Counts struct {
 	RefusedCrumbs, RefusedTriggers, DroppedNotes                                       uint64
 	Messages, Hellos, Tells, Reports, Standings, Repeats, Acknowledged, Unacknowledged uint64
 	Asks, FullAsks, RefusedAsks                                                        uint64
-	Salvaged, Torn, Salvaging                                                          uint64
+	Salvaged, Torn, Salvaging, LimitedTriggers                                         uint64
 }
 
 // Counts may be called by any goroutine.
@@ -27,6 +27,6 @@ func (n *Node) Counts() (Counts, error) {
 		u(c.refused_crumbs), u(c.refused_triggers), u(c.dropped_notes),
 		u(c.messages), u(c.hellos), u(c.tells), u(c.reports), u(c.standings), u(c.repeats), u(c.acknowledged), u(c.unacknowledged),
 		u(c.asks), u(c.full_asks), u(c.refused_asks),
-		u(c.salvaged), u(c.torn), u(c.salvaging),
+		u(c.salvaged), u(c.torn), u(c.salvaging), u(c.limited_triggers),
 	}, nil
 }

@@ -41,7 +41,7 @@ class _NodeCounts(ctypes.Structure):
     _fields_ = [("size", _size)] + [(name, ctypes.c_uint64) for name in (
         "passes", "clients", "used_clients", "points", "null_pages", "stray_points", "full_points", "long_points", "spent_points", "refused_crumbs",
         "refused_triggers", "dropped_notes", "messages", "hellos", "tells", "reports", "standings", "repeats", "acknowledged", "unacknowledged", "asks",
-        "full_asks", "refused_asks", "salvaged", "torn", "salvaging")]
+        "full_asks", "refused_asks", "salvaged", "torn", "salvaging", "limited_triggers")]
 
 
 class _Info(ctypes.Structure):

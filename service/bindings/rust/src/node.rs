@@ -65,7 +65,8 @@ counts!(
 counts!(
     /// What a node did since it was opened. `hindsight.h` says what each number counts.
     NodeCounts of hind_node_counts: passes, clients, used_clients, points, null_pages, stray_points, full_points, long_points, spent_points, refused_crumbs,
-        refused_triggers, dropped_notes, messages, hellos, tells, reports, standings, repeats, acknowledged, unacknowledged, asks, full_asks, refused_asks, salvaged, torn, salvaging
+        refused_triggers, dropped_notes, messages, hellos, tells, reports, standings, repeats, acknowledged, unacknowledged, asks, full_asks, refused_asks, salvaged, torn,
+        salvaging, limited_triggers
 );
 
 impl Node {

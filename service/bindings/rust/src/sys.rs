@@ -109,6 +109,7 @@ pub struct hind_node_counts {
     pub salvaged: u64,
     pub torn: u64,
     pub salvaging: u64,
+    pub limited_triggers: u64,
 }
 
 #[repr(C)]
