@@ -36,6 +36,7 @@ fn one_drawer(alloc: Global) -> Result<(Giver, Drawer), Memory>
 fn draw_chunk(drawer: &mut Drawer) -> Option<(Held<Lease>, u64)>
     requires { 1 ≤ drawer.old.left }
     ensures same { (drawer.new.pool ≡ drawer.old.pool) × (drawer.new.size ≡ drawer.old.size) × (drawer.new.number ≡ drawer.old.number) }
+    ensures most { drawer.new.most ≡ drawer.old.most }
     ensures left { drawer.new.left + 1 ≡ drawer.old.left }
     ensures held { IfSome result (λ got. (got.0.lease.pool ≡ drawer.old.pool) × (got.0.chunk.size ≡ drawer.old.size)) }
 {
@@ -125,6 +126,64 @@ fn one_miss_for_one_empty_draw(alloc: Global) -> Result<bool, Memory> {
     let tally = close_one(alloc, giver, drawer, held)?;
     Ok(is_whole && (tally.gots, tally.empties, tally.gives, tally.misses) == (2, 1, 1, 1))
 }
+
+// ---- a drawer that looks at the counts
+
+/// A pool of eight chunks with one drawer, which draws twice before it looks.
+fn two_draws(alloc: Global) -> Result<(Giver, Drawer), Memory>
+    ensures { IfOk result (λ ends. (ends.1.most ≡ 2) × (ends.1.left ≡ 2)) }
+{
+    let (giver, mut drawers) = ring_of(alloc, 8, &[2])?;
+    let Some(drawer) = drawers.pop() else {
+        unreachable!()
+    };
+    Ok((giver, drawer))
+}
+
+/// Draws twice, and answers whether both draws got a chunk and the allowance has nothing left.
+fn draw_two(drawer: &mut Drawer) -> bool
+    requires { 2 ≤ drawer.old.left }
+    ensures { drawer.new.most ≡ drawer.old.most }
+{
+    let first = draw_chunk(drawer).is_some();
+    let second = draw_chunk(drawer).is_some();
+    first && second && drawer.left() == 0
+}
+
+/// An allowance of two is drawn, made whole again and drawn once more.
+fn an_allowance_is_made_whole_again(alloc: Global) -> Result<bool, Memory> {
+    let (_giver, mut drawer) = two_draws(alloc)?;
+    let first = draw_two(&mut drawer);
+    if !drawer.refill() {
+        return Ok(false);
+    }
+    let is_whole = drawer.left() == 2 && drawer.most() == 2;
+    Ok(first && is_whole && draw_two(&mut drawer))
+}
+
+/// Draws the one chunk, and once more.
+fn draw_past(drawer: &mut Drawer) -> Option<Held<Lease>>
+    requires { 2 ≤ drawer.old.left }
+    ensures { IfSome result (λ held. (held.lease.pool ≡ drawer.old.pool) × (held.chunk.size ≡ drawer.old.size)) }
+{
+    let (held, _) = draw_chunk(drawer)?;
+    draw_nothing(drawer)?;
+    Some(held)
+}
+
+/// While a void number stands out the allowance stays, and when the give that misses has published it, it is whole again.
+fn a_void_number_keeps_the_allowance(alloc: Global) -> Result<bool, Memory> {
+    let (mut giver, mut drawer) = one_drawer(alloc)?;
+    let Some(held) = draw_past(&mut drawer) else {
+        return Ok(false);
+    };
+    let stays = !drawer.refill() && drawer.left() == 6;
+    let misses = give_void(&mut giver, held).is_some();
+    let is_whole = drawer.refill() && drawer.left() == 8;
+    Ok(stays && misses && is_whole)
+}
+
+// ---- five threads
 
 /// The stamps that four drawers and a giver were answered leave no gap, and are as many as their calls.
 fn five_threads_leave_no_gap<R: Threads + Clock + Wait + Sync>(
@@ -279,6 +338,16 @@ fn rings(rt: HostRuntime) {
         &rt,
         "one miss for one empty draw",
         one_miss_for_one_empty_draw(rt.alloc()),
+    );
+    row(
+        &rt,
+        "an allowance is made whole again",
+        an_allowance_is_made_whole_again(rt.alloc()),
+    );
+    row(
+        &rt,
+        "a void number keeps the allowance",
+        a_void_number_keeps_the_allowance(rt.alloc()),
     );
     row(
         &rt,

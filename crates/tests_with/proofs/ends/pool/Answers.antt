@@ -29,5 +29,5 @@ returns c =
     let drawer : c.in-Some.drawer ≡ _ = last_of_one c.pop.new.self.items c.in-Some.drawer _ (sym new.drawers_are ∙ c.in-Some.ensures.some) in
     record {
       giver_is = subst (λ (n : ℕ). c.in_ok-giver.giver ≡ record { pool = c.in_ok-giver.giver.pool; buffers = n; size = c.args.size; drawers = 1; floor = 0; turns = [] }) many new.giver_is;
-      drawers_are = subst (λ (n : ℕ). c.in-Some.drawer ∷ [] ≡ record { pool = c.in_ok-giver.giver.pool; buffers = n; size = c.args.size; number = 0; left = c.args.draws; floor = 0; answers = [] } ∷ []) many (ap (λ (d : Drawing). d ∷ []) drawer);
+      drawers_are = subst (λ (n : ℕ). c.in-Some.drawer ∷ [] ≡ record { pool = c.in_ok-giver.giver.pool; buffers = n; size = c.args.size; number = 0; most = c.args.draws; left = c.args.draws; floor = 0; answers = [] } ∷ []) many (ap (λ (d : Drawing). d ∷ []) drawer);
     }
