@@ -192,6 +192,56 @@ static void an_empty_pool(void) {
     EXPECT(hindcore_port_free(&port), HINDCORE_DONE);
 }
 
+/* Of 16 clients each has 524,287 of the 2^23 - 1 draws that all may make before they look at the counts of the pool again. A page of 64 bytes has room
+ * for one record of 30. The client that is handed out first has the number 15. */
+static void more_draws_than_a_share(void) {
+    static const char many[] = "triggerid 1\nnodes 4\nbuffers 20\nsize 64\nthreshold 1\npins 1\nclients 16\nbacklog 16\n";
+    hindcore_client *c = &clients[0];
+    hindcore_count counts;
+    EXPECT(open_with(many, 0), HINDCORE_DONE);
+    EXPECT(hindcore_client_open(&port, c), HINDCORE_DONE);
+    for (int i = 0; i < 600000 && !failed; i++) {
+        EXPECT(hindcore_begin(c, &first), HINDCORE_DONE);
+        EXPECT(hindcore_point(c, 1, bytes, 30), HINDCORE_DONE);
+        EXPECT(hindcore_end(c), HINDCORE_DONE);
+        EXPECT(hindcore_take(&port, 15), HINDCORE_DONE);
+    }
+    /* one segment of as many pages: the page of each record is sent when the next one comes */
+    EXPECT(hindcore_begin(c, &second), HINDCORE_DONE);
+    EXPECT(hindcore_point(c, 2, bytes, 30), HINDCORE_DONE);
+    for (int i = 0; i < 600000 && !failed; i++) {
+        EXPECT(hindcore_point(c, 2, bytes, 30), HINDCORE_DONE);
+        EXPECT(hindcore_take(&port, 15), HINDCORE_DONE);
+    }
+    EXPECT(hindcore_end(c), HINDCORE_DONE);
+    EXPECT(hindcore_take(&port, 15), HINDCORE_DONE);
+    EXPECT(hindcore_counts(c, &counts), HINDCORE_DONE);
+    EXPECT(counts.null_pages, 0);
+    EXPECT(hindcore_client_free(c), HINDCORE_DONE);
+    EXPECT(hindcore_port_free(&port), HINDCORE_DONE);
+    /* Nobody takes: twenty pages get a buffer, and no other draw of the share does. Then numbers that are void stand out, and no look makes the share whole. */
+    unsigned long dry = 0;
+    uint32_t code;
+    EXPECT(open_with(many, 0), HINDCORE_DONE);
+    EXPECT(hindcore_client_open(&port, c), HINDCORE_DONE);
+    EXPECT(hindcore_begin(c, &first), HINDCORE_DONE);
+    for (int i = 0; i < 20; i++) EXPECT(hindcore_point(c, 3, bytes, 30), HINDCORE_DONE);
+    while ((code = hindcore_point(c, 3, bytes, 30)) == HINDCORE_DRY && dry < 1000000) dry++;
+    EXPECT(code, HINDCORE_SPENT);
+    EXPECT(dry, 524267);
+    EXPECT(hindcore_counts(c, &counts), HINDCORE_DONE);
+    EXPECT(counts.null_pages, 524267);
+    EXPECT(counts.spent_points, 1);
+    /* each give misses once for each of them, and then the pool has its buffers again */
+    for (int i = 0; i < 16; i++) EXPECT(hindcore_take(&port, 15), HINDCORE_DONE);
+    EXPECT(hindcore_take(&port, 15), HINDCORE_NOTHING);
+    for (int i = 0; i < 16; i++) EXPECT(hindcore_point(c, 4, bytes, 30), HINDCORE_DONE);
+    EXPECT(hindcore_point(c, 4, bytes, 30), HINDCORE_DRY);
+    EXPECT(hindcore_end(c), HINDCORE_DONE);
+    EXPECT(hindcore_client_free(c), HINDCORE_DONE);
+    EXPECT(hindcore_port_free(&port), HINDCORE_DONE);
+}
+
 /* Each allocation of making is refused in turn: nothing is made, and nothing is kept. */
 static void refused_memory(void) {
     long before = live, tried = 0;
@@ -392,6 +442,7 @@ int main(void) {
     a_life();
     a_full_outbox();
     an_empty_pool();
+    more_draws_than_a_share();
     refused_memory();
     limited_triggers();
     pages_in_buffers();
