@@ -199,9 +199,9 @@ static void spans(void) {
     EXPECT(is_written(hind_put_span_bool(out, c7, "k", 0), "004100000000000000c703016b00"), 1);
     /* a text is cut in front of a character: 254 bytes and one of two bytes */
     memset(text, 'n', 254);
-    strcpy(text + 254, "\xc3\xa4");
+    memcpy(text + 254, "\xc3\xa4", 3);
     EXPECT(hind_put_span_event(out, c7, text), 10 + 254);
-    strcpy(text + 254, "nn");
+    memcpy(text + 254, "nn", 3);
     EXPECT(hind_put_span_event(out, c7, text), 10 + 255);
     memset(text, 0x80, 300);
     text[300] = 0;

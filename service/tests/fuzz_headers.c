@@ -58,7 +58,7 @@ static void read_list(const char *text, list *found) {
             break;
         }
         if (found->ours < 0 && key == 4 && !strncmp(part, "hind", 4)) found->ours = found->count;
-        strcpy(found->entries[found->count++], part);
+        memcpy(found->entries[found->count++], part, strlen(part) + 1); /* at most 514 bytes, and a zero */
     }
     free(copy);
 }
