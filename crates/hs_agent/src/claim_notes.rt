@@ -39,7 +39,7 @@ impl Noting<Claim, Group> for Forgets {
 }
 
 impl ClaimNotes {
-    /// Nothing, to be kept. It takes no memory yet.
+    /// Empty notes of claims that are kept, for the book of the agent. It takes no memory yet.
     pub fn new(alloc: Global) -> ClaimNotes
         ensures { result ≡ record { items = []; keeps = true; room = 0 } }
     {
@@ -49,7 +49,7 @@ impl ClaimNotes {
         }
     }
 
-    /// Nothing, for clauses alone.
+    /// Empty notes of claims that are not kept: clauses see them, and no call takes memory for them.
     pub fn bare() -> ClaimNotes
         ensures { result ≡ record { items = []; keeps = false; room = 0 } }
     {

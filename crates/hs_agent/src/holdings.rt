@@ -84,7 +84,8 @@ impl<L: Token> Model for Holdings<L> {
 }
 
 impl<L: Token> Holdings<L> {
-    /// Nothing. What is noted can be had at the end.
+    /// What an agent holds before it took anything: no chunk, no claim, an empty hand. What is noted is kept, and can be had at
+    /// the end.
     pub fn make(alloc: Global, node: NodeId, settings: &Settings) -> Result<Holdings<L>, Memory>
         requires { AreRules settings.now.triggers.items }
         ensures { IfOk result (λ holdings. Holds holdings (first_point (settings_of settings.now) node.0 true)) }
@@ -95,7 +96,8 @@ impl<L: Token> Holdings<L> {
         Holdings::empty(alloc, node, settings, standings, claims, pages)
     }
 
-    /// Nothing. What is noted is for clauses alone. The hand has room for all buffers, and what a turn sends for all chunks.
+    /// What an agent holds before it took anything. What is noted is for clauses alone. The hand has room for all buffers, and
+    /// what a turn sends for all chunks.
     pub fn bare(alloc: Global, node: NodeId, settings: &Settings) -> Result<Holdings<L>, Memory>
         requires { AreRules settings.now.triggers.items }
         ensures { IfOk result (λ holdings. Holds holdings (first_point (settings_of settings.now) node.0 false)) }
@@ -126,7 +128,7 @@ impl<L: Token> Holdings<L> {
         self.pins.reserve_claims(claims as usize)
     }
 
-    /// Nothing, with these notes, which are empty.
+    /// Holdings before anything was taken, over these notes, which are empty.
     fn empty(
         alloc: Global,
         node: NodeId,

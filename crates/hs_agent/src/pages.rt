@@ -35,7 +35,7 @@ impl Noting<Bytes, Chunk> for Writes {
 }
 
 impl Pages {
-    /// Nothing, to be kept. It takes no memory yet.
+    /// Empty notes of pages that are kept, for the book of the agent. It takes no memory yet.
     pub fn new(alloc: Global) -> Pages
         ensures { result ≡ record { items = []; keeps = true } }
     {
@@ -45,7 +45,7 @@ impl Pages {
         }
     }
 
-    /// Nothing, for clauses alone.
+    /// Empty notes of pages that are not kept: clauses see them, and no call takes memory for them.
     pub fn bare() -> Pages
         ensures { result ≡ record { items = []; keeps = false } }
     {

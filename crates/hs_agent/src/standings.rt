@@ -42,7 +42,7 @@ impl Noting<Mark, Leave> for Leaves {
 }
 
 impl Standings {
-    /// Nothing, to be kept. It takes no memory yet.
+    /// Empty notes of chunks that are kept, for the book of the agent. It takes no memory yet.
     pub fn new(alloc: Global) -> Standings
         ensures { result ≡ record { items = []; keeps = true; room = 0 } }
     {
@@ -53,7 +53,7 @@ impl Standings {
         }
     }
 
-    /// Nothing, for clauses alone.
+    /// Empty notes of chunks that are not kept: clauses see them, and no call takes memory for them.
     pub fn bare() -> Standings
         ensures { result ≡ record { items = []; keeps = false; room = 0 } }
     {

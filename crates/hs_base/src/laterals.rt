@@ -31,7 +31,7 @@ impl Model for Laterals {
 }
 
 impl Laterals {
-    /// No laterals.
+    /// An empty list of laterals.
     pub fn none() -> Laterals
         ensures { result ≡ [] }
     {
@@ -41,7 +41,7 @@ impl Laterals {
         }
     }
 
-    /// Adds a trace at the end.
+    /// Adds a lateral at the end of the list, which is not full.
     pub fn push(&mut self, trace: TraceId)
         requires { length self.old < MAX_LATERALS }
         ensures { self.new ≡ self.old ++ trace ∷ [] }
@@ -50,7 +50,7 @@ impl Laterals {
         self.len += 1;
     }
 
-    /// How many there are, at most 32.
+    /// How many laterals there are, at most 32.
     pub fn len(&self) -> u32
         ensures value { result ≡ length self.now }
         ensures bound { result ≤ MAX_LATERALS }
@@ -58,14 +58,14 @@ impl Laterals {
         self.len
     }
 
-    /// Whether there is none.
+    /// Whether there is no lateral.
     pub fn is_empty(&self) -> bool
         ensures { IsTrue result ↔ (self.now ≡ []) }
     {
         self.len == 0
     }
 
-    /// The trace at a place from 0, or `None` where the place is not below the length.
+    /// The lateral at a place from 0, or `None` where the place is not below the length.
     pub fn get(&self, place: u32) -> Option<TraceId>
         ensures { result ≡ slice_get self.now place }
     {

@@ -112,7 +112,7 @@ impl<T> List<T> {
         self.items.get(place)
     }
 
-    /// The items.
+    /// The items as a slice, in their order.
     pub fn as_slice(&self) -> &[T]
         ensures { result.now ≡ self.now.items }
     {

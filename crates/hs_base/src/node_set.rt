@@ -13,7 +13,7 @@ use crate::limits::MOST_NODES;
 pub struct NodeSet(pub u128);
 
 impl NodeSet {
-    /// No node.
+    /// The empty set.
     pub fn none() -> NodeSet
         ensures value { result ≡ no_nodes }
         ensures nodes { (n : ℕ) → has_node result n ≡ false }
@@ -21,7 +21,7 @@ impl NodeSet {
         NodeSet(0)
     }
 
-    /// One node.
+    /// The set that has this node and no other.
     pub fn only(node: NodeId) -> NodeSet
         requires { node.0 < MOST_NODES }
         ensures value { result ≡ one_node node }
@@ -47,7 +47,7 @@ impl NodeSet {
         NodeSet(self.0 | 1 << node.0)
     }
 
-    /// The nodes of either set.
+    /// The set of the nodes that are in either set.
     pub fn union(self, other: NodeSet) -> NodeSet
         ensures value { result ≡ either self other }
         ensures nodes { (n : ℕ) → has_node result n ≡ (has_node self n || has_node other n) }

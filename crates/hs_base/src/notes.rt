@@ -26,7 +26,7 @@ impl<T> Model for Notes<T> {
 }
 
 impl<T: Drop> Notes<T> {
-    /// Nothing, to be kept. It takes no memory yet.
+    /// Empty notes that are kept, so that they can be had as a list at the end. It takes no memory yet.
     pub fn new(alloc: Global) -> Notes<T>
         ensures { result ≡ record { items = []; keeps = true; room = 0 } }
     {
@@ -36,7 +36,7 @@ impl<T: Drop> Notes<T> {
         }
     }
 
-    /// Nothing, to be kept, with memory for `room` items. No room takes no memory.
+    /// Empty notes that are kept, with memory for `room` items. No room takes no memory.
     pub fn with_room(alloc: Global, room: usize) -> Result<Notes<T>, Memory>
         ensures empty { IfOk result (λ notes. notes ≡ record { items = []; keeps = true; room = room }) }
         ensures some { OnErr result (0 < room) }
@@ -47,7 +47,7 @@ impl<T: Drop> Notes<T> {
         })
     }
 
-    /// Nothing, for clauses alone.
+    /// Empty notes that are not kept: clauses see what is noted, and no call takes memory for it.
     pub fn bare() -> Notes<T>
         ensures { result ≡ record { items = []; keeps = false; room = 0 } }
     {

@@ -21,7 +21,7 @@ pub trait Noting<T, X> {
 }
 
 impl<T> Trail<T> {
-    /// Nothing.
+    /// A trail with no item.
     pub fn new() -> Trail<T>
         ensures { result.items ≡ [] }
     {
@@ -30,7 +30,7 @@ impl<T> Trail<T> {
         }
     }
 
-    /// One item more.
+    /// The trail `before`, with a copy of this item at its end.
     pub fn with(before: &Trail<T>, item: &T) -> Trail<T>
         ensures { result.items ≡ before.now.items ++ item.now ∷ [] }
     {
@@ -41,7 +41,7 @@ impl<T> Trail<T> {
         }
     }
 
-    /// The notes as they go on by a value.
+    /// The trail as it goes on by a value, in the way that `N` says.
     pub fn after<X, N: Noting<T, X>>(before: &Trail<T>, value: &X) -> Trail<T>
         ensures { result.items ≡ N.then before.now.items value.now }
     {

@@ -45,13 +45,13 @@ pub struct HubCell {
     pub cursor: Cursor,
 }
 
-/// What came of a client.
+/// What became of a call that takes a chunk of a client.
 pub enum Took {
     /// A chunk, whose buffer was given back.
     Chunk,
     /// A chunk, whose buffer the pool did not take in so many tries. It is gone.
     Lost,
-    /// None.
+    /// No chunk has come.
     Nothing,
     /// There is no such client.
     Unknown,

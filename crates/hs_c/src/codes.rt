@@ -41,7 +41,7 @@ pub const UNKNOWN: u32 = 10;
 /// Numbers end.
 pub const SPENT: u32 = 11;
 
-/// Nothing is there.
+/// There is nothing that the call could hand out or name.
 pub const NOTHING: u32 = 12;
 
 /// The bytes spell no message.

@@ -71,7 +71,7 @@ pub struct HindLife {
     pub abandoned_pages: u64,
 }
 
-/// Nothing that belongs to a word.
+/// What is written of a life where no trace is out or the life said nothing: all counts are 0.
 const NO_LIFE: HindLife = HindLife {
     word: 0,
     open_segments: 0,
@@ -279,7 +279,7 @@ pub extern "C" fn hindcore_hub_open(
     }
 }
 
-/// The same by settings that were read.
+/// Makes a hub by settings that were read, and fills the handle. The code is DONE or MEMORY.
 fn open_hub(
     alloc: Global,
     settings: &ServiceSettings,

@@ -97,7 +97,7 @@ pub extern "C" fn hindcore_open(
     }
 }
 
-/// The same by settings that were read.
+/// Makes the clients and their port by settings that were read, and fills the handle. The code is DONE, UNFIT or MEMORY.
 fn open(alloc: Global, settings: &ServiceSettings, node: u16, port: &mut HindPort) -> u32
     ensures done { (text : _) → reading_of text ≡ Ok (service_of settings.now) → result ≡ DONE → Opens text node port.new }
     ensures same { result ≢ DONE → port.new ≡ port.old }

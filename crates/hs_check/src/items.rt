@@ -74,7 +74,7 @@ fn client_in_pace(
     Ok(all_three(chunks, crumbs, triggers))
 }
 
-/// Whether all three hold.
+/// Whether the chunks, the crumbs and the triggers of a client are all taken in pace.
 fn all_three(first: bool, second: bool, third: bool) -> bool
     ensures { result ≡ (first && second && third) }
 {

@@ -7,7 +7,7 @@ ghost use Rattle.hs_check_clauses.specs.Rising.{is_above};
 
 use hs_records::{Draw, Step};
 
-/// The stamp of a draw.
+/// The stamp of a draw: its place in the history of its pool.
 pub fn stamp_of(draw: Draw) -> u64
     ensures { result ≡ stamp_of draw }
 {
@@ -17,7 +17,7 @@ pub fn stamp_of(draw: Draw) -> u64
     }
 }
 
-/// The stamp of an offer that was an event of the pool.
+/// The stamp of a step, if it is an offer that was an event of the pool.
 pub fn step_stamp(step: Step) -> Option<u64>
     ensures { result ≡ step_stamp step }
 {

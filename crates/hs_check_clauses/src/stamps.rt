@@ -28,7 +28,8 @@ pub fn has_stamps(alloc: Global, workload: &Workload, journal: &Journal) -> Resu
     Ok(true)
 }
 
-/// The same of one node.
+/// Whether the stamps of one node number what happens at its pool from 0 on, each once, and rise within a client and within a
+/// log.
 fn node_has_stamps(
     alloc: Global,
     workload: &Workload,

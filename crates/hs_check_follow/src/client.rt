@@ -1,4 +1,4 @@
-//! What a client sends.
+//! What one client sends of its operations, by the draws that a journal has of it.
 
 ghost use Rattle.std.specs.Prelude.{◌≡◌, length, map, IfOk};
 ghost use Rattle.hs_client.specs.Calls.{note_of};

@@ -28,7 +28,7 @@ pub(crate) struct Gathering {
 }
 
 impl Gathering {
-    /// Nothing was sent. Chunks are to be kept, or not.
+    /// A gathering of a client that has sent nothing. Its chunks will be kept, or not.
     pub(crate) fn new(alloc: Global, keeps: bool) -> Gathering
         ensures { IsNew result }
     {

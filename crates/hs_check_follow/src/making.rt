@@ -92,7 +92,7 @@ fn make_node(
     })
 }
 
-/// What a client sends.
+/// A client of a journal before any step of it: all that the client sends, of which nothing is taken yet.
 fn make_client(
     alloc: Global,
     client: ClientId,

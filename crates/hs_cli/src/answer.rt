@@ -73,7 +73,7 @@ pub(crate) fn subject_of<S: Source>(alloc: Global, command: Command, source: &mu
     }
 }
 
-/// What a source has.
+/// Reads the whole source, and finds in it what the command is about.
 fn read<S: Source>(alloc: Global, command: Command, source: &mut S) -> Subject
     requires { IsReader command }
     ensures { IsSubject command (S.left source.old) (S.left source.new) (S.faults source.old) (S.faults source.new) result }

@@ -30,7 +30,8 @@ fn compared(
     compare(alloc, workload, &outcome, one_in, room)
 }
 
-/// The text of that.
+/// The text of a comparison: what this workload comes to by the lockstep schedule, beside what other samplers keep of it
+/// (`docs/FORMATS.md`, "What `compare` writes").
 pub(crate) fn comparison(
     alloc: Global,
     workload: &Workload,

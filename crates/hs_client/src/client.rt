@@ -80,7 +80,8 @@ impl<L: Token> ClientCore<L> {
         })
     }
 
-    /// The same, but bare: only clauses see its draws and pages. It takes no memory.
+    /// A core as `make` makes it, for so many calls that are counted, but bare: it keeps no list of its draws and pages, which
+    /// only clauses see. It takes no memory, now or later.
     pub fn bare(client: ClientId, size: u32, calls: u32) -> ClientCore<L>
         requires least { MIN_SIZE ≤ size }
         requires most { size ≤ MAX_SIZE }
@@ -294,7 +295,7 @@ impl<L: Token> ClientCore<L> {
         self.size
     }
 
-    /// How often it was renewed.
+    /// How often the core was renewed since it was made.
     pub fn renewed(&self) -> u64
         ensures { result ≡ self.now.renewed }
     {

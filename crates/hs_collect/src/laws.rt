@@ -23,7 +23,8 @@ pub fn runs_decide_the_records()
         → AreWholes (pieces_of trace sheets) wholes → AreWholes (pieces_of trace others) wholes }
 {}
 
-/// They collect the same, where such an order also keeps that in which the traces were first seen.
+/// Pages collect the same in any order that keeps that of the pages of each client and trace, and that in which the traces were
+/// first seen.
 pub fn reordered_pages_collect_the_same()
     ensures { (sheets others : Sheets) (collection : Collection) → IsReordering sheets others
         → AreCollected sheets collection → AreCollected others collection }

@@ -58,7 +58,7 @@ fn join(payload: &mut Bytes, more: &[u8]) -> Result<(), Memory>
 impl TraceRecords {
     ghost use Rattle.hs_collect.specs.declared.records.TraceRecord.{TraceRecord};
 
-    /// No record.
+    /// The records of a trace of which no page was added.
     pub(crate) fn none(alloc: Global) -> TraceRecords
         ensures { wholes_of result ≡ [] }
     {

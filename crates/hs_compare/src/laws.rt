@@ -65,7 +65,8 @@ pub fn tail_is_the_sum()
     kept_is_parted();
 }
 
-/// The examples hold.
+/// Two workloads that were worked out by hand compare as the examples in `specs/SamplerExamples.antt` say: one where an eviction
+/// leaves a gap, and one with a ring of a single record.
 pub fn examples_hold()
     ensures { Examples }
 {}

@@ -116,7 +116,7 @@ pub(crate) fn line_of(
     Ok(counted_line(all, named, kept, &counts, shipped))
 }
 
-/// The same, where the kept traces are counted.
+/// The numbers of a sampler as `line_of` answers them, where `counts` has how often each trace is kept.
 pub(crate) fn counted_line(
     all: &Counts,
     named: &[TraceId],

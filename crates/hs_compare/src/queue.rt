@@ -32,7 +32,7 @@ impl Model for Queue {
 pub type Queues = IndexMap<TraceId, Queue>;
 
 impl Queue {
-    /// No record. It takes no memory.
+    /// A queue with no record. It takes no memory.
     pub fn new(alloc: Global) -> Queue
         ensures { result ≡ [] }
     {

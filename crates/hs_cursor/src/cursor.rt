@@ -81,7 +81,7 @@ fn plain_row(key: PageKey, number: u64, moment: u64, payload: &[u8]) -> Row<'_>
 }
 
 impl Cursor {
-    /// Before the first row.
+    /// A cursor before the first row of a trace.
     pub fn start() -> Cursor
         ensures { result ≡ start }
     {
@@ -92,7 +92,7 @@ impl Cursor {
         }
     }
 
-    /// The page that it stands in.
+    /// The page in which the cursor stands, or `None` before the first row.
     pub fn page(&self) -> Option<PageKey>
         ensures { result ≡ self.now.page }
     {

@@ -22,7 +22,7 @@ fn front_piece(bytes: &[u8]) -> Option<(u64, &[u8])>
     Some((BigEndian::read_u64(&bytes[2..]), &bytes[PIECE_COST..end]))
 }
 
-/// The same of the piece that begins at this place.
+/// The moment and the payload of the piece that begins at this place, or `None` where no whole one does.
 pub(crate) fn piece_at(bytes: &[u8], at: usize) -> Option<(u64, &[u8])>
     ensures piece { option_map (λ piece. record { moment = piece.0; payload = piece.1.now }) result ≡ piece_at bytes.now at }
     ensures within { IfSome result (λ piece. at + PIECE_COST + length piece.1.now ≤ length bytes.now) }

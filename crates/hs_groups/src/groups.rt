@@ -49,7 +49,8 @@ impl Model for Groups {
 }
 
 impl Groups {
-    /// No groups, within these limits. All memory is taken here.
+    /// No groups, within these limits. All memory is taken here: a `Limits` fault is of more than 128 nodes or of no group at
+    /// all.
     pub fn make(alloc: Global, limits: GroupLimits) -> Result<Groups, MakeFault>
         ensures made { IfOk result (λ groups. groups ≡ no_groups limits) }
         ensures limits { (result ≡ Err MakeFault.Limits) ↔ AreOut limits }
@@ -101,8 +102,11 @@ impl Groups {
         Heard::Known
     }
 
-    /// Takes a message that a node told in a life, and hears the life as by `hear`. After `Refused` and `Full` all is as it was.
-    /// Takes no memory.
+    /// Takes a message in which a node tells of a group, in the life of this epoch: the group is followed from then on, a node
+    /// that a crumb names for the first time is to be asked, and an `Answer` of the latest life answers the node's ask
+    /// (`docs/RULES.md`, "The hub"). `Taken` has what `hear` answers of the epoch. `Refused` comes where a node is named that is
+    /// not there, and `Full` where it would begin one group too many while the oldest is not settled; after both all is as it
+    /// was. Takes no memory.
     pub fn told(&mut self, node: NodeId, epoch: u64, told: &Told) -> Taken
         ensures answer { result ≡ answer_to self.old node epoch told.now }
         ensures after { self.new ≡ after_told self.old node epoch told.now }

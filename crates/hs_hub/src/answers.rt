@@ -60,7 +60,7 @@ pub enum Given {
     CutShort,
 }
 
-/// How much is held.
+/// How much a hub holds, and how many passes it made.
 #[derive(Clone, Copy, Debug, PartialEq, Eq)]
 pub struct HubCounts {
     /// Passes so far.

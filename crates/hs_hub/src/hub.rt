@@ -241,7 +241,8 @@ impl Hub {
         }
     }
 
-    /// A node says in which life it is. Takes no memory.
+    /// A node says that it speaks in the life of this epoch. If that is later than all that were heard of the node, its asks
+    /// without an answer are to be sent again. Takes no memory.
     pub fn hear(&mut self, node: NodeId, epoch: u64) -> Delivered
         ensures answer { result ≡ answer_to_hear self.old node epoch }
         ensures after { self.new ≡ after_hear self.old node epoch }
@@ -463,8 +464,8 @@ impl Hub {
         }
     }
 
-    /// The trace that may be given out, and why: one of which nothing more is to come, else the one that waits longest, by age or at a
-    /// limit.
+    /// The trace that may be given out, and why: one of which nothing more is to come, else the one that waits longest, by age or
+    /// at a limit.
     fn may_go(&self) -> Option<(TraceId, Given)>
         ensures { result ≡ may_go self.now }
     {
@@ -474,7 +475,9 @@ impl Hub {
         }
     }
 
-    /// Gives a trace out, unless one is out already, or none may be. It is held until it is saved. Takes no memory.
+    /// Gives a trace out, and answers which. A complete trace goes first, of the oldest group that has one; else the one whose
+    /// message waits longest, once it is as old as `age` passes or at once if a limit is reached. `None` comes where a trace is
+    /// out already, or none may go. The trace is held until `saved`. Takes no memory (`docs/RULES.md`, "The hub").
     pub fn take(&mut self) -> Option<TraceId>
         ensures answer { result ≡ answer_to_take self.old }
         ensures after { self.new ≡ after_take self.old }
@@ -490,14 +493,14 @@ impl Hub {
         Some(trace)
     }
 
-    /// The trace that is out.
+    /// The trace that is out, or `None` where none is.
     pub fn out(&self) -> Option<TraceId>
         ensures { result ≡ self.now.receipts.out }
     {
         self.receipts.out()
     }
 
-    /// Why the trace that is out was given out.
+    /// Why the trace that is out was given out, or `None` where none is out.
     pub fn why(&self) -> Option<Given>
         ensures { result ≡ why_out self.now }
     {
@@ -623,7 +626,7 @@ impl Hub {
         self.receipts.next_acknowledged()
     }
 
-    /// How much is held.
+    /// How much the hub holds, and how many passes it made.
     pub fn counts(&self) -> HubCounts
         ensures { result ≡ counts_of self.now }
     {

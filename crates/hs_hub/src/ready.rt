@@ -71,7 +71,7 @@ pub(crate) fn first_ready(
     }
 }
 
-/// The same of these groups.
+/// The first trace that is ready of the first of these groups that has one.
 fn ready_among(
     groups: &Groups,
     standings: &Standings,

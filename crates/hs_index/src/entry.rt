@@ -34,7 +34,7 @@ impl<L: Token> Model for IndexedTrace<L> {
 }
 
 impl<L: Token> IndexedTrace<L> {
-    /// Nothing. Takes no memory.
+    /// A trace with no chunk and no crumb. Takes no memory.
     pub fn new(alloc: Global) -> IndexedTrace<L>
         ensures { result ≡ nothing }
     {
@@ -135,7 +135,7 @@ impl<L: Token> IndexedTrace<L> {
         }
     }
 
-    /// All of it.
+    /// All that is indexed of the trace, as a claim takes it: its chunks in the order of arrival, and its crumbs.
     pub fn release(self) -> Taken<L>
         ensures held { map buffer_of result.held.items ≡ self.chunks }
         ensures crumbs { result.crumbs ≡ self.crumbs }

@@ -219,7 +219,7 @@ impl Intake {
         self.take_crumbs(client)
     }
 
-    /// Says what waits to be said, if anything does.
+    /// Posts what the agent told last, if that found no place in the mail before and finds one now.
     pub fn say(&mut self)
         ensures said { SaysIt self.old.mail self.old.claims self.old.unsaid self.new.mail self.new.claims self.new.unsaid }
         ensures only { self.new ≡ record self.old { mail = self.new.mail; claims = self.new.claims; unsaid = self.new.unsaid } }
@@ -271,7 +271,8 @@ impl Intake {
         self.mail.acknowledged(number)
     }
 
-    /// Offers all messages that wait anew.
+    /// Begins anew with the messages that are not acknowledged, as after a lost connection: `next` answers each of them once
+    /// more, the oldest first.
     pub fn again(&mut self)
         ensures { self.new ≡ record self.old { mail = after self.old.mail OffersAgain } }
     {

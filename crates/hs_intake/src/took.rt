@@ -13,7 +13,7 @@ use hs_words::Held;
 pub enum Stop {
     /// Nothing more has come.
     Empty,
-    /// So many were taken as a pass takes.
+    /// As many were taken as one pass takes.
     Most,
     /// Memory was wanting for the next one. It waits at the front.
     Memory,
@@ -31,7 +31,7 @@ pub struct Took {
 }
 
 impl Took {
-    /// Nothing was taken.
+    /// An answer that nothing was taken, for this reason.
     pub(crate) fn none(stop: Stop) -> Took
         ensures { result ≡ record { count = 0; stop = stop } }
     {
@@ -48,7 +48,7 @@ pub struct TookTriggers {
 }
 
 impl TookTriggers {
-    /// No trigger was taken.
+    /// An answer that no trigger was taken, for this reason.
     pub(crate) fn none(stop: Stop) -> TookTriggers
         ensures { result ≡ record { took = record { count = 0; stop = stop }; limited = 0 } }
     {
@@ -72,7 +72,7 @@ impl TookTriggers {
 /// What became of a turn.
 #[derive(Clone, Copy, Debug, PartialEq, Eq)]
 pub enum Turned {
-    /// It was made.
+    /// The agent made its turn.
     Done,
     /// There is no place for each page that it may report.
     Full,

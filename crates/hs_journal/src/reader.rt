@@ -41,7 +41,7 @@ pub struct Reader {
 }
 
 impl Reader {
-    /// Nothing read yet.
+    /// A reader that has read no line.
     pub fn new(alloc: Global) -> Reader
         ensures { draft_of result ≡ fresh }
     {

@@ -29,8 +29,9 @@ pub fn schedule_is_doings()
     known();
 }
 
-/// So its journal keeps the clauses on order: every log is one whole pass after another in which all offers are made, none of them is unread, each
-/// step is ready when its turn comes, and all agents make as many passes, as many as there are rounds at least.
+/// The lockstep journal of a workload keeps the clauses on order (L5 to L9): every log is one whole pass after another in which
+/// all offers are made, no offer is unread, each step is ready when its turn comes, and all agents make as many passes, at least
+/// as many as there are rounds.
 pub fn schedule_has_order()
     ensures passes { ScheduleHasPasses }
     ensures offers { ScheduleHasOffers }
@@ -105,7 +106,7 @@ pub fn machines_are_whole()
     valid_workloads_run();
 }
 
-/// At the start nothing was performed.
+/// At the start of the schedule no step is performed.
 pub fn machines_start_so()
     ensures { MachinesStartSo }
 {

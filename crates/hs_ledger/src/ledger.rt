@@ -41,7 +41,7 @@ pub fn is_reported(fate: Fate) -> bool
 impl Totals {
     ghost use Rattle.hs_ledger.specs.Totals.{totals_of, with_fate, parts_of};
 
-    /// No entry.
+    /// Totals before any entry is counted.
     fn none() -> Totals
         ensures { result ≡ record { records = 0; live = 0; reported = 0; null = 0; evicted = 0; abandoned = 0 } }
     {

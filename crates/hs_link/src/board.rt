@@ -24,13 +24,13 @@ pub enum View<T, F> {
     Whole(F),
     /// The sender: what it put, and how many it heard were taken.
     Sending(F, LinkedList<T>, u64),
-    /// The same, with the slot of the next entry in hand.
+    /// The sender while it puts an item: what it put, how many it heard were taken, and the slot of the next entry in hand.
     Laying(F, LinkedList<T>, u64),
     /// The sender beside a receiver: the receiver's key, and what it received.
     Meeting(F, LinkedList<T>, u64, F, LinkedList<T>),
     /// The receiver: what it received, and what it was told was put.
     Receiving(F, LinkedList<T>, LinkedList<T>),
-    /// The same, with the next item in hand.
+    /// The receiver while it takes an item: what it received, what it was told was put, and the next item in hand.
     Taking(F, LinkedList<T>, LinkedList<T>, T),
     /// A note: what was put.
     TellsPut(F, LinkedList<T>),

@@ -324,7 +324,7 @@ impl<T: Drop, F: Fact<T>> Sender<T, F> {
         self.send_apart(item)
     }
 
-    /// The same, where it takes more than that.
+    /// Sends an item as `send_or_drop` does, where what waits has to go first or the next entry is not free.
     #[cold]
     #[inline(never)]
     fn send_apart(&mut self, item: T) -> bool

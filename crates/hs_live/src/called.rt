@@ -7,10 +7,10 @@ use hs_records::ClientBook;
 use hs_ring::{Drawer, Lease};
 use hs_words::Held;
 
-/// What a call of a client answers.
+/// What a call of a client answers: that it was done, or why it changed nothing.
 #[derive(Clone, Copy)]
 pub enum Called {
-    /// It was done.
+    /// The call did what it says.
     Done,
     /// As many calls of the core were counted as it was made for.
     Spent,

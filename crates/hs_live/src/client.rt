@@ -417,7 +417,7 @@ impl Client {
         }
     }
 
-    /// Gives back its ends alone. It may keep no book.
+    /// Gives back the ends of the client alone: its drawer and the senders of its links. It may be bare, and then keeps no book.
     pub fn part(self) -> Parted
         requires { IsNone self.core.trace }
         ensures drawer { result.drawer ≡ self.drawer }

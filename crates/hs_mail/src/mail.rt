@@ -215,7 +215,8 @@ impl Mail {
         page || word
     }
 
-    /// Offers all messages that wait anew.
+    /// Begins anew with the messages that are not acknowledged, as after a lost connection: `next` answers each of them once
+    /// more, the oldest first.
     pub fn again(&mut self)
         ensures { self.new ≡ after self.old OffersAgain }
     {

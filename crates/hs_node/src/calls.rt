@@ -54,7 +54,8 @@ impl Node {
         self.intake.acknowledged(number)
     }
 
-    /// Offers all messages that wait anew.
+    /// Begins anew with the messages that are not acknowledged, as after a lost connection: `next` answers each of them once
+    /// more, the oldest first.
     pub fn again(&mut self)
         ensures { self.new ≡ with_mail self.old (after self.old.intake.mail OffersAgain) }
     {

@@ -3,10 +3,10 @@
 ghost use Rattle.std.specs.Prelude.{◌≡◌};
 ghost use Rattle.hs_node_client.specs.Pointing.{called_of};
 
-/// What a call answers.
+/// What a call of a client answers: that it was done, or why it was refused. A refused call changes no trace and sends nothing.
 #[derive(Clone, Copy, Debug, PartialEq, Eq)]
 pub enum Called {
-    /// It was done.
+    /// The call did what it says.
     Done,
     /// No trace is open.
     NoTrace,

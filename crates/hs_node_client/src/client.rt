@@ -176,7 +176,9 @@ impl NodeClient {
         self.point_told(moment, payload).called()
     }
 
-    /// The same, and tells where it was done but found the pool empty.
+    /// Records a payload at a moment in microseconds, as `point` does, and also tells whether a draw of it found the pool empty.
+    /// `Done` says that each page that it drew for got a buffer; `Dry` that one got none, so that what is written to that page is
+    /// lost; any other answer is that of `point`, with its cause.
     pub fn point_told(&mut self, moment: u64, payload: &[u8]) -> Pointed
         ensures answer { PointsBy self.old.live (length payload.now) (called_of result) self.new.live }
         ensures dry { DriesBy result self.old.live.core self.new.live.core }

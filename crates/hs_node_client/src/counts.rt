@@ -51,7 +51,7 @@ fn more(count: u64, by: u64) -> u64
     count.saturating_add(by)
 }
 
-/// The same for a count of a segment.
+/// A count of a segment with one more, as far as its type goes.
 fn more_in_segment(count: u32) -> u32
     ensures { result ≡ more_in_segment count }
 {
@@ -82,7 +82,7 @@ const NONE_PAST: Counts = Counts {
 };
 
 impl Tally {
-    /// Nothing was counted.
+    /// The counts of a client that has done nothing: all are 0.
     pub(crate) fn none() -> Tally
         ensures { result ≡ no_counts }
     {

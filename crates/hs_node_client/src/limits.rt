@@ -23,7 +23,8 @@ pub struct ClientLimits {
     /// How many chunks, crumbs and triggers of a client may wait for the agent, from 1 to 65,536: each link has a ring of so many
     /// entries, and an outbox of so many places. A point of more pieces is refused.
     pub backlog: u32,
-    /// The same for the notes of a client's segments.
+    /// How many notes of a client's segments may wait for the agent, from 1 to 65,536: the ring of their link and its outbox have
+    /// so many places each.
     pub notes: u32,
     /// How many calls a client's core counts before it is renewed, 8,192 at least. Fewer than half are left where a begin renews it. A
     /// trace may take half of them.

@@ -83,7 +83,7 @@ pub fn make_clients(
     }
 }
 
-/// The same by limits and rules that were tested.
+/// The clients of a node as `make_clients` makes them, by limits and rules that were tested. The one error is want of memory.
 fn make_all(
     alloc: Global,
     limits: &ClientLimits,

@@ -55,7 +55,7 @@ pub struct Segment {
 #[derive(Clone, Copy)]
 pub struct SegmentKey(pub ClientId);
 
-/// Any note.
+/// A link of notes takes any note: nothing is claimed of it.
 impl Fact<Segment> for SegmentKey {
     ghost holds = { λ key segment. Unit {0} };
 }

@@ -40,7 +40,7 @@ pub struct Entry {
 pub struct Outbox {
     /// Those that wait, with rising numbers.
     entries: Vec<Entry>,
-    /// The other slots.
+    /// The slots in which no message waits.
     free: Vec<Slot>,
     /// The number below which all are handed out.
     handed: u128,
@@ -70,7 +70,7 @@ fn place_of(entries: &[Entry], number: u128) -> usize
     entries.partition_point(|entry| u128::from(entry.number) < number)
 }
 
-/// So many empty slots.
+/// So many empty slots, each with memory for a message of `room` bytes.
 fn slots(alloc: Global, places: u32, room: u32) -> Result<Vec<Slot>, Memory>
     ensures len { IfOk result (λ slots. length slots.items ≡ places) }
     ensures room { IfOk result (λ slots. HaveRoom room slots.items) }
@@ -205,7 +205,8 @@ impl Outbox {
         true
     }
 
-    /// Offers all messages that wait anew.
+    /// Begins anew with the messages that are not acknowledged, as after a lost connection: `next` answers each of them once
+    /// more, the oldest first.
     pub fn again(&mut self)
         ensures { self.new ≡ after self.old OffersAgain }
     {

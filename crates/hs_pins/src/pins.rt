@@ -126,7 +126,7 @@ impl<L: Token> Pins<L> {
         }
     }
 
-    /// How many triggers were admitted.
+    /// How many triggers of clients were admitted so far.
     pub fn admitted(&self) -> u32
         ensures { (memory : Remembered L) → Remembers self.now memory → result ≡ memory.admitted }
     {

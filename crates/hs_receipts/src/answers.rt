@@ -21,7 +21,7 @@ pub struct Waiting {
 /// What became of a message that is to wait.
 #[derive(Clone, Copy, Debug, PartialEq, Eq)]
 pub enum Noted {
-    /// It waits.
+    /// It is kept, and waits.
     Noted,
     /// As many are kept as may be.
     Full,

@@ -161,7 +161,7 @@ impl ReplayClient {
         self.doing.is_bare()
     }
 
-    /// What the client noted.
+    /// The book of the client: its draws and the pages that it wrote, when all its operations are done.
     pub fn finish(self) -> ClientBook
         requires { IsDone self }
         ensures { Notes self (client_book_of result) }

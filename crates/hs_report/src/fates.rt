@@ -62,7 +62,7 @@ impl Fates {
         Ok(Fates { by_trace, reported })
     }
 
-    /// The entries of a trace.
+    /// The entries of the records of a trace, in the order of the ledger.
     pub fn of(&self, trace: TraceId) -> &[Entry]
         ensures { (entries : List Entry) → AreFatesOf entries self.now → result.now ≡ filter (is_of trace) entries }
     {

@@ -128,7 +128,9 @@ impl Drawer {
         self.draw_marked(0)
     }
 
-    /// The same, and the lease has this mark.
+    /// Draws the chunk that waits longest, clear, with a lease that bears this mark, or answers that none waits. Apart from the
+    /// mark it is as `draw`, whose leases have mark 0: the stamp is the draw's place in the history of the pool, and it neither
+    /// waits nor takes memory.
     pub fn draw_marked(&mut self, mark: u64) -> Drawn<Lease>
         requires { 1 ≤ self.old.left }
         ensures { DrawsAs mark self.old result self.new }

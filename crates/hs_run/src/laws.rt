@@ -30,7 +30,8 @@ pub fn these_are_all_rounds()
     ensures { TheseAreAllRounds }
 {}
 
-/// The examples hold.
+/// For two workloads with journals worked out by hand, the totals after some rounds are those that the examples in
+/// `specs/ProgressExamples.antt` say.
 pub fn examples_hold()
     ensures { Examples }
 {}
@@ -51,7 +52,7 @@ pub fn what_is_sent_fits()
     pages_fit();
 }
 
-/// What was done pays for what agents bear and said.
+/// What was done in the rounds pays for all that the agents hold and told, while no pass was made behind them.
 pub fn all_is_paid_for()
     ensures { AllIsPaidFor }
 {
@@ -73,7 +74,8 @@ pub fn passes_pay()
     valid_workloads_run();
 }
 
-/// And only so many passes are.
+/// The closing of a run ends: where each pass behind the rounds is paid for by what was done before, at most `most_passes` of
+/// them are made.
 pub fn passes_are_few()
     ensures { PassesAreFew }
 {

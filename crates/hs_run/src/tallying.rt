@@ -42,7 +42,7 @@ impl Model for Tally {
 }
 
 impl Tally {
-    /// Nothing is counted yet of any client and agent of the workload.
+    /// Counts of 0 for each client and each agent of the workload.
     pub(crate) fn make(alloc: Global, workload: &Workload) -> Result<Tally, Memory>
         requires { IsValid (workload_of workload.now) }
         ensures { IfOk result (λ tally. (m : RunState) → IsBegun (workload_of workload.now) m → AreCounts (workload_of workload.now) m tally) }
@@ -172,7 +172,7 @@ fn count_log(counts: &mut List<LogCount>, site: &NodeActors, number: usize)
     counts.as_mut_slice()[number] = counted;
 }
 
-/// The operations that are done.
+/// How many operations are done, summed over these clients.
 fn done_in(counts: &[ClientCount]) -> u32
     requires { sum_by (λ (c : ClientCount). c.done) counts.now < 2 ^ 32 }
     ensures { result ≡ sum_by (λ (c : ClientCount). c.done) counts.now }
@@ -184,7 +184,7 @@ fn done_in(counts: &[ClientCount]) -> u32
     sum
 }
 
-/// The points among them.
+/// How many of the done operations are points, summed over these clients.
 fn points_in(counts: &[ClientCount]) -> u32
     requires { sum_by (λ (c : ClientCount). c.points) counts.now < 2 ^ 32 }
     ensures { result ≡ sum_by (λ (c : ClientCount). c.points) counts.now }
@@ -196,7 +196,7 @@ fn points_in(counts: &[ClientCount]) -> u32
     sum
 }
 
-/// The null pages.
+/// How many pages are null, summed over these clients.
 fn nulls_in(counts: &[ClientCount]) -> u32
     requires { sum_by (λ (c : ClientCount). c.nulls) counts.now < 2 ^ 32 }
     ensures { result ≡ sum_by (λ (c : ClientCount). c.nulls) counts.now }
@@ -208,7 +208,7 @@ fn nulls_in(counts: &[ClientCount]) -> u32
     sum
 }
 
-/// The chunks that were taken.
+/// How many chunks were taken, summed over these agents.
 fn taken_in(counts: &[LogCount]) -> u32
     requires { sum_by (λ (c : LogCount). c.taken) counts.now < 2 ^ 32 }
     ensures { result ≡ sum_by (λ (c : LogCount). c.taken) counts.now }
@@ -220,7 +220,7 @@ fn taken_in(counts: &[LogCount]) -> u32
     sum
 }
 
-/// The buffers that were given.
+/// How many buffers were given back, summed over these agents.
 fn given_in(counts: &[LogCount]) -> u32
     requires { sum_by (λ (c : LogCount). c.given) counts.now < 2 ^ 32 }
     ensures { result ≡ sum_by (λ (c : LogCount). c.given) counts.now }

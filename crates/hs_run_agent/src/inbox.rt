@@ -25,7 +25,7 @@ impl Model for Inbox {
 }
 
 impl Inbox {
-    /// Nothing was brought.
+    /// An inbox to which no message was brought.
     pub(crate) fn none(alloc: Global) -> Inbox
         ensures { result ≡ [] }
     {

@@ -8,17 +8,17 @@ use hs_law_agent::laws::events_add_this;
 use hs_law_run::laws::stories_are_lawful;
 use hs_run_client::{callers_have_sent, callers_sent_all};
 
-/// A moment that stands at the beginning came by no round.
+/// A moment where nothing was done is one to which no round led.
 pub fn no_rounds_come()
     ensures { NoRoundsCome }
 {}
 
-/// A round more leads on to what it leads to.
+/// A moment to which rounds led, and then one round more, in which all act, meet and move, leads to the moment behind that round.
 pub fn rounds_go_on()
     ensures { RoundsGoOn }
 {}
 
-/// And the moments that led there stay the same.
+/// A round more keeps the moments of the run behind all rounds before it: what stood behind an earlier round is not told anew.
 pub fn rounds_keep_what_came()
     ensures { RoundsKeepWhatCame }
 {}
@@ -33,7 +33,7 @@ pub fn agents_are_between_passes()
     ensures { AgentsAreBetweenPasses }
 {}
 
-/// Where the rounds end no pass was made behind them.
+/// The closing begins where the rounds end: there no pass was made behind them.
 pub fn closing_begins()
     ensures { ClosingBegins }
 {}

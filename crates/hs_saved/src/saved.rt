@@ -61,7 +61,7 @@ impl Saved {
     }
 }
 
-/// What stands of a trace.
+/// The trace with the number of its saved parts, if it is one of those that were saved last.
 fn entry_of(traces: &[(TraceId, u32)], trace: TraceId) -> Option<&(TraceId, u32)>
     ensures { option_copied result ≡ find (is_of trace) traces.now }
 {

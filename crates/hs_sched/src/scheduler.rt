@@ -66,7 +66,7 @@ impl Scheduler {
         ensures order { SendsEach Q.sends queues.old
             (sent_ids self.old (Q.costs queues.old)) queues.new }
 
-        // What these mean for each id.
+        // Each trigger id's visit is fair: it sends while its budget lasts, and keeps a deficit below one page.
         ensures visits { All
             (λ share. IsFairVisit self.old.size share (Q.costs queues.old share.trigger.0))
             self.old.shares }

@@ -51,7 +51,7 @@ fn is_skipped(line: &[u8]) -> bool
 }
 
 impl Reader {
-    /// Nothing read yet.
+    /// A reader that has read no line.
     pub fn new(alloc: Global) -> Reader
         ensures { past_of result ≡ fresh }
     {

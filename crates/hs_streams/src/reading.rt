@@ -13,7 +13,7 @@ const PIECE: usize = 65_536;
 /// What came from a source.
 #[derive(Drop)]
 pub enum ReadInput {
-    /// All of it.
+    /// All that the source had, which is no more than an input may have.
     Whole(Vec<u8>),
     /// One byte more than an input may have.
     TooLong,
@@ -23,7 +23,7 @@ pub enum ReadInput {
     NoMemory,
 }
 
-/// So many zero bytes.
+/// A buffer of so many bytes, each 0, to read into.
 fn zeros(alloc: Global, count: usize) -> Result<Vec<u8>, Memory>
     ensures { IfOk result (λ bytes. vec_len bytes ≡ count) }
 {

@@ -5,10 +5,10 @@ ghost use Rattle.hs_text.specs.Spelling.{spelled};
 
 /// A word of a fixed list. Each has a text of its own.
 pub trait Spelled: Copy + 'static {
-    /// The text of each word.
+    /// The text of each word, for clauses.
     ghost spelling: { Self → List ℕ };
 
-    /// The list.
+    /// All words of the list, for clauses.
     ghost every: { List Self };
 
     /// The text of the word.

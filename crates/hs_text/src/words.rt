@@ -24,7 +24,7 @@ impl<'a> Words<'a> {
         Words { rest: Some(line) }
     }
 
-    /// How many are left.
+    /// How many words of the line are left.
     pub fn count(&self) -> usize
         ensures { result ≡ length (words_in self.now) }
     {
@@ -90,7 +90,7 @@ impl<'a> Words<'a> {
         Ok((word, None))
     }
 
-    /// That no word is left.
+    /// Answers that no word is left, or the reason that one too many is there.
     #[tactic(auto, using(crate::proofs::WordLemmas::no_word_many))]
     pub fn end<R: Copy>(self, extra: R) -> Result<(), Stop<R>>
         ensures { Gives (λ _. tt) result (no_word extra (words_in self.entry)) }

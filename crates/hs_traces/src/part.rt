@@ -37,7 +37,7 @@ impl PageBytes {
         })
     }
 
-    /// The bytes.
+    /// The bytes of the page, as a slice.
     pub fn as_slice(&self) -> &[u8]
         ensures { result.now ≡ self.now }
     {
@@ -64,7 +64,7 @@ impl Model for Part {
 }
 
 impl Part {
-    /// No page. Takes no memory.
+    /// A part with no page. Takes no memory.
     pub fn new(alloc: Global) -> Part
         ensures { result ≡ [] }
     {

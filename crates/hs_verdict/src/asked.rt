@@ -38,7 +38,7 @@ pub fn claim_at(groups: &Groups, trace: TraceId, place: usize) -> Option<&Follow
     }
 }
 
-/// The same of these groups.
+/// Of these groups those that claim a trace, and of them the one at this place.
 fn claim_among(groups: &[Followed], trace: TraceId, place: usize) -> Option<&Followed>
     ensures { option_copied result ≡ slice_get (filter (claims trace) groups.now) place }
 {

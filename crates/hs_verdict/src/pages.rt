@@ -11,9 +11,9 @@ use hs_traces::{PageKey, Traces, is_from};
 /// The pages of a trace that a hub has: those that wait, or these, which are out.
 #[derive(Clone, Copy)]
 pub enum Pages<'a> {
-    /// Those that wait.
+    /// The pages of the trace that wait to be given out.
     Waiting(&'a Traces),
-    /// These.
+    /// The pages of the trace that is out, by their keys.
     Out(&'a [PageKey]),
 }
 

@@ -22,7 +22,7 @@ pub struct Kept {
     pub crumbs: NodeSet,
 }
 
-/// Nothing lost.
+/// Losses of 0 in each cause.
 pub(crate) fn no_losses() -> Losses
     ensures { result ≡ no_losses }
 {
@@ -153,7 +153,7 @@ impl Kept {
         self.crumbs = self.crumbs.union(report.crumbs);
     }
 
-    /// So much of it was lost.
+    /// Notes that so many pages or crumbs of the trace were lost, for this cause.
     pub(crate) fn lose(&mut self, loss: Loss, count: u64)
         ensures { self.new ≡ loses loss count self.old }
     {

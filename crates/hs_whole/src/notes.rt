@@ -517,7 +517,10 @@ impl SegmentNotes {
             .count()
     }
 
-    /// How the node stands to a trace that a group claims.
+    /// How whole the node's part of a trace is that this group claims, as the node says it to the hub (`docs/RULES.md`, "How
+    /// whole a node's part is"): whole, lost, open, unheard since the horizon or unknown, with the horizon as a count of
+    /// segments, the pages that were handed out, the losses by cause, and the nodes to which crumbs led. A trace that is not kept
+    /// has no pages and no losses.
     pub fn standing(&self, trace: TraceId, group: GroupId) -> Standing
         ensures { result ≡ standing_of self.now trace group }
     {
@@ -555,7 +558,7 @@ impl SegmentNotes {
         self.traces.peek(&trace)
     }
 
-    /// How many segments were heard.
+    /// How many segments were heard of, of all traces, since the notes were made.
     pub fn heard(&self) -> u64
         ensures { result ≡ self.now.heard }
     {

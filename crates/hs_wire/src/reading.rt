@@ -47,7 +47,7 @@ fn u128_of(bytes: &[u8]) -> Option<(u128, &[u8])>
     Some((u128::from_be_bytes(*field), rest))
 }
 
-/// So many bytes, and the bytes behind them.
+/// The first `len` bytes, and the bytes behind them, or `None` where there are fewer.
 fn bytes_of(len: usize, bytes: &[u8]) -> Option<(&[u8], &[u8])>
     ensures { Gives (λ x. (x.0.now, x.1.now)) result (bytes_at len bytes.now) }
 {
@@ -163,7 +163,7 @@ fn group_of(bytes: &[u8]) -> Option<(Group, &[u8])>
     Some((group, rest))
 }
 
-/// So many traces.
+/// The `count` trace ids that the bytes begin with, and the bytes behind them, or `None` where there are fewer.
 fn traces_of(count: u8, bytes: &[u8]) -> Option<(Laterals, &[u8])>
     requires { count ≤ MAX_LATERALS }
     ensures { Gives (λ x. (x.0, x.1.now)) result (traces_at count bytes.now) }
@@ -299,7 +299,7 @@ fn standing_of(bytes: &[u8]) -> Option<(Standing, &[u8])>
     Some((standing, rest))
 }
 
-/// What a message of this kind says.
+/// What a message of this kind says in front of these bytes, and the bytes behind it, or `None` where they spell none.
 #[tactic(auto, unfolding(crate::specs::Reading::said_at))]
 fn body_of(kind: u8, bytes: &[u8]) -> Option<(Body<'_>, &[u8])>
     ensures { Gives (λ x. (said_of x.0, x.1.now)) result (said_at kind bytes.now) }

@@ -64,7 +64,7 @@ fn boxed(alloc: Global, trigger: Trigger) -> Result<Op, Memory>
 }
 
 impl Reader {
-    /// Nothing read yet.
+    /// A reader that has read no line.
     pub fn new(alloc: Global) -> Reader
         ensures { draft_of result ≡ fresh }
     {

@@ -37,7 +37,9 @@ impl Intake {
         self.agent.in_hand()
     }
 
-    /// Says a standing of the claim that is looked at, if it is news.
+    /// Posts a standing to the hub, if it is news of the claim that is looked at (`docs/RULES.md`, "What a node says of its
+    /// claims"). `Known` comes where it says no more than was said last, or is of another claim; `Waits` where the mail has no
+    /// place or no number for it, and then nothing changed.
     pub fn state(&mut self, standing: &Standing) -> Stated
         ensures { StatesIt self.old standing.now result self.new }
     {

@@ -35,8 +35,11 @@ impl Intake {
         Some(was_given)
     }
 
-    /// Offers the first of the hand to the pool, so that its buffer goes back. At its first offer it is said why it left: a page that is
-    /// reported is posted, and the answer has its trace. A buffer that came back is offered again by a later call.
+    /// Offers the first chunk of the hand to the pool, so that its buffer can be drawn again (`docs/RULES.md`, "A node's pass").
+    /// At the first offer of a chunk its page is posted to the hub if it was reported, and the answer has its trace and why it
+    /// left. `Waits` comes where the mail has no place or no number for the page, and then nothing changed; `Offered` says
+    /// whether the pool took the buffer, and if not a later call offers it again; `Empty` and `Spent` are of an empty hand and of
+    /// an agent that is spent.
     pub fn hand_out(&mut self) -> Handed
         ensures { (run : Run Leased) → Stands run self.old → HandsOut run self.old result self.new }
     {
