@@ -69,7 +69,7 @@ fn may_happen(
 {
     let mut replay = Replay::make(alloc, buffers)?;
     for event in events {
-        if !replay.go_below(bound, *event)? {
+        if !replay.take_event_below(bound, *event)? {
             return Ok(false);
         }
     }

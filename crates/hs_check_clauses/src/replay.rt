@@ -105,8 +105,8 @@ impl Replay {
         true
     }
 
-    /// An event, if it may come.
-    pub(crate) fn go(&mut self, event: NotedEvent) -> Result<bool, Memory>
+    /// Takes an event, if it may come, and answers whether it did.
+    pub(crate) fn take_event(&mut self, event: NotedEvent) -> Result<bool, Memory>
         requires { IsReplaying self.old }
         ensures { (n : ℕ) (earlier : List PoolEvent) → IsReplayed n earlier self.old
             → IfOk result (λ yes. (yes ≡ may_follow n earlier (event_of event)) × OnTrue yes (IsReplayed n (event_of event ∷ earlier) self.new)) }
@@ -119,8 +119,8 @@ impl Replay {
         }
     }
 
-    /// An event, if it may come or its stamp is not below a bound.
-    pub(crate) fn go_below(&mut self, bound: u64, event: StampedEvent) -> Result<bool, Memory>
+    /// Takes an event as `take_event` does. One whose stamp is not below a bound is let pass, and changes nothing.
+    pub(crate) fn take_event_below(&mut self, bound: u64, event: StampedEvent) -> Result<bool, Memory>
         requires { IsReplaying self.old }
         ensures { (n : ℕ) (earlier : List PoolEvent) → IsReplayed n earlier self.old
             → IfOk result (λ yes. (yes ≡ may_come n bound earlier event) × OnTrue yes (IsReplayed n (earlier_with bound event earlier) self.new)) }
@@ -128,6 +128,6 @@ impl Replay {
         if event.stamp >= bound {
             return Ok(true);
         }
-        self.go(event.event)
+        self.take_event(event.event)
     }
 }

@@ -72,7 +72,7 @@ fn gather(
     let mut player = ReplayClient::make(alloc, client, settings, operations)?;
     let mut gathering = Gathering::new(alloc, keeps);
     let rules = settings.autos.as_slice();
-    gathering.go_all(rules, operations, &mut script, &mut player)?;
+    gathering.gather_all(rules, operations, &mut script, &mut player)?;
     Ok((player, gathering))
 }
 

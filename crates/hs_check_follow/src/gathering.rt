@@ -49,7 +49,7 @@ impl Gathering {
     }
 
     /// The client, which has done nothing, does all its operations, and all that it sends is taken.
-    pub(crate) fn go_all(
+    pub(crate) fn gather_all(
         &mut self,
         rules: &[AutoRule],
         operations: &[Op],
@@ -60,13 +60,13 @@ impl Gathering {
         ensures { OnOk result (SendsFirst rules.now (map operation_of operations.now) (length operations.now) script.old player.old self.old script.new player.new self.new) }
     {
         for number in 0..operations.len() {
-            self.go(number, rules, operations, script, player)?;
+            self.gather_operation(number, rules, operations, script, player)?;
         }
         Ok(())
     }
 
     /// The client does the operation of this number, and all that it sends with it joins what it sent before. Most operations send nothing.
-    pub(crate) fn go(
+    pub(crate) fn gather_operation(
         &mut self,
         number: usize,
         rules: &[AutoRule],
@@ -84,7 +84,7 @@ impl Gathering {
         the_first_operations_send();
         the_first_chunks_are_sent();
         let left = script.left.len();
-        player.go_on(script, rules, operations, 1)?;
+        player.play_from(script, rules, operations, 1)?;
         let started = left - script.left.len();
         note_started(&mut self.found.started, number, started)?;
         if player.is_bare() {

@@ -61,20 +61,20 @@ impl SecondPlay {
             if let Some(held) = self.player.next_chunk() {
                 return Ok(Some(held));
             }
-            self.go_on(rules, operations)?;
+            self.play_operation(rules, operations)?;
         }
         Ok(self.player.next_chunk())
     }
 
     /// Does one operation more. Of what that sends it keeps the chunks alone.
-    fn go_on(&mut self, rules: &[AutoRule], operations: &[Op]) -> Result<(), Memory>
+    fn play_operation(&mut self, rules: &[AutoRule], operations: &[Op]) -> Result<(), Memory>
         requires may { MayPlay rules.now (map operation_of operations.now) self.old }
         requires left { self.old.player.done < length operations.now }
         ensures done { OnOk result (self.new.player.done ≡ self.old.player.done + 1) }
         ensures plays { OnOk result (PlaysOn rules.now (map operation_of operations.now) self.old self.new) }
     {
         timed_pages_are_the_pages();
-        self.player.go_on(&mut self.script, rules, operations, 1)?;
+        self.player.play_from(&mut self.script, rules, operations, 1)?;
         if self.player.is_bare() {
             return Ok(());
         }

@@ -65,7 +65,7 @@ impl Walk {
     }
 
     /// Goes on by an operation, and answers the record that it brings.
-    pub(crate) fn go(&mut self, operation: &Op) -> Option<Coming>
+    pub(crate) fn advance(&mut self, operation: &Op) -> Option<Coming>
         requires few { self.old.count < MAX_OPERATIONS }
         ensures client { self.new.client ≡ self.old.client }
         ensures gone { (before : Operations) → HasGone before self.old → HasGone (before ++ operation_of operation.now ∷ []) self.new }

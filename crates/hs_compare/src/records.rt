@@ -26,7 +26,7 @@ fn add_record(all: &mut List<Coming>, walk: &mut Walk, operation: &Op) -> Result
         → OnOk result (HasJoined (before ++ operation_of operation.now ∷ []) first walk.new all.new.items) }
 {
     one_operation_more();
-    match walk.go(operation) {
+    match walk.advance(operation) {
         Some(coming) => all.append(coming),
         None => Ok(()),
     }

@@ -53,7 +53,7 @@ fn note_record(
     ensures comes { (before : Operations) → HasGone before walk.old
         → OnOk result (events.new.items ≡ events.old.items ++ comes_in (brought walk.old.client before (operation_of operation.now))) }
 {
-    match walk.go(operation) {
+    match walk.advance(operation) {
         Some(coming) => events.append(ScriptEvent::Comes {
             id: coming.id,
             trace: coming.trace,

@@ -99,8 +99,8 @@ impl<L: Token> IndexedTrace<L> {
         }
     }
 
-    /// The chunks as they go, with these counts. Takes no memory.
-    pub fn go(self, chunks: u32, traces: u32) -> List<Gone<L>>
+    /// The chunks of a trace that the index lets go, with the counts of chunks and traces that were indexed then. Takes no memory.
+    pub fn into_gone(self, chunks: u32, traces: u32) -> List<Gone<L>>
         ensures { map leaving_of result.items ≡ map (leaving chunks traces) self.chunks }
     {
         let IndexedTrace {

@@ -191,7 +191,7 @@ impl<L: Token> Recent<L> {
                 unreachable!()
             };
             if entry.len() > 0 {
-                return entry.go(chunks, traces);
+                return entry.into_gone(chunks, traces);
             }
         }
         List::new(*self.cache.allocator())

@@ -24,20 +24,20 @@ use hs_law_lockstep::laws::{
 use hs_records::Workload;
 
 /// Each client of each node does its next operations.
-pub fn go_all(nodes: &mut List<ReplayNode>, workload: &Workload) -> Result<(), Memory>
+pub fn play_all(nodes: &mut List<ReplayNode>, workload: &Workload) -> Result<(), Memory>
     requires { (m : Machine) × NodesAt (workload_of workload.now) m nodes.old.items }
     ensures { (m : Machine) → NodesAt (workload_of workload.now) m nodes.old.items
         → OnOk result (NodesAt (workload_of workload.now) (clients_go (workload_of workload.now) m) nodes.new.items) }
 {
     let count = nodes.len();
     for node in 0..count {
-        go_at(nodes, workload, node)?;
+        play_node(nodes, workload, node)?;
     }
     Ok(())
 }
 
 /// The clients of a node do their next operations.
-fn go_at(nodes: &mut List<ReplayNode>, workload: &Workload, node: usize) -> Result<(), Memory>
+fn play_node(nodes: &mut List<ReplayNode>, workload: &Workload, node: usize) -> Result<(), Memory>
     requires node { node < length nodes.old.items }
     requires at { (m : Machine) × NodesAt (workload_of workload.now) m nodes.old.items }
     ensures { (m : Machine) → NodesAt (workload_of workload.now) m nodes.old.items
@@ -48,7 +48,7 @@ fn go_at(nodes: &mut List<ReplayNode>, workload: &Workload, node: usize) -> Resu
     let each = workload.settings.clients as usize;
     let first = node * each;
     let clients = &workload.clients.as_slice()[first..first + each];
-    nodes.as_mut_slice()[node].go(&workload.settings, clients)
+    nodes.as_mut_slice()[node].play_clients(&workload.settings, clients)
 }
 
 /// Whether a client has operations left.

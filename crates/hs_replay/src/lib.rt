@@ -15,7 +15,7 @@ mod schedule;
 mod start;
 mod telling;
 
-pub use all::{go_all, has_left, is_bare, pass};
+pub use all::{has_left, is_bare, pass, play_all};
 pub use coordinator::coordinate;
 pub use hs_outcome::Outcome;
 pub use node::ReplayNode;

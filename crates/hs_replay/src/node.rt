@@ -270,7 +270,7 @@ impl ReplayNode {
 
     /// Each client does its next operations, one client after another. These are the settings of the workload, and the
     /// operations of the node's clients.
-    pub fn go(&mut self, settings: &Settings, clients: &[List<Op>]) -> Result<(), Memory>
+    pub fn play_clients(&mut self, settings: &Settings, clients: &[List<Op>]) -> Result<(), Memory>
         requires { (W : PlainWorkload) × (m : Machine) × (n : ℕ) × StandsStill W m n self.old × AreOf W n settings.now clients.now }
         ensures { (W : PlainWorkload) (m : Machine) (n : ℕ) → StandsStill W m n self.old → AreOf W n settings.now clients.now
             → OnOk result (NodeIsAt W (node_goes W m n W.settings.clients) n self.new) }
@@ -296,7 +296,7 @@ impl ReplayNode {
     {
         clients_go_so();
         let rules = settings.autos.as_slice();
-        go_at(
+        play_client(
             &mut self.players,
             &mut self.pool,
             client,
@@ -320,7 +320,7 @@ impl ReplayNode {
 }
 
 /// A client does its next operations.
-fn go_at(
+fn play_client(
     players: &mut List<ReplayClient>,
     pool: &mut PlainPool,
     client: usize,
@@ -336,7 +336,7 @@ fn go_at(
         (λ old new. Goes stride (map operation_of operations.now) old pool.old new pool.new)) }
     ensures pool { OnOk result (KeepsPool pool.old pool.new) }
 {
-    players.as_mut_slice()[client].go(pool, rules, operations, stride)
+    players.as_mut_slice()[client].play(pool, rules, operations, stride)
 }
 
 /// The next chunk of a client.

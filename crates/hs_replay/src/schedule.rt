@@ -6,7 +6,7 @@ ghost use Rattle.hs_law_lockstep.specs.Lockstep.{machine_start};
 ghost use Rattle.hs_records.specs.Views.{workload_of};
 ghost use Rattle.hs_replay.specs.All.{AllAt, AllClosed};
 
-use crate::all::{go_all, has_left, is_bare, pass};
+use crate::all::{has_left, is_bare, pass, play_all};
 use crate::node::ReplayNode;
 use hs_base::{List, Memory};
 use hs_coord::Coordinator;
@@ -27,7 +27,7 @@ pub fn rounds(
     machines_are_whole();
     let mut made = 0u32;
     'rounds: while has_left(nodes, workload) {
-        go_all(nodes, workload)?;
+        play_all(nodes, workload)?;
         pass(coordinator, nodes)?;
         made += 1;
     }

@@ -83,7 +83,7 @@ impl ReplayClient {
 
     /// Does the next of its operations, at most so many, where these are the rules of its settings' autotriggers. Each page that
     /// they start draws a buffer of the pool.
-    pub fn go(
+    pub fn play(
         &mut self,
         pool: &mut PlainPool,
         rules: &[AutoRule],
@@ -95,12 +95,12 @@ impl ReplayClient {
         ensures goes { OnOk result (Goes stride (map operation_of operations.now) self.old pool.old self.new pool.new) }
         ensures pool { OnOk result (KeepsPool pool.old pool.new) }
     {
-        self.go_on(pool, rules, operations, stride)
+        self.play_from(pool, rules, operations, stride)
     }
 
-    /// Does the next of its operations as `go` does, where the pages that they start draw from a well. The well is ready for
+    /// Does the next of its operations as `play` does, where the pages that they start draw from a well. The well is ready for
     /// as many draws as a client can make.
-    pub fn go_on<W: Well>(
+    pub fn play_from<W: Well>(
         &mut self,
         well: &mut W,
         rules: &[AutoRule],

@@ -35,7 +35,7 @@ impl Model for NodeActors {
 }
 
 /// Each of these clients does its next operations, each in its own thread if one can be started.
-fn go_all<R: Threads + Sync, G: Gate>(
+fn all_perform_next<R: Threads + Sync, G: Gate>(
     rt: &R,
     gate: &G,
     settings: &Settings,
@@ -53,7 +53,7 @@ fn go_all<R: Threads + Sync, G: Gate>(
         &|number: usize, caller: &mut ClientActor|
             requires { (number < length operations.now) × MayGo (settings_of settings.now) operations.now number caller.now }
             ensures { HasGone (settings_of settings.entry.now) operations.entry.now number caller.entry.now caller.exit.now }
-        { caller.go(gate, settings, operations[number].as_slice()) },
+        { caller.perform_next(gate, settings, operations[number].as_slice()) },
     );
 }
 
@@ -88,7 +88,7 @@ fn pass_and_go<R: Threads + Sync, G: Gate>(
         &mut ||
             requires { IsSync R.row × AllMayGo (settings_of settings.now) operations.now callers.now }
             ensures { AllHaveGone (settings_of settings.entry.now) operations.entry.now callers.entry.now callers.exit.now }
-        { go_all(rt, gate, settings, operations, callers) },
+        { all_perform_next(rt, gate, settings, operations, callers) },
     );
     passed
 }

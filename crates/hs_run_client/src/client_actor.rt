@@ -38,7 +38,7 @@ impl Model for ClientActor {
 impl ClientActor {
     /// Does the next of its operations, at most as many as the stride, and puts into the rings what waits in the outboxes. It
     /// passes the gate before each operation, whose number is the step. It neither waits nor takes memory.
-    pub fn go<G: Gate>(&mut self, gate: &G, settings: &Settings, operations: &[Op])
+    pub fn perform_next<G: Gate>(&mut self, gate: &G, settings: &Settings, operations: &[Op])
         requires { (client : ClientId) × ClientActorIsAt (settings_of settings.now) client (map operation_of operations.now) self.old }
         ensures { Goes (settings_of settings.now) (map operation_of operations.now) self.old self.new }
     {

@@ -7,8 +7,8 @@ use Rattle.hs_check_clauses.proofs.history.may_happen.Goals as goal
 pub loop-event-init : goal.loop-event-init
 loop-event-init c = ([], c.in_ok-replay.ensures, history_is c.args.buffers (events_below c.args.bound c.args.events.now), omega arith)
 
-pub go_below-requires : goal.go_below-requires
-go_below-requires c =
+pub take_event_below-requires : goal.take_event_below-requires
+take_event_below-requires c =
     let (earlier, at, rest, few) = c.loop-event.invariant in
     (c.args.buffers, earlier, at, omega (arith, few))
 
@@ -17,7 +17,7 @@ loop-event-preserved c =
     let (earlier, at, rest, few) = c.loop-event.invariant in
     let events = c.args.events.now in
     let i = c.loop-event.event-index in
-    let went = c.in_ok-go_below.ensures c.args.buffers earlier at in
+    let went = c.in_ok-take_event_below.ensures c.args.buffers earlier at in
     let may = sym went.0 ∙ c.if-not-branch.false in
     let t : StampedEvent = get_or events i (record { stamp = 0; event = happenings.Got 0 }) in
     let long = one_longer c.args.buffers c.args.bound events i t c.loop-event-test.true (get_or_default events i _ _ c.loop-event-test.true) earlier in (
@@ -32,7 +32,7 @@ returns-then-not-branch c =
     let (earlier, at, rest, few) = c.loop-event.invariant in
     let events = c.args.events.now in
     let i = c.loop-event.event-index in
-    let went = c.in_ok-go_below.ensures c.args.buffers earlier at in
+    let went = c.in_ok-take_event_below.ensures c.args.buffers earlier at in
     let may = sym went.0 ∙ c.if-not-branch.true in
     below_fails c.args.buffers c.args.bound events i _ c.loop-event-test.true (get_or_default events i _ _ c.loop-event-test.true) earlier _ may rest
 

@@ -13,8 +13,8 @@ has_left-requires c =
     let m = rounds c.rounds.made W (machine_start W) in
     (m, nodes_only W m c.rounds.nodes.items c.rounds.coordinator c.rounds.invariant.at)
 
-pub go_all-requires : goal.go_all-requires
-go_all-requires c =
+pub play_all-requires : goal.play_all-requires
+play_all-requires c =
     let W = workload_of c.args.workload.now in
     let m = rounds c.rounds.made W (machine_start W) in
     (m, nodes_only W m c.rounds.nodes.items c.rounds.coordinator c.rounds.invariant.at)
@@ -25,8 +25,8 @@ pass-requires c =
     let m = rounds c.rounds.made W (machine_start W) in (
       W,
       clients_go W m,
-      round_gone c.machines_are_whole.ensures c.clients_go_so.ensures W m c.rounds.nodes.items c.go_all.new.nodes.items c.rounds.coordinator c.rounds.invariant.at
-          (c.in_ok-go_all.ensures m (nodes_only W m c.rounds.nodes.items c.rounds.coordinator c.rounds.invariant.at)),
+      round_gone c.machines_are_whole.ensures c.clients_go_so.ensures W m c.rounds.nodes.items c.play_all.new.nodes.items c.rounds.coordinator c.rounds.invariant.at
+          (c.in_ok-play_all.ensures m (nodes_only W m c.rounds.nodes.items c.rounds.coordinator c.rounds.invariant.at)),
     )
 
 pub overflow_add-made : goal.overflow_add-made
@@ -56,7 +56,7 @@ rounds-preserved c =
     let only = nodes_only W m c.rounds.nodes.items c.rounds.coordinator c.rounds.invariant.at in
     let left = subst (TellsLeft W m) c.rounds-test.true (c.has_left.ensures m only) in
     let less = round_left W c.rounds.made h left in
-    let gone = round_gone c.machines_are_whole.ensures c.clients_go_so.ensures W m c.rounds.nodes.items c.go_all.new.nodes.items c.rounds.coordinator c.rounds.invariant.at (c.in_ok-go_all.ensures m only) in
+    let gone = round_gone c.machines_are_whole.ensures c.clients_go_so.ensures W m c.rounds.nodes.items c.play_all.new.nodes.items c.rounds.coordinator c.rounds.invariant.at (c.in_ok-play_all.ensures m only) in
     record {
       few = omega (arith, less);
       at = round_more W c.rounds.made c.pass.new.nodes.items c.pass.new.coordinator h (c.in_ok-pass.ensures W (clients_go W m) gone);

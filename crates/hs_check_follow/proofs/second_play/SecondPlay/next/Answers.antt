@@ -12,15 +12,15 @@ returns-in-Some c = λ settings client draws k rules_are is.
     let took = c.in-Some.ensures settings client (map operation_of c.args.operations.now) now.drawn now.done k now.l now.m now.at in
     filled settings client (map operation_of c.args.operations.now) draws k c.operations.self now c.next_chunk.new.self (buffer_of c.in-Some.held) took.0 took.1
 
-pub go_on-requires-clause-may : goal.go_on-requires-clause-may
-go_on-requires-clause-may c =
+pub play_operation-requires-clause-may : goal.play_operation-requires-clause-may
+play_operation-requires-clause-may c =
     let (settings, client, draws, k, rules_are, is) = c.requires in
     let now = c.operations.invariant settings client draws k rules_are is in
     let none = c.in_default.ensures settings client (map operation_of c.args.operations.now) now.drawn now.done k now.l now.m now.at in
     (settings, client, draws, k, rules_are, waits settings client (map operation_of c.args.operations.now) draws k c.operations.self now c.next_chunk.new.self none.1)
 
-pub go_on-requires-clause-left : goal.go_on-requires-clause-left
-go_on-requires-clause-left c =
+pub play_operation-requires-clause-left : goal.play_operation-requires-clause-left
+play_operation-requires-clause-left c =
     let (settings, client, draws, k, rules_are, is) = c.requires in
     let ops = map operation_of c.args.operations.now in
     let now = c.operations.invariant settings client draws k rules_are is in
@@ -40,7 +40,7 @@ operations-smaller c =
     let same = none.1.done_is in
     let left = (c.has_left.ensures settings client now.drawn now.done k now.l now.m now.at).0 c.operations-test.true in
     let long = length-map c.args.operations.now operation_of in
-    let more = c.in_ok-go_on.ensures.done in
+    let more = c.in_ok-play_operation.ensures.done in
     omega (arith, was, same, left, long, more)
 
 pub operations-preserved : goal.operations-preserved
@@ -48,7 +48,7 @@ operations-preserved c = λ settings client draws k rules_are is.
     let ops = map operation_of c.args.operations.now in
     let now = c.operations.invariant settings client draws k rules_are is in
     let none = c.in_default.ensures settings client ops now.drawn now.done k now.l now.m now.at in
-    c.in_ok-go_on.ensures.plays settings client draws k rules_are (waits settings client ops draws k c.operations.self now c.next_chunk.new.self none.1)
+    c.in_ok-play_operation.ensures.plays settings client draws k rules_are (waits settings client ops draws k c.operations.self now c.next_chunk.new.self none.1)
 
 pub returns : goal.returns
 returns c = λ settings client draws k rules_are is.

@@ -15,7 +15,7 @@ returns-then-len-gt0-clause-gone g c =
     ] in
     let chunks : c.chunks-chunks.result ≡ count_chunks (indexed (c.in-Some.field-0-0, c.in-Some.entry) ∷ c.take_oldest.new.self.traces) = c.chunks-chunks.ensures ∙ ap count_chunks all in
     let traces : c.traces-traces.result ≡ length (indexed (c.in-Some.field-0-0, c.in-Some.entry) ∷ c.take_oldest.new.self.traces) = c.traces-traces.ensures ∙ ap length all in
-    c.go.ensures
+    c.into_gone.ensures
     ∙ ap (λ n. map (leaving n c.traces-traces.result) c.in-Some.entry.chunks) chunks
     ∙ ap (λ n. map (leaving (count_chunks (indexed (c.in-Some.field-0-0, c.in-Some.entry) ∷ c.take_oldest.new.self.traces)) n) c.in-Some.entry.chunks) traces
     ∙ sym (full-goes c.args.threshold c.args.most (indexed (c.in-Some.field-0-0, c.in-Some.entry)) c.take_oldest.new.self.traces

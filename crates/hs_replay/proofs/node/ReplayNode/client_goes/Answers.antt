@@ -5,14 +5,14 @@ use Rattle.hs_replay_client.specs.Places.{Goes}
 use Rattle.hs_replay.proofs.Going.{is_low, is_within, has_stamps, went_at}
 use Rattle.hs_replay.proofs.node.ReplayNode.client_goes.Goals as goal
 
-pub go_at-requires-clause-client : goal.go_at-requires-clause-client
-go_at-requires-clause-client c =
+pub play_client-requires-clause-client : goal.play_client-requires-clause-client
+play_client-requires-clause-client c =
     let (W, m, n, still, one) = c.requires in
     let here : StandsStill W m n (replay_node_in c.self.inside) = subst (λ (p : PlainReplayNode). StandsStill W m n p) (sym c.self.view_is) still in
     is_low W m n c.args.client (replay_node_in c.self.inside) here one.low c.clients_go_so.ensures
 
-pub go_at-requires-clause-within : goal.go_at-requires-clause-within
-go_at-requires-clause-within c = λ player stood.
+pub play_client-requires-clause-within : goal.play_client-requires-clause-within
+play_client-requires-clause-within c = λ player stood.
     let (W, m, n, still, one) = c.requires in
     let here : StandsStill W m n (replay_node_in c.self.inside) = subst (λ (p : PlainReplayNode). StandsStill W m n p) (sym c.self.view_is) still in
     let rules : W.settings.autos ≡ c.as_slice-rules.result.now = sym (c.as_slice-rules.ensures ∙ ap (λ s. s.autos) one.settings_are) in
@@ -20,8 +20,8 @@ go_at-requires-clause-within c = λ player stood.
     (subst (λ (ops : List Operation). IsWithin W.settings.autos ops c.self.inside.pool player) (sym one.ops_are)
     (is_within W m n c.args.client (replay_node_in c.self.inside) here one.low c.clients_go_so.ensures player stood))
 
-pub go_at-requires-clause-stamps : goal.go_at-requires-clause-stamps
-go_at-requires-clause-stamps c =
+pub play_client-requires-clause-stamps : goal.play_client-requires-clause-stamps
+play_client-requires-clause-stamps c =
     let (W, m, n, still, one) = c.requires in
     let here : StandsStill W m n (replay_node_in c.self.inside) = subst (λ (p : PlainReplayNode). StandsStill W m n p) (sym c.self.view_is) still in
     has_stamps W m n c.args.client (replay_node_in c.self.inside) here one.low c.clients_go_so.ensures
@@ -30,8 +30,8 @@ pub returns : goal.returns
 returns c = λ W m n still one.
     let here : StandsStill W m n (replay_node_in c.self.inside) = subst (λ (p : PlainReplayNode). StandsStill W m n p) (sym c.self.view_is) still in
     let Changes : ℕ → List Operation → Type 0 =
-    λ stride ops. ChangesAt c.args.client c.self.inside.players.items c.go_at.new.players.items (λ before now. Goes stride ops before c.self.inside.pool now c.go_at.new.pool) in
+    λ stride ops. ChangesAt c.args.client c.self.inside.players.items c.play_client.new.players.items (λ before now. Goes stride ops before c.self.inside.pool now c.play_client.new.pool) in
     let goes : Changes W.settings.stride (operations_at W (place_of W.settings.clients n c.args.client)) =
     subst (λ stride. Changes stride (operations_at W (place_of W.settings.clients n c.args.client))) (ap (λ s. s.stride) one.settings_are)
-    (subst (Changes c.args.settings.now.stride) one.ops_are c.in_ok-go_at.ensures.goes) in
-    went_at W m n c.args.client (replay_node_in c.self.inside) here one.low c.clients_go_so.ensures c.go_at.new.pool c.go_at.new.players.items goes c.in_ok-go_at.ensures.pool
+    (subst (Changes c.args.settings.now.stride) one.ops_are c.in_ok-play_client.ensures.goes) in
+    went_at W m n c.args.client (replay_node_in c.self.inside) here one.low c.clients_go_so.ensures c.play_client.new.pool c.play_client.new.players.items goes c.in_ok-play_client.ensures.pool

@@ -5,7 +5,7 @@ use Rattle.std.proofs.lemmas.List.{length-map, map-id}
 use Rattle.hs_words.specs.Buffers.{buffer_of}
 use Rattle.hs_index.specs.Index.{Noted, leaving, leaving_of}
 use Rattle.hs_index.proofs.Moved.{gone_more, gone_room}
-use Rattle.hs_index.proofs.entry.IndexedTrace.go.Goals as goal
+use Rattle.hs_index.proofs.entry.IndexedTrace.into_gone.Goals as goal
 
 pub loop-held-init : goal.loop-held-init
 loop-held-init g c =

@@ -1,7 +1,7 @@
 use Rattle.std.proofs.Common.{◌≡◌, map, take}
 use Rattle.hs_replay_client.proofs.Prelude.{operation_of, working_in}
 use Rattle.hs_replay_client.proofs.Going.{HasGone}
-use Rattle.hs_replay_client.proofs.client.ReplayClient.go_on.Given as goal
+use Rattle.hs_replay_client.proofs.client.ReplayClient.play_from.Given as goal
 
 abbrev pub invariant-loop-operation : goal.invariant-loop-operation
 invariant-loop-operation g l =

@@ -6,7 +6,7 @@ use Rattle.hs_replay_client.proofs.Lists.{next_at, part_behind}
 use Rattle.hs_replay_client.proofs.Ready.{IsReady, ready}
 use Rattle.hs_replay_client.proofs.Standing.{Laws}
 use Rattle.hs_replay_client.proofs.Went.{went}
-use Rattle.hs_replay_client.proofs.client.ReplayClient.go_on.Goals as goal
+use Rattle.hs_replay_client.proofs.client.ReplayClient.play_from.Goals as goal
 
 pub loop-operation-init : goal.loop-operation-init
 loop-operation-init g c = (refl, gone_none g.W.Well.way (working_in c.self.inside.doing) c.args.well.now)

@@ -1,10 +1,10 @@
 use Rattle.std.proofs.Common.{map, arith}
 use Rattle.hs_replay_client.proofs.Prelude.{on_ok_weaker, done_behind, operation_of}
 use Rattle.hs_replay_client.proofs.Pooling.{drew, went_pooled}
-use Rattle.hs_replay_client.proofs.client.ReplayClient.go.Goals as goal
+use Rattle.hs_replay_client.proofs.client.ReplayClient.play.Goals as goal
 
-pub go_on-requires : goal.go_on-requires
-go_on-requires c =
+pub play_from-requires : goal.play_from-requires
+play_from-requires c =
     let w = c.requires.within in
     record {
       settings = w.settings;
@@ -21,15 +21,15 @@ go_on-requires c =
 
 pub returns-clause-goes : goal.returns-clause-goes
 returns-clause-goes c =
-    on_ok_weaker c.go_on.result
+    on_ok_weaker c.play_from.result
     (λ goes. λ settings client drawn done k l m history at after.
     let ops = map operation_of c.args.operations.now in
-    went_pooled settings client ops drawn done (done_behind c.args.stride done ops) k l m history c.args.self.now c.go_on.new.self c.args.pool.now c.go_on.new.well at after (goes settings client drawn done k l m at))
-    c.go_on.ensures
+    went_pooled settings client ops drawn done (done_behind c.args.stride done ops) k l m history c.args.self.now c.play_from.new.self c.args.pool.now c.play_from.new.well at after (goes settings client drawn done k l m at))
+    c.play_from.ensures
 
 pub returns-clause-pool : goal.returns-clause-pool
 returns-clause-pool c =
     let w = c.requires.within in
-    on_ok_weaker c.go_on.result
-    (λ goes. let went = goes w.settings w.client w.drawn w.done w.k w.l w.m w.at in let d = drew went.more c.args.pool.now c.go_on.new.well went.draws in (d.buffers, d.sized))
-    c.go_on.ensures
+    on_ok_weaker c.play_from.result
+    (λ goes. let went = goes w.settings w.client w.drawn w.done w.k w.l w.m w.at in let d = drew went.more c.args.pool.now c.play_from.new.well went.draws in (d.buffers, d.sized))
+    c.play_from.ensures

@@ -1,17 +1,17 @@
 use Rattle.std.proofs.Common.{◌≡◌, length, map, subst, arith}
 use Rattle.hs_check_follow.proofs.Prelude.{operation_of, IsSentBy}
-use Rattle.hs_check_follow.proofs.gathering.Gathering.go_all.Goals as goal
+use Rattle.hs_check_follow.proofs.gathering.Gathering.gather_all.Goals as goal
 
 pub loop-number-init : goal.loop-number-init
 loop-number-init c = λ settings client draws same was. was
 
-pub go-requires-clause-sent : goal.go-requires-clause-sent
-go-requires-clause-sent c =
+pub gather_operation-requires-clause-sent : goal.gather_operation-requires-clause-sent
+gather_operation-requires-clause-sent c =
     let (settings, client, draws, same, was) = c.requires in
     (settings, client, draws, same, c.loop-number.invariant settings client draws same was)
 
 pub loop-number-preserved : goal.loop-number-preserved
-loop-number-preserved c = λ settings client draws same was. c.in_ok-go.ensures settings client draws same (c.loop-number.invariant settings client draws same was)
+loop-number-preserved c = λ settings client draws same was. c.in_ok-gather_operation.ensures settings client draws same (c.loop-number.invariant settings client draws same was)
 
 pub returns : goal.returns
 returns c = λ settings client draws same was.

@@ -1,7 +1,7 @@
 use Rattle.std.proofs.Common.{◌≡◌, ◌≤◌, length, map}
 use Rattle.hs_index.specs.Index.{leaving, leaving_of}
 use Rattle.hs_words.specs.Buffers.{buffer_of}
-use Rattle.hs_index.proofs.entry.IndexedTrace.go.Given as goal
+use Rattle.hs_index.proofs.entry.IndexedTrace.into_gone.Given as goal
 
 -- the chunks that were moved go, and there is room for the others
 abbrev pub invariant-loop-held : goal.invariant-loop-held

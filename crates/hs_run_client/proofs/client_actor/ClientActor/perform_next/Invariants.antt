@@ -1,7 +1,7 @@
 use Rattle.std.proofs.Common.{◌≡◌, map}
 use Rattle.hs_run_client.proofs.Prelude.{settings_of, operation_of}
 use Rattle.hs_run_client.proofs.Coming.{HasCome}
-use Rattle.hs_run_client.proofs.client_actor.ClientActor.go.Given as goal
+use Rattle.hs_run_client.proofs.client_actor.ClientActor.perform_next.Given as goal
 
 abbrev pub invariant-loop-place : goal.invariant-loop-place
 invariant-loop-place g l =

@@ -1,7 +1,7 @@
 use Rattle.std.proofs.Common.{◌≡◌, arith, subst}
 use Rattle.hs_replay.proofs.Prelude.{node_goes, NodeIsAt}
 use Rattle.hs_replay.proofs.Going.{one_of, still_more}
-use Rattle.hs_replay.proofs.node.ReplayNode.go.Goals as goal
+use Rattle.hs_replay.proofs.node.ReplayNode.play_clients.Goals as goal
 
 pub client_goes-requires : goal.client_goes-requires
 client_goes-requires c =

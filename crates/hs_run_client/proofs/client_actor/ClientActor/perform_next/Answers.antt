@@ -4,7 +4,7 @@ use Rattle.hs_records.proofs.Sizes.{operations_few}
 use Rattle.hs_run_client.proofs.Operations.{stands}
 use Rattle.hs_run_client.proofs.Going.{may_do}
 use Rattle.hs_run_client.proofs.Coming.{HasCome, come_none, come_more, went}
-use Rattle.hs_run_client.proofs.client_actor.ClientActor.go.Goals as goal
+use Rattle.hs_run_client.proofs.client_actor.ClientActor.perform_next.Goals as goal
 
 pub loop-place-init : goal.loop-place-init
 loop-place-init g c = (refl, come_none (settings_of c.args.settings.now) (map operation_of c.args.operations.now) c.self.inside.done c.self.inside.client)

@@ -1,7 +1,7 @@
 use Rattle.std.proofs.Common.{Some, None, refl, ap, ◌∙◌}
 use Rattle.hs_compare.proofs.Prelude.{operation_of, Walk}
 use Rattle.hs_compare.proofs.Pointed.{gone_quiet, gone_seen, brought_by}
-use Rattle.hs_compare.proofs.points.Walk.go.Goals as goal
+use Rattle.hs_compare.proofs.points.Walk.advance.Goals as goal
 
 pub returns-in-Some-clause-gone : goal.returns-in-Some-clause-gone
 returns-in-Some-clause-gone c = λ before gone.
