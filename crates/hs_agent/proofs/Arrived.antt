@@ -1,6 +1,6 @@
 -- What is kept after a chunk came is what the model says then, before anything has to give way.
 use Rattle.std.proofs.Common.{◌≡◌, ℕ, ◌+◌, ◌≤◌, ◌<◌, ◌^◌, false, List, [], ◌∷◌, ◌++◌, length, map, Some, None, slice_get, refl, sym, ap, subst, ◌∙◌, arith}
-use Rattle.hs_agent.proofs.Prelude.{AreLeft, Mark, unoffered, filter_map, AllByRecursion, option_map, option_map_or, option_and_then, option_to_list, append_assoc, map-append, length-map, length-append, all_weaker, all_append, all_front, all_back, TraceId, Group, Header, Sheet, used_of, header_of, Buffer, Pin, claim_of, with_pin, pin_for, Pinning, Remembers, Indexed, Noted, noted_of, others, touch, count_chunks, with_chunk, chunks_left, AgentState, Taken, ChunkStanding, is_indexed, Pinned, Abandoned, pinning_group, pinned_for, mark_of, bytes_at, with_indexed, with_pinned, with_abandoned, Tagged, Placed, place_of, placed_at, Kept, Holds, HasPage, IsKept, IsIndexed, Point, pinned_place, waiting_chunks, let_go, with_left, abandoned_for, noted}
+use Rattle.hs_agent.proofs.Prelude.{AreLeft, ChunkNote, unoffered, filter_map, AllByRecursion, option_map, option_map_or, option_and_then, option_to_list, append_assoc, map-append, length-map, length-append, all_weaker, all_append, all_front, all_back, TraceId, Group, Header, Sheet, used_of, header_of, Buffer, Pin, claim_of, with_pin, pin_for, Pinning, Remembers, Indexed, PlainIndexedTrace, noted_of, others, touch, count_chunks, with_chunk, chunks_left, AgentState, Taken, ChunkStanding, is_indexed, Pinned, Abandoned, pinning_group, pinned_for, mark_of, bytes_at, with_indexed, with_pinned, with_abandoned, Tagged, Placed, place_of, placed_at, Kept, Holds, HasPage, IsKept, IsIndexed, Point, pinned_place, waiting_chunks, let_go, with_left, abandoned_for, noted}
 use Rattle.hs_lists.proofs.Places.{get_last}
 use Rattle.hs_index.specs.Index.{with_touched, trace_of}
 use Rattle.hs_index.specs.Index as index
@@ -12,7 +12,7 @@ use Rattle.hs_agent.proofs.Indexing.{indexed-more, indexed-arrived, count-touche
 
 -- ---- the chunks of an index where a trace was touched
 
-module _ {L : Type 0} (P : Placed L → Type 0) (trace : TraceId) (noted : Noted (Tagged L)) where
+module _ {L : Type 0} (P : Placed L → Type 0) (trace : TraceId) (noted : PlainIndexedTrace (Tagged L)) where
   all-pushed : (ts : List (Indexed (Tagged L))) → AllByRecursion P (chunks_left ts) → AllByRecursion P noted.chunks → AllByRecursion P (chunks_left (ts ++ record { trace = trace; noted = noted } ∷ []))
   all-pushed [] h k = all_append P noted.chunks [] k tt
   all-pushed (t ∷ ts) h k = all_append P t.noted.chunks (chunks_left (ts ++ record { trace = trace; noted = noted } ∷ [])) (all_front P t.noted.chunks (chunks_left ts) h) (all-pushed ts (all_back P t.noted.chunks (chunks_left ts) h) k)
@@ -90,7 +90,7 @@ module _ {L : Type 0} (old : Kept L) (point : Point L) (h : Holds old point) (bu
         all_weaker (λ (pin : Pin (Tagged L)). pinned_for taken (pinned_place pin) ≡ Some pin.group) (λ (pin : Pin (Tagged L)). pinned_for all (pinned_place pin) ≡ Some pin.group)
         (λ pin e. pinned_for-front taken (new ∷ []) (pinned_place pin) pin.group e) h.memory.pinned h.pins.groups
 
-  abbrev new_mark : Mark
+  abbrev new_mark : ChunkNote
   new_mark = record { client = sheet.header.client; page = sheet.header.page; left = None }
 
   lefts_more : AreLeft (old.standings ++ new_mark ∷ []) (option_to_list old.offered ++ map place_of old.hand) old.lefts
@@ -108,7 +108,7 @@ module _ {L : Type 0} (old : Kept L) (point : Point L) (h : Holds old point) (bu
   -- ---- a chunk of a trace that nobody claimed
 
   module _ (free : claim_of h.memory.claims trace ≡ None) where
-    abbrev noted_now : Noted (Tagged L)
+    abbrev noted_now : PlainIndexedTrace (Tagged L)
     noted_now = with_chunk (noted_of trace old.index.touched) placed
 
     abbrev left_indexed : TraceId → Kept L

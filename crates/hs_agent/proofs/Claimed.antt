@@ -1,6 +1,6 @@
 -- What is kept after a trace was claimed is what the model says then.
 use Rattle.std.proofs.Common.{◌≡◌, ℕ, ◌<◌, Bool, true, false, cond, not, ◌||◌, List, [], ◌∷◌, ◌++◌, length, map, Some, None, refl, sym, ap, subst, ◌∙◌, arith}
-use Rattle.hs_agent.proofs.Prelude.{find, AllByRecursion, option_map_or, map-append, length-map, length-append, map-map, all_weaker, all_append, all_front, all_back, all_map, all_unmap, TraceId, Ask, Group, Claim, Pin, Remembered, claim_of, is_claim_of, claimed, pin_for, Pinning, Remembers, Indexed, Noted, is_of, nothing, noted_of, others, chunks_left, AgentState, is_claimed, Pinned, indexed_places, pinned_for, claim_note, claim_trace, claim_unclaimed, Tagged, Placed, place_of, Kept, Holds, HasPage, IsKept, RemembersAs, Point, with_state, pinned_place, plain_claim, waiting_chunks}
+use Rattle.hs_agent.proofs.Prelude.{find, AllByRecursion, option_map_or, map-append, length-map, length-append, map-map, all_weaker, all_append, all_front, all_back, all_map, all_unmap, TraceId, Ask, Group, Claim, Pin, Remembered, claim_of, is_claim_of, claimed, pin_for, Pinning, Remembers, Indexed, PlainIndexedTrace, is_of, nothing, noted_of, others, chunks_left, AgentState, is_claimed, Pinned, indexed_places, pinned_for, claim_note, claim_trace, claim_unclaimed, Tagged, Placed, place_of, Kept, Holds, HasPage, IsKept, RemembersAs, Point, with_state, pinned_place, plain_claim, waiting_chunks}
 use Rattle.hs_index.specs.Index as index
 use Rattle.hs_agent.proofs.Indexing.{indexed-claimed, count-others}
 use Rattle.hs_agent.proofs.Moved.{sheets, sheets-moved, length-same, pages-same, has_page-same}
@@ -61,7 +61,7 @@ module _ {L : Type 0} (old : Kept L) (point : Point L) (h : Holds old point) (as
   abbrev touched : List (Indexed (Tagged L))
   touched = old.index.touched
 
-  abbrev noted : Noted (Tagged L)
+  abbrev noted : PlainIndexedTrace (Tagged L)
   noted = noted_of trace touched
 
   -- what the node remembers then

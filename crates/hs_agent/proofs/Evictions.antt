@@ -1,6 +1,6 @@
 -- That what the index lets go, and what it keeps, is what the model does.
 use Rattle.std.proofs.Common.{◌≡◌, ℕ, ◌+◌, ◌≤◌, Bool, true, false, cond, ◌||◌, List, [], ◌∷◌, ◌++◌, length, map, fold, Some, nat_lt, refl, sym, ap, subst, ◌∙◌, arith, append-nil}
-use Rattle.hs_agent.proofs.Prelude.{find, AllByRecursion, option_map_or, append_assoc, map-append, length-map, fold-append, sum_by-cons, map-map, all_append, all_front, all_back, TraceId, Group, Mark, PlainSettings, Indexed, Leaving, chunk_count, count_chunks, chunks_left, kept, evicted, is_of, nothing, Claim, indexed_places, indexed_count, pinned_for, Evicted, AgentState, evicted_of, mark_of, left_of, same_trace-refl, Tagged, Placed, place_of, IsIndexed, with_left}
+use Rattle.hs_agent.proofs.Prelude.{find, AllByRecursion, option_map_or, append_assoc, map-append, length-map, fold-append, sum_by-cons, map-map, all_append, all_front, all_back, TraceId, Group, ChunkNote, PlainSettings, Indexed, Leaving, chunk_count, count_chunks, chunks_left, kept, evicted, is_of, nothing, Claim, indexed_places, indexed_count, pinned_for, Evicted, AgentState, evicted_of, mark_of, left_of, same_trace-refl, Tagged, Placed, place_of, IsIndexed, with_left}
 use Rattle.hs_index.specs.Index.{leaving, is_over}
 use Rattle.hs_law_agent.specs.Evicting as model
 use Rattle.hs_agent.proofs.Indexing.{indexed-evicted}
@@ -15,10 +15,10 @@ abbrev traces_of : {L : Type 0} → List (Traced L) → List TraceId
 traces_of {L} ts = map (λ (t : Traced L). t.trace) ts
 
 -- the fate of a chunk that leaves is noted
-abbrev pub note_leaving : {L : Type 0} → List Mark → Leaving (Tagged L) → List Mark
+abbrev pub note_leaving : {L : Type 0} → List ChunkNote → Leaving (Tagged L) → List ChunkNote
 note_leaving standings l = with_left (place_of l.buffer) (Some (evicted_of l.chunks l.traces)) standings
 
-noted_of_trace : {L : Type 0} → (chunks traces : ℕ) (standings : List Mark) (buffers : List (Placed L))
+noted_of_trace : {L : Type 0} → (chunks traces : ℕ) (standings : List ChunkNote) (buffers : List (Placed L))
     → fold note_leaving standings (map (leaving chunks traces) buffers) ≡ fold (λ ss place. with_left place (Some (evicted_of chunks traces)) ss) standings (map place_of buffers)
 noted_of_trace chunks traces standings [] = refl
 noted_of_trace chunks traces standings (b ∷ bs) = noted_of_trace chunks traces (note_leaving standings (leaving chunks traces b)) bs

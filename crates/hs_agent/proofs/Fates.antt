@@ -1,7 +1,7 @@
 -- That the fates in a book follow what is noted of chunks that leave.
 use Rattle.std.proofs.Common.{◌≡◌, ℕ, zero, suc, List, [], ◌∷◌, map, Option, Some, None, slice_get, slice_set, refl, sym, ap, ◌∙◌}
 use Rattle.hs_base.specs.declared.told.Fate.{Fate}
-use Rattle.hs_agent.proofs.Prelude.{option_map_or, Left, Mark, Standing, standing_by, with_left}
+use Rattle.hs_agent.proofs.Prelude.{option_map_or, Left, ChunkNote, Standing, standing_by, with_left}
 use Rattle.hs_agent.specs.Leaving.{fate_by, with_fate}
 use Rattle.hs_agent.proofs.NotedFates.{with_left-later}
 
@@ -14,7 +14,7 @@ with_fate-later place fate first standings = by (slice_get standings place)
     by None = refl
     by (Some standing) = refl
 
-pub standings_with : (place : ℕ) (left : Left) (marks : List Mark) → map standing_by (with_left place (Some left) marks) ≡ with_fate place (fate_by (Some left)) (map standing_by marks)
+pub standings_with : (place : ℕ) (left : Left) (marks : List ChunkNote) → map standing_by (with_left place (Some left) marks) ≡ with_fate place (fate_by (Some left)) (map standing_by marks)
 standings_with place left [] = refl
 standings_with zero left (mark ∷ marks) = refl
 standings_with (suc place) left (mark ∷ marks) =

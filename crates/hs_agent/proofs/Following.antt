@@ -1,6 +1,6 @@
 -- An agent follows its run from call to call.
 use Rattle.std.proofs.Common.{◌≡◌, ◌≤◌, append-nil, ℕ, Bool, true, false, cond, List, [], ◌∷◌, ◌++◌, slice_set, Some, None, IsSome, refl, sym, ap, subst, ◌∙◌}
-use Rattle.hs_agent.proofs.Prelude.{Step, Chunk, Crumbed, Triggered, Asked, Turn, back_after, came_back, fold-append, option_map_or, PlainSettings, Schedule, IsSchedule, Buffer, buffer_of, IsInOnePlace, PlacesMatch, EventsLeadOn, ListsGoOn, AgentState, Answered, Given, Missed, Unread, Took, Gave, note, step_of, take_input, step_of_answer, give_back, take_answer, after_gave, Kept, PlainAgent, Holds, Point, answered, Run, input_of, taken_in, Follows, StandsAt, point_of, state_of, after_offer, Input}
+use Rattle.hs_agent.proofs.Prelude.{Step, Chunk, Crumbed, Triggered, Asked, Turn, back_after, came_back, fold-append, option_map_or, PlainSettings, Schedule, IsSchedule, Buffer, buffer_of, IsInOnePlace, PlacesMatch, EventsLeadOn, ListsGoOn, AgentState, Answered, Given, Missed, Unread, Took, Gave, note, step_of, take_input, step_of_answer, give_back, take_answer, after_gave, Kept, PlainAgent, Holds, Point, answered, AgentRun, input_of, taken_in, Follows, StandsAt, point_of, state_of, after_offer, Input}
 use Rattle.hs_lists.proofs.Options.{some_item}
 use Rattle.hs_base.specs.declared.limits.TheConstants.{MOST_NODES}
 use Rattle.hs_words.specs.declared.token.Given.{Given as Answer}
@@ -47,7 +47,7 @@ module _ {L : Type 0} where
   pub offered-some : (kept : Kept L) (point : Point L) → Holds kept point → IsSome point.offered → IsSome kept.offered
   offered-some kept point h some = subst IsSome (sym h.offered) some
 
-  module _ (agent next : PlainAgent L) (run : Run L) (follows : Follows agent run) where
+  module _ (agent next : PlainAgent L) (run : AgentRun L) (follows : Follows agent run) where
     pub follows-offered : next.schedule ≡ agent.schedule → next.log ≡ agent.log → next.keeps ≡ agent.keeps → next.spent ≡ agent.spent → Holds next.kept (point_of (after_offer run)) → Follows next (after_offer run)
     follows-offered schedule log keeps spent holds = record {
       working = spent ∙ follows.working;
@@ -138,7 +138,7 @@ module _ {L : Type 0} where
           }
 
 -- the lists of an agent's state have their chunks
-module _ {L : Type 0} (last : ListsGoOn) (agent : PlainAgent L) (run : Run L) (follows : Follows agent run) where
+module _ {L : Type 0} (last : ListsGoOn) (agent : PlainAgent L) (run : AgentRun L) (follows : Follows agent run) where
   pub places_now : PlacesMatch (state_of run)
   places_now = (last run.settings run.node run.start follows.good).events run.events
 

@@ -1,6 +1,6 @@
 -- What is kept once a group was forgotten.
 use Rattle.std.proofs.Common.{◌≡◌, ℕ, Bool, true, false, cond, not, ◌||◌, ◌&&◌, List, [], ◌∷◌, map, filter, Option, Some, None, refl, sym, ap, subst, ◌∙◌, true≢false}
-use Rattle.hs_agent.proofs.Prelude.{list_any, find, filter_map, AllByRecursion, option_map_or, option_and_then, all_weaker, or-false, TraceId, Group, Crumb, has_node, has-no_nodes, same_trace, same_trace-true, Claim, claim_of, Pin, Remembers, Indexed, is_of, Noted, noted_of, nothing, Tagged, ClaimedTrace, claim_note, same_crumb, has_crumb, forget_group, is_settled, pinned_for, Kept, Point, Holds, plain_claim, pinned_place, crumbs_known, with_state}
+use Rattle.hs_agent.proofs.Prelude.{list_any, find, filter_map, AllByRecursion, option_map_or, option_and_then, all_weaker, or-false, TraceId, Group, Crumb, has_node, has-no_nodes, same_trace, same_trace-true, Claim, claim_of, Pin, Remembers, Indexed, is_of, PlainIndexedTrace, noted_of, nothing, Tagged, ClaimedTrace, claim_note, same_crumb, has_crumb, forget_group, is_settled, pinned_for, Kept, Point, Holds, plain_claim, pinned_place, crumbs_known, with_state}
 use Rattle.hs_records.specs.declared.books.Claim as noted
 use Rattle.hs_lists.proofs.Filters.{filter_mapped}
 use Rattle.hs_lists.proofs.Tests.{list_any_map}
@@ -100,7 +100,7 @@ crumbs_left {L} group claims touched crumbs apart free known t n =
     go (Some claim) e = by (same_group group claim.group)
       where
         by : (b : Bool) → (not b && has_node claim.crumbs n) ≡ has_node (option_map_or (λ (claim : Claim). claim.crumbs) (cond b None (Some claim)) (noted_of t touched).crumbs) n
-        by true = sym (ap (λ (noted : Noted (Tagged L)). has_node noted.crumbs n) (not_noted claims touched t claim free e) ∙ has-no_nodes n)
+        by true = sym (ap (λ (noted : PlainIndexedTrace (Tagged L)). has_node noted.crumbs n) (not_noted claims touched t claim free e) ∙ has-no_nodes n)
         by false = refl
 
 -- ---- what is pinned

@@ -1,6 +1,6 @@
 -- That the groups which give way are the model's.
 use Rattle.std.proofs.Common.{◌≡◌, ℕ, Bool, true, false, cond, not, List, [], ◌∷◌, ◌++◌, length, map, filter, Option, Some, None, slice_get, refl, sym, ap, ◌∙◌, true≢false, ◌||◌, fold, ◌+◌, suc, zero, nat_eq, subst, nat_lt, append-nil, arith}
-use Rattle.hs_agent.proofs.Prelude.{filter_map, AllByRecursion, cons_option, option_and_then, option_map_or, Group, Pin, pins_for, without_group, is_for, same_group-true, eqb-true, append_assoc, map-append, length-map, PlainSettings, AgentState, moved_from, moved, is_among, Taken, ChunkStanding, Pinned, Reported, Evicted, Abandoned, pinning_group, pinned_for, indexed_places, indexed_count, is_indexed, mark_of, left_of, Mark, TraceId, fold-append, with_left, abandoned_for}
+use Rattle.hs_agent.proofs.Prelude.{filter_map, AllByRecursion, cons_option, option_and_then, option_map_or, Group, Pin, pins_for, without_group, is_for, same_group-true, eqb-true, append_assoc, map-append, length-map, PlainSettings, AgentState, moved_from, moved, is_among, Taken, ChunkStanding, Pinned, Reported, Evicted, Abandoned, pinning_group, pinned_for, indexed_places, indexed_count, is_indexed, mark_of, left_of, ChunkNote, TraceId, fold-append, with_left, abandoned_for}
 use Rattle.hs_pins.specs.Abandoning.{groups_of}
 use Rattle.hs_pins.specs.Abandoning as pins
 use Rattle.hs_law_agent.specs.Standings.{Indexed, is_pinned_for, is_pinned_to, same_group}
@@ -119,16 +119,16 @@ module _ (group : Group) (taken : List Taken) (pinned : List ℕ) where
 
 module _ {L : Type 0} (place_of : Pin L → ℕ) where
   -- the fates of pinned chunks are noted, one after another
-  abbrev pub note_abandoned : List Mark → Pin L → List Mark
+  abbrev pub note_abandoned : List ChunkNote → Pin L → List ChunkNote
   note_abandoned standings pin = with_left (place_of pin) (Some (abandoned_for pin.group)) standings
 
-  noted_for : (group : Group) (standings : List Mark) (pinned : List (Pin L))
+  noted_for : (group : Group) (standings : List ChunkNote) (pinned : List (Pin L))
       → fold note_abandoned standings (pins_for group pinned) ≡ fold (λ ss place. with_left place (left_of (Abandoned group)) ss) standings (map place_of (pins_for group pinned))
   noted_for group standings [] = refl
   noted_for group standings (pin ∷ pinned) = by (is_for group pin) refl (λ ss. noted_for group ss pinned)
     where
       by : (b : Bool) → is_for group pin ≡ b
-          → ((ss : List Mark) → fold note_abandoned ss (pins_for group pinned) ≡ fold (λ ss place. with_left place (left_of (Abandoned group)) ss) ss (map place_of (pins_for group pinned)))
+          → ((ss : List ChunkNote) → fold note_abandoned ss (pins_for group pinned) ≡ fold (λ ss place. with_left place (left_of (Abandoned group)) ss) ss (map place_of (pins_for group pinned)))
           → fold note_abandoned standings (cond b (pin ∷ pins_for group pinned) (pins_for group pinned)) ≡ fold (λ ss place. with_left place (left_of (Abandoned group)) ss) standings (map place_of (cond b (pin ∷ pins_for group pinned) (pins_for group pinned)))
       by true e rest =
           ap (λ g. fold note_abandoned (with_left (place_of pin) (Some (abandoned_for g)) standings) (pins_for group pinned)) (sym (same_group-true group pin.group e))

@@ -1,6 +1,6 @@
 -- What stays where a chunk more was taken.
 use Rattle.std.proofs.Common.{◌≡◌, ℕ, ◌<◌, List, [], ◌∷◌, ◌++◌, length, Option, Some, None, slice_get, refl, ap, ◌∙◌}
-use Rattle.hs_agent.proofs.Prelude.{filter_map, AllByRecursion, cons_option, option_map, option_and_then, Left, Group, Mark, PlainSettings, page_bytes, Buffer, Taken, pinning_group, pinned_for, bytes_at, Placed, place_of, IsKept, HasPage, with_left}
+use Rattle.hs_agent.proofs.Prelude.{filter_map, AllByRecursion, cons_option, option_map, option_and_then, Left, Group, ChunkNote, PlainSettings, page_bytes, Buffer, Taken, pinning_group, pinned_for, bytes_at, Placed, place_of, IsKept, HasPage, with_left}
 use Rattle.hs_lists.proofs.Places.{get_front, get_front_same}
 use Rattle.hs_agent.proofs.NotedFates.{with_left-later}
 
@@ -24,6 +24,6 @@ pinned_for-front taken more place group e = by (slice_get taken place) refl e
     by (Some t) at f = ap (option_and_then (λ (t : Taken). pinning_group t.standing)) (get_front taken more place t at) ∙ f
 
 -- the fate of the last one is noted
-pub with_left-last : (left : Option Left) (standings : List Mark) (last : Mark) → with_left (length standings) left (standings ++ last ∷ []) ≡ standings ++ record last { left = left } ∷ []
+pub with_left-last : (left : Option Left) (standings : List ChunkNote) (last : ChunkNote) → with_left (length standings) left (standings ++ last ∷ []) ≡ standings ++ record last { left = left } ∷ []
 with_left-last left [] last = refl
 with_left-last left (first ∷ standings) last = with_left-later (length standings) left first (standings ++ last ∷ []) ∙ ap (λ l. first ∷ l) (with_left-last left standings last)

@@ -1,6 +1,6 @@
 -- What the index keeps is what the model has indexed: where a trace is touched, where it leaves, and where it is claimed.
 use Rattle.std.proofs.Common.{◌≡◌, ℕ, ◌+◌, suc, Bool, true, false, cond, not, ◌||◌, ◌&&◌, List, [], ◌∷◌, ◌++◌, length, map, filter, Some, None, nat_eq, eq-eqb, refl, sym, ap, ◌∙◌, arith, append-nil}
-use Rattle.hs_agent.proofs.Prelude.{find, AllByRecursion, list_any, option_map_or, or-true, eqb-true, true≢false, map-append, length-map, length-append, sum_by-cons, ne_eqb, by_answer, all_weaker, all_append, TraceId, NodeSet, Ask, Crumb, has_node, has-no_nodes, has-with_node, same_trace, Sheet, Noted, Indexed, is_of, nothing, noted_of, others, touch, with_chunk, chunk_count, count_chunks, Claim, claim_of, is_claim_of, moved, places_from, indexed_places, indexed_count, is_indexed, is_indexed_of, trace_of, Taken, ChunkStanding, Pinned, Evicted, PlainSettings, AgentState, start, evict_trace, claim_trace, has_crumb, same_crumb, with_crumb, with_indexed, with_touched, same_trace-true, same_trace-refl, Tagged, Placed, place_of, AreApart, IsIndexed, crumbs_known}
+use Rattle.hs_agent.proofs.Prelude.{find, AllByRecursion, list_any, option_map_or, or-true, eqb-true, true≢false, map-append, length-map, length-append, sum_by-cons, ne_eqb, by_answer, all_weaker, all_append, TraceId, NodeSet, Ask, Crumb, has_node, has-no_nodes, has-with_node, same_trace, Sheet, PlainIndexedTrace, Indexed, is_of, nothing, noted_of, others, touch, with_chunk, chunk_count, count_chunks, Claim, claim_of, is_claim_of, moved, places_from, indexed_places, indexed_count, is_indexed, is_indexed_of, trace_of, Taken, ChunkStanding, Pinned, Evicted, PlainSettings, AgentState, start, evict_trace, claim_trace, has_crumb, same_crumb, with_crumb, with_indexed, with_touched, same_trace-true, same_trace-refl, Tagged, Placed, place_of, AreApart, IsIndexed, crumbs_known}
 use Rattle.std.specs.Option.{option_or}
 use Rattle.std.proofs.lemmas.Bool.{not-true}
 use Rattle.std.proofs.lemmas.List.Elements.{filter-append}
@@ -90,14 +90,14 @@ module _ (gone : TraceId) where
       (λ y.
       let is : others gone (t ∷ ts) ≡ ts = others-cons t ts true y ∙ others-all ts (all_weaker (λ (u : Traced L). same_trace t.trace u.trace ≡ false) (λ (u : Traced L). same_trace gone u.trace ≡ false) (λ u n. ap (λ w. same_trace w u.trace) (same_trace-true gone t.trace y) ∙ n) ts h.0) in
       let mine : noted_of gone (t ∷ ts) ≡ t.noted = ap (λ b. option_map_or (λ (t : Traced L). t.noted) (cond b (Some t) (find (is_of gone) ts)) nothing) y in
-      let own = ap (λ (n : Noted (Tagged L)). length n.chunks) mine in
+      let own = ap (λ (n : PlainIndexedTrace (Tagged L)). length n.chunks) mine in
       let rest = ap count_chunks is in
       let whole = sum_by-cons (λ (u : Traced L). chunk_count u.noted) t ts in
       omega (arith, own, rest, whole))
       (λ n.
       let is : others gone (t ∷ ts) ≡ t ∷ others gone ts = others-cons t ts false n in
       let mine : noted_of gone (t ∷ ts) ≡ noted_of gone ts = ap (λ b. option_map_or (λ (t : Traced L). t.noted) (cond b (Some t) (find (is_of gone) ts)) nothing) n in
-      let own = ap (λ (n : Noted (Tagged L)). length n.chunks) mine in
+      let own = ap (λ (n : PlainIndexedTrace (Tagged L)). length n.chunks) mine in
       let rest = ap count_chunks is in
       let whole = sum_by-cons (λ (u : Traced L). chunk_count u.noted) t ts in
       let left = sum_by-cons (λ (u : Traced L). chunk_count u.noted) t (others gone ts) in
@@ -113,10 +113,10 @@ module _ (gone : TraceId) where
       (λ y.
       let e = same_trace-true gone u y in
       ap (λ w. map place_of (noted_of w (others gone ts)).chunks) (sym e)
-      ∙ ap (λ (n : Noted (Tagged L)). map place_of n.chunks) (noted-gone ts)
+      ∙ ap (λ (n : PlainIndexedTrace (Tagged L)). map place_of n.chunks) (noted-gone ts)
       ∙ sym (places-gone gone stands out taken)
       ∙ ap (indexed_places (moved (indexed_places taken gone) (λ _. stands) taken)) e)
-      (λ n. ap (λ (x : Noted (Tagged L)). map place_of x.chunks) (noted-others u n ts) ∙ h u ∙ sym (places-other gone stands out taken u n))
+      (λ n. ap (λ (x : PlainIndexedTrace (Tagged L)). map place_of x.chunks) (noted-others u n ts) ∙ h u ∙ sym (places-other gone stands out taken u n))
 
   -- and how many these are
   pub count-without : {L : Type 0} → (stands : ChunkStanding) → is_indexed stands ≡ false → (taken : List Taken) (ts : List (Traced L)) → AreApart ts
@@ -130,7 +130,7 @@ module _ (gone : TraceId) where
 
 -- ---- a trace that is touched
 
-module _ {L : Type 0} (trace : TraceId) (noted : Noted (Tagged L)) where
+module _ {L : Type 0} (trace : TraceId) (noted : PlainIndexedTrace (Tagged L)) where
   abbrev last : Traced L
   last = record { trace = trace; noted = noted }
 
@@ -200,7 +200,7 @@ pub known-free : {L : Type 0} → (claims : List Claim) (ts : List (Traced L)) (
 known-free claims ts u free = ap (λ o. option_map_or (λ (claim : Claim). claim.crumbs) o (noted_of u ts).crumbs) free
 
 known-others : {L : Type 0} → (claims : List Claim) (ts us : List (Traced L)) (u : TraceId) → noted_of u us ≡ noted_of u ts → crumbs_known claims us u ≡ crumbs_known claims ts u
-known-others {L} claims ts us u e = ap (λ (x : Noted (Tagged L)). option_map_or (λ (claim : Claim). claim.crumbs) (claim_of claims u) x.crumbs) e
+known-others {L} claims ts us u e = ap (λ (x : PlainIndexedTrace (Tagged L)). option_map_or (λ (claim : Claim). claim.crumbs) (claim_of claims u) x.crumbs) e
 
 -- ---- the first trace goes
 
@@ -222,7 +222,7 @@ indexed-evicted {L} claims t ts state i =
           let e = same_trace-true t.trace u y in
           ap (λ w. has_crumb (without_crumbs t.trace state.crumbs) (crumb_to w n)) (sym e)
           ∙ crumbs-gone t.trace n state.crumbs
-          ∙ sym (ap (λ (s : NodeSet). has_node s n) (ap (crumbs_known claims ts) (sym e) ∙ known-free claims ts t.trace i.free.0 ∙ ap (λ l. (noted_of t.trace l).crumbs) (sym first) ∙ ap (λ (x : Noted (Tagged L)). x.crumbs) (noted-gone t.trace (t ∷ ts))) ∙ has-no_nodes n))
+          ∙ sym (ap (λ (s : NodeSet). has_node s n) (ap (crumbs_known claims ts) (sym e) ∙ known-free claims ts t.trace i.free.0 ∙ ap (λ l. (noted_of t.trace l).crumbs) (sym first) ∙ ap (λ (x : PlainIndexedTrace (Tagged L)). x.crumbs) (noted-gone t.trace (t ∷ ts))) ∙ has-no_nodes n))
           (λ no. crumbs-other t.trace u no n state.crumbs
           ∙ i.crumbs u n
           ∙ sym (ap (λ (s : NodeSet). has_node s n) (known-others claims (t ∷ ts) ts u (ap (noted_of u) (sym first) ∙ noted-others t.trace u no (t ∷ ts)))));
@@ -320,7 +320,7 @@ indexed-arrived {L} claims sheet placed ts state free at i =
           (λ y.
           let e = same_trace-true trace u y in
           ap (λ w. map place_of (noted_of w (touch trace noted ts)).chunks) (sym e)
-          ∙ ap (λ (x : Noted (Tagged L)). map place_of x.chunks) (noted-touched trace noted ts)
+          ∙ ap (λ (x : PlainIndexedTrace (Tagged L)). map place_of x.chunks) (noted-touched trace noted ts)
           ∙ map-append place_of (noted_of trace ts).chunks (placed ∷ [])
           ∙ ap (λ l. l ++ place_of placed ∷ []) (i.places trace)
           ∙ ap (λ p. indexed_places state.taken trace ++ p ∷ []) at
@@ -328,7 +328,7 @@ indexed-arrived {L} claims sheet placed ts state free at i =
           ∙ places-more trace state.taken new
           ∙ ap (λ b. indexed_places state.taken trace ++ cond b (length state.taken ∷ []) []) (same_trace-refl trace)))
           (λ no.
-          ap (λ (x : Noted (Tagged L)). map place_of x.chunks) (noted-untouched trace noted u no ts)
+          ap (λ (x : PlainIndexedTrace (Tagged L)). map place_of x.chunks) (noted-untouched trace noted u no ts)
           ∙ i.places u
           ∙ sym (places-more u state.taken new
           ∙ ap (λ b. indexed_places state.taken u ++ cond b (length state.taken ∷ []) []) (same_swap u trace ∙ no)
@@ -347,7 +347,7 @@ indexed-arrived {L} claims sheet placed ts state free at i =
           let e = same_trace-true trace u y in
           ap (crumbs_known claims ts) (sym e)
           ∙ known-free claims ts trace free
-          ∙ sym (ap (λ (x : Noted (Tagged L)). x.crumbs) (noted-touched trace noted ts))
+          ∙ sym (ap (λ (x : PlainIndexedTrace (Tagged L)). x.crumbs) (noted-touched trace noted ts))
           ∙ sym (known-free claims (touch trace noted ts) trace free)
           ∙ ap (crumbs_known claims (touch trace noted ts)) e)
           (λ no. sym (known-others claims ts (touch trace noted ts) u (noted-untouched trace noted u no ts))));
@@ -406,10 +406,10 @@ indexed-crumbed {L} claims crumb ts state free i =
           (λ y.
           let e = same_trace-true trace u y in
           ap (λ w. map place_of (noted_of w (touch trace noted ts)).chunks) (sym e)
-          ∙ ap (λ (x : Noted (Tagged L)). map place_of x.chunks) (noted-touched trace noted ts)
+          ∙ ap (λ (x : PlainIndexedTrace (Tagged L)). map place_of x.chunks) (noted-touched trace noted ts)
           ∙ i.places trace
           ∙ ap (indexed_places state.taken) e)
-          (λ no. ap (λ (x : Noted (Tagged L)). map place_of x.chunks) (noted-untouched trace noted u no ts) ∙ i.places u);
+          (λ no. ap (λ (x : PlainIndexedTrace (Tagged L)). map place_of x.chunks) (noted-untouched trace noted u no ts) ∙ i.places u);
       count =
           let was = i.count in
           let touched = count-touched trace noted ts i.apart in
@@ -424,7 +424,7 @@ indexed-crumbed {L} claims crumb ts state free i =
           ∙ ap (λ b. has_node (crumbs_known claims ts trace) n || (b && nat_eq n crumb.node.0)) (same_trace-refl trace)
           ∙ ap (λ (s : NodeSet). has_node s n || nat_eq n crumb.node.0) (known-free claims ts trace free)
           ∙ sym (has-with_node (noted_of trace ts).crumbs crumb.node n)
-          ∙ ap (λ (s : NodeSet). has_node s n) (sym (ap (λ (x : Noted (Tagged L)). x.crumbs) (noted-touched trace noted ts)) ∙ sym (known-free claims (touch trace noted ts) trace free) ∙ ap (crumbs_known claims (touch trace noted ts)) e))
+          ∙ ap (λ (s : NodeSet). has_node s n) (sym (ap (λ (x : PlainIndexedTrace (Tagged L)). x.crumbs) (noted-touched trace noted ts)) ∙ sym (known-free claims (touch trace noted ts) trace free) ∙ ap (crumbs_known claims (touch trace noted ts)) e))
           (λ no.
           ap (λ b. has_node (crumbs_known claims ts u) n || (b && nat_eq n crumb.node.0)) (same_swap u trace ∙ no)
           ∙ or-false (has_node (crumbs_known claims ts u) n)

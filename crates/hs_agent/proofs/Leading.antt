@@ -1,6 +1,6 @@
 -- What is first in the hand is first in the model's hand, as it came last; and it stands there by why it left.
 use Rattle.std.proofs.Common.{◌≡◌, ◌≢◌, ℕ, Bool, false, ◌||◌, List, [], ◌∷◌, ◌++◌, map, Option, Some, None, slice_get, refl, sym, ap, subst, ◌∙◌}
-use Rattle.hs_agent.proofs.Prelude.{AllByRecursion, option_map, option_map_or, option_and_then, option_to_list, slice_get-map, ne_eqb, all_back, IsInOnePlace, Taken, ChunkStanding, Pinned, is_among, Left, Mark, AreLeft, left_at, left_of, mark_of, standing_of, Placed, place_of, IsKept, HasPage, Kept, Holds, point_of, Run, state_of, unoffered, waiting_chunks}
+use Rattle.hs_agent.proofs.Prelude.{AllByRecursion, option_map, option_map_or, option_and_then, option_to_list, slice_get-map, ne_eqb, all_back, IsInOnePlace, Taken, ChunkStanding, Pinned, is_among, Left, ChunkNote, AreLeft, left_at, left_of, mark_of, standing_of, Placed, place_of, IsKept, HasPage, Kept, Holds, point_of, AgentRun, state_of, unoffered, waiting_chunks}
 use Rattle.hs_words.specs.Chunks.{Contents}
 use Rattle.hs_law_agent.specs.Standings.{Indexed}
 use Rattle.hs_law_agent.specs.Standings as standings
@@ -22,9 +22,9 @@ stood (standings.Abandoned group) left e = subst (λ (o : Option Left). standing
 
 noted : (taken : List Taken) (place : ℕ) (left : Left) → left_at (map mark_of taken) place ≡ Some left → option_map (λ (chunk : Taken). chunk.standing) (slice_get taken place) ≡ Some (standing_of left)
 noted taken place left e =
-    by (slice_get taken place) (ap (option_and_then (λ (mark : Mark). mark.left)) (sym (slice_get-map mark_of taken place)) ∙ e)
+    by (slice_get taken place) (ap (option_and_then (λ (mark : ChunkNote). mark.left)) (sym (slice_get-map mark_of taken place)) ∙ e)
   where
-    by : (o : Option Taken) → option_and_then (λ (mark : Mark). mark.left) (option_map mark_of o) ≡ Some left → option_map (λ (chunk : Taken). chunk.standing) o ≡ Some (standing_of left)
+    by : (o : Option Taken) → option_and_then (λ (mark : ChunkNote). mark.left) (option_map mark_of o) ≡ Some left → option_map (λ (chunk : Taken). chunk.standing) o ≡ Some (standing_of left)
     by None f = cc
     by (Some chunk) f = ap Some (stood chunk.standing left f)
 
@@ -33,7 +33,7 @@ outside place [] apart = refl
 outside place (other ∷ others) apart =
     ap (λ b. b || is_among (map place_of others) place) (ne_eqb (place_of other) place (λ e. apart.0 (sym e))) ∙ outside place others apart.1
 
-module _ {L : Type 0} (kept : Kept L) (run : Run L) (h : Holds kept (point_of run)) (one : (place : ℕ) → IsInOnePlace (state_of run) place) (none : run.offered ≡ None) where
+module _ {L : Type 0} (kept : Kept L) (run : AgentRun L) (h : Holds kept (point_of run)) (one : (place : ℕ) → IsInOnePlace (state_of run) place) (none : run.offered ≡ None) where
   pub none_there : kept.hand ≡ [] → (state_of run).hand ≡ []
   none_there empty = sym (in_hand kept (point_of run) h one none) ∙ ap (map place_of) empty
 

@@ -1,6 +1,6 @@
 -- Over any calls the run of an agent is the model's.
 use Rattle.std.proofs.Common.{◌≡◌, ℕ, List, [], ◌∷◌, ◌++◌, map, fold, refl, sym, ap, ◌∙◌, append-nil}
-use Rattle.hs_agent.proofs.Prelude.{append_assoc, PlainSettings, EventsLeadOn, AgentState, AgentEvent, Took, Gave, step_of, step_of_answer, after, after_from, after_event, take_input, take_answer, Run, state_of}
+use Rattle.hs_agent.proofs.Prelude.{append_assoc, PlainSettings, EventsLeadOn, AgentState, AgentEvent, Took, Gave, step_of, step_of_answer, after, after_from, after_event, take_input, take_answer, AgentRun, state_of}
 use Rattle.hs_law_agent.specs.Laws.{StepsSayWhatTheyTell, noted_as}
 use Rattle.hs_agent.specs.Runs.{new_run}
 use Rattle.hs_agent.specs.Calls.{Call, Takes, Offers, Answers, after_call, run_after, events_in, events_of, told_at, told_from, MeetsModel}
@@ -21,18 +21,18 @@ log-from settings node state (Gave answer ∷ events) =
 
 module _ {L : Type 0} where
   -- a call leaves the settings and the node, and adds its events
-  pub record GoesOn (run later : Run L) (more : List AgentEvent) : Type 0 where
+  pub record GoesOn (run later : AgentRun L) (more : List AgentEvent) : Type 0 where
     pub settings : later.settings ≡ run.settings
     pub node : later.node ≡ run.node
     pub start : later.start ≡ run.start
     pub events : later.events ≡ run.events ++ more
 
-  one_call : (run : Run L) (call : Call L) → GoesOn run (after_call run call) (events_in call)
+  one_call : (run : AgentRun L) (call : Call L) → GoesOn run (after_call run call) (events_in call)
   one_call run (Takes input came) = record { settings = refl; node = refl; start = refl; events = refl }
   one_call run Offers = record { settings = refl; node = refl; start = refl; events = sym (append-nil run.events) }
   one_call run (Answers answer back) = record { settings = refl; node = refl; start = refl; events = refl }
 
-  all_calls : (run : Run L) (calls : List (Call L)) → GoesOn run (fold after_call run calls) (events_of calls)
+  all_calls : (run : AgentRun L) (calls : List (Call L)) → GoesOn run (fold after_call run calls) (events_of calls)
   all_calls run [] = record { settings = refl; node = refl; start = refl; events = sym (append-nil run.events) }
   all_calls run (call ∷ calls) =
       let first = one_call run call in
@@ -46,7 +46,7 @@ module _ {L : Type 0} where
 
   module _ (go_on : EventsLeadOn) (say : StepsSayWhatTheyTell) where
     -- what was said before, and what a call tells
-    one_told : (run : Run L) (call : Call L) → (state_of run).said ++ told_at run call ≡ (state_of (after_call run call)).said
+    one_told : (run : AgentRun L) (call : Call L) → (state_of run).said ++ told_at run call ≡ (state_of (after_call run call)).said
     one_told run (Takes input came) =
         sym ((say run.settings run.node (state_of run)).inputs input) ∙ ap (λ (s : AgentState). s.said) (sym (go_on run.settings run.node run.start run.events (Took input ∷ [])))
     one_told run Offers = append-nil (state_of run).said
@@ -55,7 +55,7 @@ module _ {L : Type 0} where
         ∙ sym ((say run.settings run.node (state_of run)).answers answer)
         ∙ ap (λ (s : AgentState). s.said) (sym (go_on run.settings run.node run.start run.events (Gave answer ∷ [])))
 
-    all_told : (run : Run L) (calls : List (Call L)) → (state_of run).said ++ told_from run calls ≡ (state_of (fold after_call run calls)).said
+    all_told : (run : AgentRun L) (calls : List (Call L)) → (state_of run).said ++ told_from run calls ≡ (state_of (fold after_call run calls)).said
     all_told run [] = append-nil (state_of run).said
     all_told run (call ∷ calls) =
         sym (append_assoc (state_of run).said (told_at run call) (told_from (after_call run call) calls))

@@ -1,14 +1,14 @@
 -- That noting the fates of chunks one after another is standing them anew.
 use Rattle.std.proofs.Common.{◌≡◌, ℕ, ◌+◌, ◌<◌, zero, suc, Bool, true, false, cond, ◌||◌, List, [], ◌∷◌, map, fold, Option, Some, None, slice_get, slice_set, nat_eq, eq-eqb, refl, sym, ap, ◌∙◌, arith}
-use Rattle.hs_agent.proofs.Prelude.{option_map_or, ne_eqb, Left, Mark, moved_from, moved, is_among, Taken, ChunkStanding, mark_of, left_of, with_left}
+use Rattle.hs_agent.proofs.Prelude.{option_map_or, ne_eqb, Left, ChunkNote, moved_from, moved, is_among, Taken, ChunkStanding, mark_of, left_of, with_left}
 
 -- the first standing stays where a later one changes
-pub with_left-later : (place : ℕ) (left : Option Left) (first : Mark) (standings : List Mark) → with_left (suc place) left (first ∷ standings) ≡ first ∷ with_left place left standings
+pub with_left-later : (place : ℕ) (left : Option Left) (first : ChunkNote) (standings : List ChunkNote) → with_left (suc place) left (first ∷ standings) ≡ first ∷ with_left place left standings
 with_left-later place left first standings = by (slice_get standings place)
   where
-    by : (found : Option Mark)
-        → option_map_or (λ (standing : Mark). first ∷ slice_set standings place (record standing { left = left })) found (first ∷ standings)
-        ≡ first ∷ option_map_or (λ (standing : Mark). slice_set standings place (record standing { left = left })) found standings
+    by : (found : Option ChunkNote)
+        → option_map_or (λ (standing : ChunkNote). first ∷ slice_set standings place (record standing { left = left })) found (first ∷ standings)
+        ≡ first ∷ option_map_or (λ (standing : ChunkNote). slice_set standings place (record standing { left = left })) found standings
     by None = refl
     by (Some standing) = refl
 

@@ -1,6 +1,6 @@
 -- What is kept when the first of the hand was offered, and when the pool answered, is what the model says then.
 use Rattle.std.proofs.Common.{◌≡◌, ◌≢◌, ℕ, ◌+◌, ◌<◌, suc, zero, eq-eqb, Bool, true, false, List, [], ◌∷◌, ◌++◌, length, map, Option, Some, None, slice_get, slice_set, refl, sym, ap, subst, ◌∙◌, arith}
-use Rattle.hs_agent.proofs.Prelude.{AllByRecursion, option_map_or, option_and_then, option_to_list, length-map, slice_get_within, Told, Step, Result, Ok, Err, IfOk, OnOk, IfSome, all_weaker, all_append, all_front, all_back, all_and, one_if, Buffer, buffer_of, buffer_in, Share, AgentState, Taken, count_of, IsInOnePlace, Given, note, step_of_answer, give_back, after_gave, Placed, place_of, placed_at, Kept, Holds, Point, IsKept, with_state, waiting_chunks, HasPage, AreLeft, Left, Mark, behind, unoffered, back_at, answered}
+use Rattle.hs_agent.proofs.Prelude.{AllByRecursion, option_map_or, option_and_then, option_to_list, length-map, slice_get_within, Told, Step, Result, Ok, Err, IfOk, OnOk, IfSome, all_weaker, all_append, all_front, all_back, all_and, one_if, Buffer, buffer_of, buffer_in, Share, AgentState, Taken, count_of, IsInOnePlace, Given, note, step_of_answer, give_back, after_gave, Placed, place_of, placed_at, Kept, Holds, Point, IsKept, with_state, waiting_chunks, HasPage, AreLeft, Left, ChunkNote, behind, unoffered, back_at, answered}
 use Rattle.std.proofs.lemmas.List.{length-set}
 use Rattle.std.specs.Prelude.{IfNone}
 use Rattle.hs_words.specs.declared.token.Held.{Held}
@@ -198,7 +198,7 @@ module _ {L : Type 0} where
     behind_it : AreLeft kept.standings (place ∷ map place_of kept.hand) kept.lefts
     behind_it = subst (λ o. AreLeft kept.standings (option_to_list o ++ map place_of kept.hand) kept.lefts) (h.offered ∙ out) h.lefts
 
-    others_left : (marks : List Mark) (p : ℕ) (places : List ℕ) (lefts : List Left) → AreLeft marks (p ∷ places) lefts → AreLeft marks places (behind lefts)
+    others_left : (marks : List ChunkNote) (p : ℕ) (places : List ℕ) (lefts : List Left) → AreLeft marks (p ∷ places) lefts → AreLeft marks places (behind lefts)
     others_left marks p places [] all = absurd all
     others_left marks p places (left ∷ lefts) all = all.2
 

@@ -1,6 +1,6 @@
 -- No two chunks that are kept have one place, and none has the place of the chunk that was offered.
 use Rattle.std.proofs.Common.{◌≡◌, ◌≢◌, ℕ, ◌+◌, ◌≤◌, ◌<◌, suc, zero, Bool, true, false, cond, ◌&&◌, List, [], ◌∷◌, ◌++◌, map, Option, Some, None, slice_get, find, nat_eq, eq-eqb, refl, sym, ap, ◌∙◌, arith, true≢false}
-use Rattle.hs_agent.proofs.Prelude.{AllByRecursion, option_map_or, option_to_list, ne_eqb, map-append, map-map, by_answer, all_weaker, one_if, TraceId, same_trace, Indexed, Noted, noted_of, is_of, nothing, chunks_left, Pin, Taken, trace_of, is_indexed, is_indexed_of, indexed_places, places_from, stands, count_of, IsInOnePlace, same_trace-true, same_trace-refl, Tagged, Placed, place_of, Kept, Holds, Point, AreApart, waiting_chunks, all_held}
+use Rattle.hs_agent.proofs.Prelude.{AllByRecursion, option_map_or, option_to_list, ne_eqb, map-append, map-map, by_answer, all_weaker, one_if, TraceId, same_trace, Indexed, PlainIndexedTrace, noted_of, is_of, nothing, chunks_left, Pin, Taken, trace_of, is_indexed, is_indexed_of, indexed_places, places_from, stands, count_of, IsInOnePlace, same_trace-true, same_trace-refl, Tagged, Placed, place_of, Kept, Holds, Point, AreApart, waiting_chunks, all_held}
 use Rattle.hs_law_agent.specs.Standings.{passes}
 use Rattle.hs_law_agent.proofs.Counts.{count-append}
 use Rattle.hs_agent.proofs.Indexing.{same_swap}
@@ -132,7 +132,7 @@ differ-none q (p ∷ ps) e = by_answer (nat_eq (place_of p) q)
 pub have_places : {L : Type 0} (kept : Kept L) (point : Point L) → Holds kept point → AllByRecursion (HasPlaces point.state.taken) kept.index.touched
 have_places {L} kept point h =
     all_weaker (λ (t : Traced L). noted_of t.trace kept.index.touched ≡ t.noted) (HasPlaces point.state.taken)
-    (λ t e. ap (λ (n : Noted (Tagged L)). map place_of n.chunks) (sym e) ∙ h.index.touched.places t.trace) kept.index.touched (each-noted kept.index.touched h.index.touched.apart)
+    (λ t e. ap (λ (n : PlainIndexedTrace (Tagged L)). map place_of n.chunks) (sym e) ∙ h.index.touched.places t.trace) kept.index.touched (each-noted kept.index.touched h.index.touched.apart)
 
 module _ {L : Type 0} (kept : Kept L) (point : Point L) (h : Holds kept point) (one : (place : ℕ) → IsInOnePlace point.state place) where
   -- each place stands once, the offered one too

@@ -1,6 +1,6 @@
 -- That of chunks that leave one after another what is noted last of each is why it left; and which of them were never offered.
 use Rattle.std.proofs.Common.{◌≡◌, ◌≢◌, ℕ, zero, suc, ◌<◌, Bool, true, false, ◌||◌, nat_eq, eq-eqb, List, [], ◌∷◌, ◌++◌, length, map, Option, Some, None, slice_get, slice_set, refl, sym, ap, subst, ◌∙◌, arith, true≢false, append-nil}
-use Rattle.hs_agent.proofs.Prelude.{AllByRecursion, option_map_or, option_and_then, option_to_list, append_assoc, map-append, map-map, length-append, all_append, all_weaker, Pin, is_among, Tagged, Placed, place_of, Left, Mark, AreLeft, left_at, with_left, Going, going_buffer, going_left, behind, unoffered}
+use Rattle.hs_agent.proofs.Prelude.{AllByRecursion, option_map_or, option_and_then, option_to_list, append_assoc, map-append, map-map, length-append, all_append, all_weaker, Pin, is_among, Tagged, Placed, place_of, Left, ChunkNote, AreLeft, left_at, with_left, Going, going_buffer, going_left, behind, unoffered}
 use Rattle.std.proofs.lemmas.List.{length-set}
 use Rattle.hs_lists.proofs.Places.{get_front_same}
 use Rattle.hs_agent.specs.Trying.{lefts_noted}
@@ -26,29 +26,29 @@ there (x ∷ xs) (suc i) within = there xs i (omega (arith, within))
 
 -- ---- a chunk that leaves
 
-module _ (place : ℕ) (left : Left) (marks : List Mark) where
-  abbrev pub left_now : List Mark
+module _ (place : ℕ) (left : Left) (marks : List ChunkNote) where
+  abbrev pub left_now : List ChunkNote
   left_now = with_left place (Some left) marks
 
   pub length-with : length left_now ≡ length marks
   length-with = by (slice_get marks place)
     where
-      by : (o : Option Mark) → length (option_map_or (λ (mark : Mark). slice_set marks place (record mark { left = Some left })) o marks) ≡ length marks
+      by : (o : Option ChunkNote) → length (option_map_or (λ (mark : ChunkNote). slice_set marks place (record mark { left = Some left })) o marks) ≡ length marks
       by None = refl
       by (Some mark) = length-set marks place (record mark { left = Some left })
 
   at-with : place < length marks → left_at left_now place ≡ Some left
   at-with within =
       let found = there marks place within in
-      ap (λ o. left_at (option_map_or (λ (mark : Mark). slice_set marks place (record mark { left = Some left })) o marks) place) found.1
-      ∙ ap (option_and_then (λ (mark : Mark). mark.left)) (get-there marks place (record found.0 { left = Some left }) found.0 found.1)
+      ap (λ o. left_at (option_map_or (λ (mark : ChunkNote). slice_set marks place (record mark { left = Some left })) o marks) place) found.1
+      ∙ ap (option_and_then (λ (mark : ChunkNote). mark.left)) (get-there marks place (record found.0 { left = Some left }) found.0 found.1)
 
   other-with : (other : ℕ) → place ≢ other → left_at left_now other ≡ left_at marks other
   other-with other apart = by (slice_get marks place)
     where
-      by : (o : Option Mark) → left_at (option_map_or (λ (mark : Mark). slice_set marks place (record mark { left = Some left })) o marks) other ≡ left_at marks other
+      by : (o : Option ChunkNote) → left_at (option_map_or (λ (mark : ChunkNote). slice_set marks place (record mark { left = Some left })) o marks) other ≡ left_at marks other
       by None = refl
-      by (Some mark) = ap (option_and_then (λ (m : Mark). m.left)) (get-apart marks place other (record mark { left = Some left }) apart)
+      by (Some mark) = ap (option_and_then (λ (m : ChunkNote). m.left)) (get-apart marks place other (record mark { left = Some left }) apart)
 
 among-more : (places : List ℕ) (q p : ℕ) → is_among (places ++ q ∷ []) p ≡ false → (is_among places p ≡ false) × (nat_eq q p ≡ false)
 among-more [] q p out = (refl, by (nat_eq q p) out)
@@ -69,7 +69,7 @@ never : (l : Left) (lefts : List Left) → l ∷ lefts ≡ [] → ⊥
 never l lefts h = cc
 
 -- one more leaves
-pub left-one : (place : ℕ) (left : Left) (marks : List Mark) → place < length marks → (places : List ℕ) (lefts : List Left) → AreLeft marks places lefts
+pub left-one : (place : ℕ) (left : Left) (marks : List ChunkNote) → place < length marks → (places : List ℕ) (lefts : List Left) → AreLeft marks places lefts
     → AreLeft (with_left place (Some left) marks) (places ++ place ∷ []) (lefts ++ left ∷ [])
 left-one place left marks within [] [] h = (let n = length-with place left marks in omega (arith, within, n), (λ out. at-with place left marks within), refl)
 left-one place left marks within [] (l ∷ lefts) h = absurd (never l lefts h)
@@ -81,12 +81,12 @@ left-one place left marks within (p ∷ places) (l ∷ lefts) h = (
 )
 
 -- one more is noted
-pub left-more : (marks : List Mark) (mark : Mark) (places : List ℕ) (lefts : List Left) → AreLeft marks places lefts → AreLeft (marks ++ mark ∷ []) places lefts
+pub left-more : (marks : List ChunkNote) (mark : ChunkNote) (places : List ℕ) (lefts : List Left) → AreLeft marks places lefts → AreLeft (marks ++ mark ∷ []) places lefts
 left-more marks mark [] lefts h = h
 left-more marks mark (p ∷ places) [] h = absurd h
 left-more marks mark (p ∷ places) (l ∷ lefts) h = (
   let n = length-append marks (mark ∷ []) in let below = h.0 in omega (arith, below, n),
-  (λ out. ap (option_and_then (λ (m : Mark). m.left)) (get_front_same marks (mark ∷ []) p h.0) ∙ h.1 out),
+  (λ out. ap (option_and_then (λ (m : ChunkNote). m.left)) (get_front_same marks (mark ∷ []) p h.0) ∙ h.1 out),
   left-more marks mark places lefts h.2,
 )
 
@@ -98,7 +98,7 @@ GoWithin {L} n goings = AllByRecursion (λ (going : Going L). place_of going.buf
 abbrev pub going_places : {L : Type 0} → List (Going L) → List ℕ
 going_places {L} goings = map (λ (going : Going L). place_of going.buffer) goings
 
-left-all : {L : Type 0} → (goings : List (Going L)) (marks : List Mark) (places : List ℕ) (lefts : List Left) → GoWithin (length marks) goings → AreLeft marks places lefts
+left-all : {L : Type 0} → (goings : List (Going L)) (marks : List ChunkNote) (places : List ℕ) (lefts : List Left) → GoWithin (length marks) goings → AreLeft marks places lefts
     → AreLeft (lefts_noted marks goings) (places ++ going_places goings) (lefts ++ map going_left goings)
 left-all [] marks places lefts within h = subst (λ ps. AreLeft marks ps (lefts ++ [])) (sym (append-nil places)) (subst (AreLeft marks places) (sym (append-nil lefts)) h)
 left-all (g ∷ goings) marks places lefts within h =
@@ -110,7 +110,7 @@ left-all (g ∷ goings) marks places lefts within h =
     (subst (λ ls. AreLeft (lefts_noted now goings) ((places ++ place_of g.buffer ∷ []) ++ going_places goings) ls) (append_assoc lefts (g.left ∷ []) (map going_left goings)) all)
 
 -- they stand last in the hand
-pub hand-left : {L : Type 0} → (marks : List Mark) (out : Option ℕ) (hand : List (Placed L)) (lefts : List Left) (goings : List (Going L)) → GoWithin (length marks) goings
+pub hand-left : {L : Type 0} → (marks : List ChunkNote) (out : Option ℕ) (hand : List (Placed L)) (lefts : List Left) (goings : List (Going L)) → GoWithin (length marks) goings
     → AreLeft marks (option_to_list out ++ map place_of hand) lefts
     → AreLeft (lefts_noted marks goings) (option_to_list out ++ map place_of (hand ++ map going_buffer goings)) (lefts ++ map going_left goings)
 hand-left marks out hand lefts goings within h =

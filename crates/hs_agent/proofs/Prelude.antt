@@ -9,10 +9,10 @@ pub use Rattle.hs_agent.specs.Parting.{Going, going_buffer, going_left, going_of
 pub use Rattle.hs_agent.specs.Placing.{place_of, Placed, placed_at, untagged}
 pub use Rattle.hs_agent.specs.Points.{chunk_taken, claimed_for, crumb_taken, sheet_in}
 pub use Rattle.hs_agent.specs.Reporting.{costs_of, id_of, SendsNext}
-pub use Rattle.hs_agent.specs.Runs.{after_offer, Follows, input_of, IsTakable, point_of, Run, StandsAt, state_of, taken_in}
+pub use Rattle.hs_agent.specs.Runs.{after_offer, Follows, input_of, IsTakable, point_of, AgentRun, StandsAt, state_of, taken_in}
 pub use Rattle.hs_agent.specs.declared.input.Input.{Input}
 pub use Rattle.hs_agent.specs.declared.hand.Left.{Left}
-pub use Rattle.hs_agent.specs.declared.hand.Mark.{Mark}
+pub use Rattle.hs_agent.specs.declared.hand.ChunkNote.{ChunkNote}
 pub use Rattle.hs_agent.specs.declared.hand.Out.{Out}
 pub use Rattle.hs_agent.specs.declared.placed.ArrivalPlace.{ArrivalPlace}
 pub use Rattle.hs_agent.specs.declared.placed.Tagged.{Tagged}
@@ -29,7 +29,7 @@ pub use Rattle.hs_base.specs.declared.told.Fate.{Fate}
 pub use Rattle.hs_base.specs.declared.told.Group.{Group}
 pub use Rattle.hs_base.specs.declared.told.Told.{Told}
 pub use Rattle.hs_base.specs.declared.told.Trigger.{Trigger}
-pub use Rattle.hs_index.specs.Index.{chunk_count, chunks_left, count_chunks, evicted, going, Index, Indexed, is_of, kept, Leaving, leaving_of, Noted, noted_of, nothing, others, settled, touch, with_chunk}
+pub use Rattle.hs_index.specs.Index.{chunk_count, chunks_left, count_chunks, evicted, going, Index, Indexed, is_of, kept, Leaving, leaving_of, PlainIndexedTrace, noted_of, nothing, others, settled, touch, with_chunk}
 pub use Rattle.hs_law_agent.proofs.Traces.{same_trace-refl, same_trace-true}
 pub use Rattle.hs_law_agent.specs.Abandoning.{abandon}
 pub use Rattle.hs_law_agent.specs.Books.{book_of, bytes_at, claim_note, fate_of, page_standing}

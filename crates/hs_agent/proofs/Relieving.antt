@@ -1,6 +1,6 @@
 -- What is kept after an abandonment is what the model says then.
 use Rattle.std.proofs.Common.{◌≡◌, ℕ, ◌<◌, Bool, true, false, cond, not, List, [], ◌∷◌, ◌++◌, length, map, fold, refl, sym, ap, subst, ◌∙◌, arith, append-nil, Some}
-use Rattle.hs_agent.proofs.Prelude.{AreLeft, unoffered, slice_get_within, length-map, going_buffer, going_left, filter_map, AllByRecursion, option_to_list, append_assoc, map-append, map-map, all_weaker, all_append, all_front, all_back, Group, Mark, Pin, pins_for, without_group, is_for, leaving, drops, relieved, Pinning, Remembers, staying_few, chunks_left, AgentState, mark_of, claim_note, bytes_at, has_crumb, Tagged, Placed, place_of, Kept, Holds, HasPage, IsKept, IsIndexed, RemembersAs, Point, with_state, pinned_place, waiting_chunks, all_held, Going, with_left, let_go, let_go_all, abandoned_going}
+use Rattle.hs_agent.proofs.Prelude.{AreLeft, unoffered, slice_get_within, length-map, going_buffer, going_left, filter_map, AllByRecursion, option_to_list, append_assoc, map-append, map-map, all_weaker, all_append, all_front, all_back, Group, ChunkNote, Pin, pins_for, without_group, is_for, leaving, drops, relieved, Pinning, Remembers, staying_few, chunks_left, AgentState, mark_of, claim_note, bytes_at, has_crumb, Tagged, Placed, place_of, Kept, Holds, HasPage, IsKept, IsIndexed, RemembersAs, Point, with_state, pinned_place, waiting_chunks, all_held, Going, with_left, let_go, let_go_all, abandoned_going}
 use Rattle.hs_pins.specs.Abandoning.{staying, going}
 use Rattle.hs_law_agent.specs.Abandoning as model
 use Rattle.hs_agent.proofs.GivingWay.{HasAbandoned, same_go, note_abandoned}
@@ -9,7 +9,7 @@ use Rattle.hs_agent.proofs.Moved.{length-same, pages-same, has_page-same}
 
 -- ---- what is let go, all at once
 
-abbrev note_going : {L : Type 0} → List Mark → Going L → List Mark
+abbrev note_going : {L : Type 0} → List ChunkNote → Going L → List ChunkNote
 note_going standings g = with_left (place_of g.buffer) (Some g.left) standings
 
 -- the fates are noted, the chunks stand last in the hand, and nothing else changes
@@ -23,7 +23,7 @@ let_go_all-is kept (g ∷ goings) =
       lefts = append_assoc kept.lefts (g.left ∷ []) (map going_left goings) i;
     })
 
-pub fold-goings : {L : Type 0} → {A : Type 0} (f : A → Going L) (standings : List Mark) (items : List A) → fold note_going standings (map f items) ≡ fold (λ ss item. note_going ss (f item)) standings items
+pub fold-goings : {L : Type 0} → {A : Type 0} (f : A → Going L) (standings : List ChunkNote) (items : List A) → fold note_going standings (map f items) ≡ fold (λ ss item. note_going ss (f item)) standings items
 fold-goings f standings [] = refl
 fold-goings f standings (item ∷ items) = fold-goings f (note_going standings (f item)) items
 

@@ -1,6 +1,6 @@
 -- What is kept while a turn sends: the model has reported what was sent so far.
 use Rattle.std.proofs.Common.{◌≡◌, ℕ, ◌≤◌, zero, suc, false, not, List, [], ◌∷◌, ◌++◌, length, map, filter, fold, take, Option, Some, None, slice_get, refl, sym, ap, subst, ◌∙◌, arith, append-nil}
-use Rattle.hs_agent.proofs.Prelude.{reported_for, flat_map, ◌≢◌, AllByRecursion, option_map_or, option_and_then, append_assoc, map-append, length-append, fold-append, all_weaker, all_append, all_front, all_back, all_map, all_unmap, all_and, TraceId, Mark, used_in, used_of, chunks_left, Pin, Remembered, Remembers, waiting, used_bytes, Share, SendsEach, Taken, ChunkStanding, Pinned, Reported, Evicted, Abandoned, indexed_places, indexed_count, pinned_for, pinning_group, is_among, moved, AgentState, mark_of, reported_standing, visit, report, Tagged, Placed, place_of, Kept, Point, Holds, IsKept, HasPage, pinned_place, waiting_chunks, with_left, SendsNext, costs_of, id_of}
+use Rattle.hs_agent.proofs.Prelude.{reported_for, flat_map, ◌≢◌, AllByRecursion, option_map_or, option_and_then, append_assoc, map-append, length-append, fold-append, all_weaker, all_append, all_front, all_back, all_map, all_unmap, all_and, TraceId, ChunkNote, used_in, used_of, chunks_left, Pin, Remembered, Remembers, waiting, used_bytes, Share, SendsEach, Taken, ChunkStanding, Pinned, Reported, Evicted, Abandoned, indexed_places, indexed_count, pinned_for, pinning_group, is_among, moved, AgentState, mark_of, reported_standing, visit, report, Tagged, Placed, place_of, Kept, Point, Holds, IsKept, HasPage, pinned_place, waiting_chunks, with_left, SendsNext, costs_of, id_of}
 use Rattle.std.specs.Prelude.{replicate}
 use Rattle.hs_pins.specs.Waiting.{taken}
 use Rattle.hs_pins.specs.Waiting as pins
@@ -19,7 +19,7 @@ abbrev pub chunk_of : {L : Type 0} → Pin (Tagged L) → Placed L
 chunk_of pin = pin.chunk
 
 -- the fate of a chunk that was sent is noted
-abbrev pub note_reported : {L : Type 0} → List Mark → Pin (Tagged L) → List Mark
+abbrev pub note_reported : {L : Type 0} → List ChunkNote → Pin (Tagged L) → List ChunkNote
 note_reported standings pin = with_left (pinned_place pin) (Some (reported_for pin.group)) standings
 
 -- sends, and then others

@@ -7,7 +7,7 @@ use Rattle.hs_law_agent.specs.Standings.{sample_sheet}
 use Rattle.hs_law_agent.specs.Stepping.{Chunk, Triggered, Turn, Given, Missed, Unread}
 use Rattle.hs_law_agent.specs.Samples.{settings_with, group}
 use Rattle.hs_agent.specs.Points.{buffers_left}
-use Rattle.hs_agent.specs.Runs.{Run, new_run, point_of, offered_next}
+use Rattle.hs_agent.specs.Runs.{AgentRun, new_run, point_of, offered_next}
 use Rattle.hs_agent.specs.Calls.{Call, Takes, Offers, Answers, run_after, told_from}
 
 -- the buffer of this number with client 0's page of this number, of the trace 1
@@ -22,7 +22,7 @@ abbrev comes : (number lease : ℕ) → Call ℕ
 comes number lease = Takes (Chunk 0 (sample_sheet 0 0 1 number)) (page_in number lease ∷ [])
 
 -- no chunk may stay indexed, so that each goes at once
-abbrev run : List (Call ℕ) → Run ℕ
+abbrev run : List (Call ℕ) → AgentRun ℕ
 run calls = run_after (settings_with 0 8 4 one_rule) 0 calls
 
 -- the first of the hand is offered, with the lease with which it came

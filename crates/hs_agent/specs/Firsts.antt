@@ -6,13 +6,13 @@ use Rattle.hs_law_agent.specs.Standings.{ChunkStanding, Taken}
 use Rattle.hs_law_agent.specs.State.{AgentState}
 use Rattle.hs_agent.specs.declared.hand.Left.{Left}
 use Rattle.hs_agent.specs.Leaving.{standing_of, came_back}
-use Rattle.hs_agent.specs.Runs.{Run, state_of, first_place}
+use Rattle.hs_agent.specs.Runs.{AgentRun, state_of, first_place}
 
 -- how the chunk at a place stands
 abbrev pub standing_at : AgentState → ℕ → Option ChunkStanding
 standing_at state place = option_map (λ (chunk : Taken). chunk.standing) (slice_get state.taken place)
 
-pub record IsFirst {L : Type 0} (run : Run L) (chunk : Contents) (lease : L) (left : Left) (again : Bool) : Type 0 where
+pub record IsFirst {L : Type 0} (run : AgentRun L) (chunk : Contents) (lease : L) (left : Left) (again : Bool) : Type 0 where
   pub place : ℕ
   pub first : first_place (state_of run) ≡ Some place
   -- it is as it came last

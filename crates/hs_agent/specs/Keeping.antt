@@ -23,7 +23,7 @@ use Rattle.hs_law_agent.specs.Messages.{has_crumb}
 use Rattle.hs_law_agent.specs.Books.{claim_note, bytes_at}
 use Rattle.hs_agent.specs.declared.placed.Tagged.{Tagged}
 use Rattle.hs_agent.specs.declared.hand.Left.{Left}
-use Rattle.hs_agent.specs.declared.hand.Mark.{Mark}
+use Rattle.hs_agent.specs.declared.hand.ChunkNote.{ChunkNote}
 use Rattle.hs_agent.specs.Placing.{Placed, place_of, untagged}
 use Rattle.hs_agent.specs.Leaving.{mark_of, AreLeft}
 
@@ -42,7 +42,7 @@ pub record Kept (L : Type 0) : Type 0 where
   -- whether the first of the hand was offered before, and came back
   pub again : Bool
   -- what was noted, and whether it can be had at the end
-  pub standings : List Mark
+  pub standings : List ChunkNote
   pub claims : List noted.Claim
   pub pages : List (List ℕ)
   pub keeps : Bool

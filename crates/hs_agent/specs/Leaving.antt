@@ -13,7 +13,7 @@ use Rattle.hs_law_agent.specs.Standings.{ChunkStanding, Taken, is_among, sample_
 use Rattle.hs_law_agent.specs.Standings as standings
 use Rattle.hs_agent.specs.declared.hand.Left.{Left}
 use Rattle.hs_agent.specs.declared.hand.Left.TheVariants.{Reported, Evicted, Abandoned}
-use Rattle.hs_agent.specs.declared.hand.Mark.{Mark}
+use Rattle.hs_agent.specs.declared.hand.ChunkNote.{ChunkNote}
 
 abbrev pub reported_for : Group → Left
 reported_for group = Reported group
@@ -47,27 +47,27 @@ fate_by (Some (Evicted chunks traces)) = fates.Evicted chunks traces
 fate_by (Some (Abandoned group)) = fates.Abandoned group.trigger group.lead (trace_rank group.lead)
 
 -- what is noted of a chunk
-abbrev pub mark_of : Taken → Mark
+abbrev pub mark_of : Taken → ChunkNote
 mark_of chunk = record { client = chunk.sheet.header.client; page = chunk.sheet.header.page; left = left_of chunk.standing }
 
 -- what stands in a book of it
-abbrev pub standing_by : Mark → Standing
+abbrev pub standing_by : ChunkNote → Standing
 standing_by mark = record { client = mark.client; page = mark.page; fate = fate_by mark.left }
 
 -- the notes where the chunk at the place left so
-abbrev pub with_left : ℕ → Option Left → List Mark → List Mark
-with_left place left marks = option_map_or (λ (mark : Mark). slice_set marks place (record mark { left = left })) (slice_get marks place) marks
+abbrev pub with_left : ℕ → Option Left → List ChunkNote → List ChunkNote
+with_left place left marks = option_map_or (λ (mark : ChunkNote). slice_set marks place (record mark { left = left })) (slice_get marks place) marks
 
 -- the standings where the one at the place has this fate
 abbrev pub with_fate : ℕ → Fate → List Standing → List Standing
 with_fate place fate standings = option_map_or (λ (standing : Standing). slice_set standings place (record standing { fate = fate })) (slice_get standings place) standings
 
 -- why the chunk at a place left, as it is noted
-abbrev pub left_at : List Mark → ℕ → Option Left
-left_at marks place = option_and_then (λ (mark : Mark). mark.left) (slice_get marks place)
+abbrev pub left_at : List ChunkNote → ℕ → Option Left
+left_at marks place = option_and_then (λ (mark : ChunkNote). mark.left) (slice_get marks place)
 
 -- The chunks at these places left so, one after another: what is noted of each is why it left last.
-abbrev pub AreLeft : List Mark → List ℕ → List Left → Type 0
+abbrev pub AreLeft : List ChunkNote → List ℕ → List Left → Type 0
 AreLeft marks [] lefts = lefts ≡ []
 AreLeft marks (place ∷ places) [] = ⊥
 AreLeft marks (place ∷ places) (left ∷ lefts) = (place < length marks) × (is_among places place ≡ false → left_at marks place ≡ Some left) × AreLeft marks places lefts
@@ -94,7 +94,7 @@ came_back log = fold back_after false log
 a_miss_comes_back : (came_back (steps.Chunk 0 ∷ steps.Missed 3 ∷ steps.Turn ∷ []) ≡ true) × (came_back (steps.Missed 3 ∷ steps.Given 4 ∷ steps.Turn ∷ []) ≡ false)
 a_miss_comes_back = (refl, refl)
 
-abbrev marks : List Mark
+abbrev marks : List ChunkNote
 marks = record { client = record { node = 0; number = 0 }; page = 5; left = None } ∷ record { client = record { node = 0; number = 1 }; page = 6; left = None } ∷ []
 
 the_second_left : with_left 1 (Some (Reported (sample_group 7))) marks

@@ -10,27 +10,27 @@ use Rattle.hs_records.specs.declared.books.Claim.{Claim}
 use Rattle.hs_words.specs.Chunks.{Contents}
 use Rattle.hs_words.specs.Pages.{page_bytes}
 use Rattle.hs_agent.specs.declared.hand.Leave.{Leave}
-use Rattle.hs_agent.specs.declared.hand.Mark.{Mark}
+use Rattle.hs_agent.specs.declared.hand.ChunkNote.{ChunkNote}
 use Rattle.hs_agent.specs.Leaving.{with_left, standing_by}
 
 -- ---- chunks
 
 -- the notes go on by a chunk that leaves
-abbrev pub marks_after : List Mark → Leave → List Mark
+abbrev pub marks_after : List ChunkNote → Leave → List ChunkNote
 marks_after marks leave = with_left leave.place.0 (Some leave.left) marks
 
 -- what is kept are the standings of what was noted
-abbrev pub AreMarks : List Mark → Option (Listing Standing) → Type 0
+abbrev pub AreMarks : List ChunkNote → Option (Listing Standing) → Type 0
 AreMarks marks kept = MatchOption kept (Unit {0}) (λ list. list.items ≡ map standing_by marks)
 
 -- what is kept goes on so
 abbrev pub LeavesMarks : Leave → Option (Listing Standing) → Option (Listing Standing) → Type 0
-LeavesMarks leave old new = (marks : List Mark) → AreMarks marks old → AreMarks (marks_after marks leave) new
+LeavesMarks leave old new = (marks : List ChunkNote) → AreMarks marks old → AreMarks (marks_after marks leave) new
 
 abbrev pub are_kept : Option (Listing Standing) → Bool
 are_kept kept = option_map_or (λ list. true) kept false
 
-abbrev pub marked : List Mark → Option (Listing Standing) → Noted Mark
+abbrev pub marked : List ChunkNote → Option (Listing Standing) → Noted ChunkNote
 marked marks kept = record { items = marks; keeps = are_kept kept; room = option_map_or (λ list. list.room) kept 0 }
 
 -- ---- pages

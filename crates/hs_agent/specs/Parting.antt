@@ -3,7 +3,7 @@ use Rattle.std.specs.Prelude.{List, map}
 use Rattle.hs_words.specs.Buffers.{buffer_of}
 use Rattle.hs_agent.specs.declared.hand.Left.{Left}
 use Rattle.hs_agent.specs.declared.hand.Parting.{Parting}
-use Rattle.hs_agent.specs.declared.hand.Sent.{Sent}
+use Rattle.hs_agent.specs.declared.hand.SentChunk.{SentChunk}
 use Rattle.hs_agent.specs.declared.placed.Tagged.{Tagged}
 use Rattle.hs_pins.specs.Remembered.{Pin}
 use Rattle.hs_agent.specs.Placing.{Placed, placed_at}
@@ -27,5 +27,5 @@ abbrev pub hand_of : {L : Type 0} {g : _} → List (Parting L g) → List (Place
 hand_of partings = map going_buffer (map going_of partings)
 
 -- a chunk that a turn sent, as it was pinned
-abbrev pub sent_pin : {L : Type 0} {g : _} → Sent L g → Pin (Tagged L)
+abbrev pub sent_pin : {L : Type 0} {g : _} → SentChunk L g → Pin (Tagged L)
 sent_pin sent = record { group = sent.group; chunk = placed_at sent.place.0 (buffer_of sent.held) }

@@ -23,7 +23,7 @@ use Rattle.hs_agent.specs.Leaving.{came_back}
 use Rattle.hs_agent.specs.Keeping.{Kept, PlainAgent, Point, Holds}
 use Rattle.hs_agent.specs.Points.{sheet_in}
 
-pub record Run (L : Type 0) : Type 0 where
+pub record AgentRun (L : Type 0) : Type 0 where
   pub settings : PlainSettings
   pub node : ℕ
   -- where the events begin
@@ -36,15 +36,15 @@ pub record Run (L : Type 0) : Type 0 where
   pub keeps : Bool
 
 -- what the model comes to
-abbrev pub state_of : {L : Type 0} → Run L → AgentState
+abbrev pub state_of : {L : Type 0} → AgentRun L → AgentState
 state_of run = after_from run.settings run.node run.start run.events
 
 -- an agent at its beginning
-abbrev pub new_run : {L : Type 0} → PlainSettings → ℕ → Run L
+abbrev pub new_run : {L : Type 0} → PlainSettings → ℕ → AgentRun L
 new_run settings node = record { settings = settings; node = node; start = start settings; events = []; buffers = []; offered = None; keeps = true }
 
 -- one that keeps no journal
-abbrev pub bare_run : {L : Type 0} → PlainSettings → ℕ → Run L
+abbrev pub bare_run : {L : Type 0} → PlainSettings → ℕ → AgentRun L
 bare_run settings node = record (new_run settings node) { keeps = false }
 
 -- the place of the first of the hand
@@ -52,7 +52,7 @@ abbrev pub first_place : AgentState → Option ℕ
 first_place state = slice_get state.hand 0
 
 -- where the run has come to
-abbrev pub point_of : {L : Type 0} → Run L → Point L
+abbrev pub point_of : {L : Type 0} → AgentRun L → Point L
 point_of run = record { settings = run.settings; node = run.node; state = state_of run; buffers = run.buffers; offered = run.offered; again = came_back (state_of run).log; keeps = run.keeps }
 
 -- the shares of the trigger ids, and the page size
@@ -67,7 +67,7 @@ pub record StandsAt {L : Type 0} (kept : Kept L) (schedule : Schedule) (point : 
   pub nodes : point.settings.nodes ≤ MOST_NODES
 
 -- the log, where it is kept
-abbrev pub log_of : {L : Type 0} → Run L → List Step
+abbrev pub log_of : {L : Type 0} → AgentRun L → List Step
 log_of run = if run.keeps then (state_of run).log else []
 
 -- a log with a step more, where it is kept
@@ -75,7 +75,7 @@ abbrev pub logged : Bool → List Step → Step → List Step
 logged keeps log step = if keeps then log ++ step ∷ [] else log
 
 -- Memory never failed the agent, and what it keeps is what this run says.
-pub record Follows {L : Type 0} (agent : PlainAgent L) (run : Run L) : Type 0 where
+pub record Follows {L : Type 0} (agent : PlainAgent L) (run : AgentRun L) : Type 0 where
   pub working : agent.spent ≡ false
   pub stands : StandsAt agent.kept agent.schedule (point_of run)
   pub keeps : agent.keeps ≡ run.keeps
@@ -83,15 +83,15 @@ pub record Follows {L : Type 0} (agent : PlainAgent L) (run : Run L) : Type 0 wh
   pub good : PlacesMatch run.start
 
 -- the run that begins where the group was forgotten
-abbrev pub forgetting : {L : Type 0} → Group → Run L → Run L
+abbrev pub forgetting : {L : Type 0} → Group → AgentRun L → AgentRun L
 forgetting group run = record run { start = forget_group group (state_of run); events = [] }
 
 abbrev pub IsSpent : {L : Type 0} → PlainAgent L → Type 0
 IsSpent agent = agent.spent ≡ true
 
 -- Memory failed the agent, or it follows some run of which this holds.
-abbrev pub Knows : {L : Type 0} → PlainAgent L → (Run L → Type 0) → Type 0
-Knows {L} agent fact = agent.spent ≡ false → (run : Run L) × Follows agent run × fact run
+abbrev pub Knows : {L : Type 0} → PlainAgent L → (AgentRun L → Type 0) → Type 0
+Knows {L} agent fact = agent.spent ≡ false → (run : AgentRun L) × Follows agent run × fact run
 
 -- ---- inputs
 
@@ -129,27 +129,27 @@ abbrev pub taken_in : {L : Type 0} {g : _} → Input L g → Point L → Point L
 taken_in input point = record point { state = take_input point.settings point.node point.state (input_of input); buffers = point.buffers ++ buffers_in input }
 
 -- the run after an input
-abbrev pub after_input : {L : Type 0} {g : _} → Run L → Input L g → Run L
+abbrev pub after_input : {L : Type 0} {g : _} → AgentRun L → Input L g → AgentRun L
 after_input run input = record run { events = run.events ++ Took (input_of input) ∷ []; buffers = run.buffers ++ buffers_in input }
 
 -- the run after a chunk of a client, and after a turn
-abbrev pub after_chunk : {L : Type 0} → Run L → ℕ → Buffer L → Run L
+abbrev pub after_chunk : {L : Type 0} → AgentRun L → ℕ → Buffer L → AgentRun L
 after_chunk run client buffer = record run { events = run.events ++ Took (model.Chunk client (sheet_in buffer)) ∷ []; buffers = run.buffers ++ buffer ∷ [] }
 
-abbrev pub after_turn : {L : Type 0} → Run L → Run L
+abbrev pub after_turn : {L : Type 0} → AgentRun L → AgentRun L
 after_turn run = record run { events = run.events ++ Took model.Turn ∷ [] }
 
 -- what an input makes the agent tell
-abbrev pub told_in : {L : Type 0} {g : _} → Run L → Input L g → Option Told
+abbrev pub told_in : {L : Type 0} {g : _} → AgentRun L → Input L g → Option Told
 told_in run input = told_by run.settings run.node (state_of run) (input_of input)
 
 -- ---- offers
 
 -- the chunk that is offered next, as it came last
-abbrev pub offered_next : {L : Type 0} → Run L → Option (Buffer L)
+abbrev pub offered_next : {L : Type 0} → AgentRun L → Option (Buffer L)
 offered_next run = option_and_then (λ place. slice_get run.buffers place) (first_place (state_of run))
 
-abbrev pub after_offer : {L : Type 0} → Run L → Run L
+abbrev pub after_offer : {L : Type 0} → AgentRun L → AgentRun L
 after_offer run = record run { offered = first_place (state_of run) }
 
 abbrev pub answer_of : {L : Type 0} {g : _} → Given L g → Answered
@@ -164,9 +164,9 @@ back_in (given.Missed held stamp) = Some (buffer_of held)
 back_in (given.Unread held) = Some (buffer_of held)
 
 -- with a chunk that came back, in place of the one that was offered
-abbrev pub with_back : {L : Type 0} → Run L → Option (Buffer L) → List (Buffer L)
+abbrev pub with_back : {L : Type 0} → AgentRun L → Option (Buffer L) → List (Buffer L)
 with_back run back = option_map_or (λ buffer. option_map_or (λ place. slice_set run.buffers place buffer) run.offered run.buffers) back run.buffers
 
 -- the run after the pool's answer
-abbrev pub after_answer : {L : Type 0} {g : _} → Run L → Given L g → Run L
+abbrev pub after_answer : {L : Type 0} {g : _} → AgentRun L → Given L g → AgentRun L
 after_answer run answer = record run { events = run.events ++ Gave (answer_of answer) ∷ []; buffers = with_back run (back_in answer); offered = None }

@@ -11,7 +11,7 @@ ghost use Rattle.hs_law_agent.specs.Laws.{PlacesMatch};
 ghost use Rattle.hs_law_agent.specs.Stepping.{step_of, step_of_answer, told_by};
 ghost use Rattle.hs_law_agent.specs.Turning as model;
 ghost use Rattle.hs_agent.specs.Keeping.{Point, Holds, HoldsThat, with_state};
-ghost use Rattle.hs_agent.specs.Runs.{Run, point_of, state_of, new_run, bare_run, StandsAt, Follows, Knows, IsSpent, IsTakable, input_of, taken_in, after_input, after_chunk, after_turn, told_in, IsChunkFor, offered_next, after_offer, answer_of, back_in, after_answer, forgetting, logged};
+ghost use Rattle.hs_agent.specs.Runs.{AgentRun, point_of, state_of, new_run, bare_run, StandsAt, Follows, Knows, IsSpent, IsTakable, input_of, taken_in, after_input, after_chunk, after_turn, told_in, IsChunkFor, offered_next, after_offer, answer_of, back_in, after_answer, forgetting, logged};
 ghost use Rattle.hs_agent.specs.Points.{book_kept, buffers_left};
 ghost use Rattle.hs_agent.specs.Firsts.{IsFirst};
 
@@ -102,8 +102,8 @@ impl<L: Token> Agent<L> {
     /// Takes an input, and notes one step in the log. Answers what is to be told to the coordinator, if anything.
     pub fn step(&mut self, input: Input<L>) -> Result<Option<Told>, Memory>
         requires { Knows self.old (λ run. IsTakable (point_of run) input) }
-        ensures told { (run : Run L) → Follows self.old run → IfOk result (λ told. told ≡ told_in run input) }
-        ensures after { (run : Run L) → Follows self.old run → OnOk result (Follows self.new (after_input run input)) }
+        ensures told { (run : AgentRun L) → Follows self.old run → IfOk result (λ told. told ≡ told_in run input) }
+        ensures after { (run : AgentRun L) → Follows self.old run → OnOk result (Follows self.new (after_input run input)) }
         ensures spent { OnErr result (IsSpent self.new) }
         ensures stays { IsSpent self.old → IsErr result }
     {
@@ -121,9 +121,9 @@ impl<L: Token> Agent<L> {
 
     /// Takes an input where memory was never wanting.
     fn take(&mut self, input: Input<L>) -> Result<Option<Told>, Memory>
-        requires { (run : Run L) × Follows self.old run × IsTakable (point_of run) input }
-        ensures told { (run : Run L) → Follows self.old run → IfOk result (λ told. told ≡ told_in run input) }
-        ensures after { (run : Run L) → Follows self.old run → OnOk result (Follows self.new (after_input run input)) }
+        requires { (run : AgentRun L) × Follows self.old run × IsTakable (point_of run) input }
+        ensures told { (run : AgentRun L) → Follows self.old run → IfOk result (λ told. told ≡ told_in run input) }
+        ensures after { (run : AgentRun L) → Follows self.old run → OnOk result (Follows self.new (after_input run input)) }
     {
         events_lead_on();
         lists_go_on();
@@ -137,7 +137,7 @@ impl<L: Token> Agent<L> {
     /// Takes a chunk of a client, and notes one step in the log, as `step` does of this input. Nothing is told of it.
     pub fn take_chunk(&mut self, client: u16, held: Held<L>) -> Result<(), Memory>
         requires { Knows self.old (λ run. IsChunkFor run.settings run.node client (buffer_of held)) }
-        ensures after { (run : Run L) → Follows self.old run → OnOk result (Follows self.new (after_chunk run client (buffer_of held))) }
+        ensures after { (run : AgentRun L) → Follows self.old run → OnOk result (Follows self.new (after_chunk run client (buffer_of held))) }
         ensures spent { OnErr result (IsSpent self.new) }
         ensures stays { IsSpent self.old → IsErr result }
     {
@@ -153,7 +153,7 @@ impl<L: Token> Agent<L> {
     /// Makes a fair turn, and notes one step in the log, as `step` does of this input. Nothing is told of it.
     pub fn turn(&mut self) -> Result<(), Memory>
         requires { Knows self.old (λ run. Unit {0}) }
-        ensures after { (run : Run L) → Follows self.old run → OnOk result (Follows self.new (after_turn run)) }
+        ensures after { (run : AgentRun L) → Follows self.old run → OnOk result (Follows self.new (after_turn run)) }
         ensures spent { OnErr result (IsSpent self.new) }
         ensures stays { IsSpent self.old → IsErr result }
     {
@@ -171,8 +171,8 @@ impl<L: Token> Agent<L> {
 
     /// Makes a fair turn where memory was never wanting.
     fn note_turn(&mut self) -> Result<(), Memory>
-        requires { (run : Run L) × Follows self.old run }
-        ensures { (run : Run L) → Follows self.old run → OnOk result (Follows self.new (after_turn run)) }
+        requires { (run : AgentRun L) × Follows self.old run }
+        ensures { (run : AgentRun L) → Follows self.old run → OnOk result (Follows self.new (after_turn run)) }
     {
         events_lead_on();
         lists_go_on();
@@ -185,9 +185,9 @@ impl<L: Token> Agent<L> {
     /// The first of the hand, to be offered to the pool, or `None` where the hand is empty. `gave` takes the pool's answer.
     pub fn offer(&mut self) -> Result<Option<Held<L>>, Memory>
         requires { Knows self.old (λ run. run.offered ≡ None) }
-        ensures first { (run : Run L) → Follows self.old run → IfOk result (λ first. buffer_in first ≡ offered_next run) }
-        ensures empty { (run : Run L) → Follows self.old run → IfOk result (λ first. IfNone first ((state_of run).hand ≡ [])) }
-        ensures after { (run : Run L) → Follows self.old run → OnOk result (Follows self.new (after_offer run)) }
+        ensures first { (run : AgentRun L) → Follows self.old run → IfOk result (λ first. buffer_in first ≡ offered_next run) }
+        ensures empty { (run : AgentRun L) → Follows self.old run → IfOk result (λ first. IfNone first ((state_of run).hand ≡ [])) }
+        ensures after { (run : AgentRun L) → Follows self.old run → OnOk result (Follows self.new (after_offer run)) }
         ensures spent { OnErr result (IsSpent self.new) }
         ensures stays { IsSpent self.old → IsErr result }
     {
@@ -205,10 +205,10 @@ impl<L: Token> Agent<L> {
 
     /// The first of the hand where memory was never wanting, with room to note the answer.
     fn take_first(&mut self) -> Result<Option<Held<L>>, Memory>
-        requires { (run : Run L) × Follows self.old run × (run.offered ≡ None) }
-        ensures first { (run : Run L) → Follows self.old run → IfOk result (λ first. buffer_in first ≡ offered_next run) }
-        ensures empty { (run : Run L) → Follows self.old run → IfOk result (λ first. IfNone first ((state_of run).hand ≡ [])) }
-        ensures after { (run : Run L) → Follows self.old run → OnOk result (Follows self.new (after_offer run)) }
+        requires { (run : AgentRun L) × Follows self.old run × (run.offered ≡ None) }
+        ensures first { (run : AgentRun L) → Follows self.old run → IfOk result (λ first. buffer_in first ≡ offered_next run) }
+        ensures empty { (run : AgentRun L) → Follows self.old run → IfOk result (λ first. IfNone first ((state_of run).hand ≡ [])) }
+        ensures after { (run : AgentRun L) → Follows self.old run → OnOk result (Follows self.new (after_offer run)) }
     {
         lists_go_on();
         room_for(&mut self.log, self.keeps, 1)?;
@@ -219,7 +219,7 @@ impl<L: Token> Agent<L> {
     /// is first in the hand again, with the lease with which it came. Takes no memory.
     pub fn gave(&mut self, given: Given<L>)
         requires { Knows self.old (λ run. IsSome run.offered) }
-        ensures after { (run : Run L) → Follows self.old run → Follows self.new (after_answer run given) }
+        ensures after { (run : AgentRun L) → Follows self.old run → Follows self.new (after_answer run given) }
         ensures spent { self.new.spent ≡ self.old.spent }
         ensures idle { IsSpent self.old → self.new ≡ self.old }
     {
@@ -236,8 +236,8 @@ impl<L: Token> Agent<L> {
     /// Forgets a group for which nothing is pinned: its claims, their crumbs, and that it was abandoned. Answers whether it
     /// did; a spent agent forgets none. The run begins anew there. It takes no memory.
     pub fn forget(&mut self, group: Group) -> bool
-        ensures settled { (run : Run L) → Follows self.old run → result ≡ is_settled group (state_of run) }
-        ensures after { (run : Run L) → Follows self.old run → result ≡ true → Follows self.new (forgetting group run) }
+        ensures settled { (run : AgentRun L) → Follows self.old run → result ≡ is_settled group (state_of run) }
+        ensures after { (run : AgentRun L) → Follows self.old run → result ≡ true → Follows self.new (forgetting group run) }
         ensures same { result ≡ false → self.new ≡ self.old }
         ensures spent { self.new.spent ≡ self.old.spent }
         ensures idle { IsSpent self.old → self.new ≡ self.old }
@@ -254,9 +254,9 @@ impl<L: Token> Agent<L> {
     /// it was offered before. `None` where the hand is empty, or the agent is spent. It takes no memory.
     pub fn first(&self) -> Option<First<'_, L>>
         requires { Knows self.now (λ run. run.offered ≡ None) }
-        ensures first { (run : Run L) → Follows self.now run → run.offered ≡ None
+        ensures first { (run : AgentRun L) → Follows self.now run → run.offered ≡ None
             → IfSome result (λ first. IsFirst run first.chunk.now first.lease.now first.left first.again) }
-        ensures empty { (run : Run L) → Follows self.now run → run.offered ≡ None → IfNone result ((state_of run).hand ≡ []) }
+        ensures empty { (run : AgentRun L) → Follows self.now run → run.offered ≡ None → IfNone result ((state_of run).hand ≡ []) }
         ensures idle { IsSpent self.now → IsNone result }
     {
         if self.spent {
@@ -268,7 +268,7 @@ impl<L: Token> Agent<L> {
 
     /// How many triggers were admitted.
     pub fn admitted(&self) -> u32
-        ensures { (run : Run L) → Follows self.now run → result ≡ (state_of run).admitted }
+        ensures { (run : AgentRun L) → Follows self.now run → result ≡ (state_of run).admitted }
     {
         self.holdings.admitted()
     }
@@ -283,14 +283,14 @@ impl<L: Token> Agent<L> {
 
     /// How many chunks are pinned.
     pub fn pinned(&self) -> u32
-        ensures { (run : Run L) → Follows self.now run → result ≡ length (state_of run).pinned }
+        ensures { (run : AgentRun L) → Follows self.now run → result ≡ length (state_of run).pinned }
     {
         self.holdings.pinned()
     }
 
     /// How many chunks are in the hand, while none is offered.
     pub fn in_hand(&self) -> usize
-        ensures { (run : Run L) → Follows self.now run → run.offered ≡ None → result ≡ length (state_of run).hand }
+        ensures { (run : AgentRun L) → Follows self.now run → run.offered ≡ None → result ≡ length (state_of run).hand }
     {
         self.holdings.in_hand()
     }
@@ -299,8 +299,8 @@ impl<L: Token> Agent<L> {
     /// memory once has neither.
     pub fn finish(self) -> Result<Finished<L>, Memory>
         requires { Knows self (λ run. ((state_of run).pinned ≡ []) × (run.offered ≡ None)) }
-        ensures book { (run : Run L) → Follows self run → IfOk result (λ finished. agent_book_of finished.book ≡ book_kept run.keeps run.node (state_of run)) }
-        ensures rest { (run : Run L) → Follows self run → IfOk result (λ finished. map buffer_of finished.rest.items ≡ buffers_left (point_of run)) }
+        ensures book { (run : AgentRun L) → Follows self run → IfOk result (λ finished. agent_book_of finished.book ≡ book_kept run.keeps run.node (state_of run)) }
+        ensures rest { (run : AgentRun L) → Follows self run → IfOk result (λ finished. map buffer_of finished.rest.items ≡ buffers_left (point_of run)) }
         ensures stays { IsSpent self → IsErr result }
     {
         lists_go_on();

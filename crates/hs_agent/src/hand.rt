@@ -18,7 +18,7 @@ pub enum Left {
 
 /// What is noted of a chunk that was taken: its client, its page, and why it left, if it did.
 #[derive(Clone, Copy)]
-pub struct Mark {
+pub struct ChunkNote {
     pub client: ClientId,
     pub page: u32,
     pub left: Option<Left>,
@@ -41,7 +41,7 @@ pub struct Parting<L: Token> {
 
 /// A chunk that a turn sent, with its place and the group that pinned it.
 #[derive(Drop)]
-pub struct Sent<L: Token> {
+pub struct SentChunk<L: Token> {
     pub held: Held<L>,
     pub place: ArrivalPlace,
     pub group: Group,

@@ -29,13 +29,13 @@ ghost use Rattle.hs_agent.specs.Points.{chunk_taken, crumb_taken, trigger_taken,
 mod claiming;
 mod trying;
 
+use crate::chunk_notes::ChunkNotes;
 use crate::claim_notes::ClaimNotes;
-use crate::hand::{First, Leave, Left, Out, Parting, Sent};
+use crate::hand::{First, Leave, Left, Out, Parting, SentChunk};
 use crate::holdings::trying::evict_into;
 use crate::input::Finished;
-use crate::pages::Pages;
+use crate::page_notes::PageNotes;
 use crate::placed::{ArrivalPlace, Tagged};
-use crate::standings::Standings;
 use hs_base::limits::MOST_NODES;
 use hs_base::{
     Ask, Crumb, Group, GroupId, List, Memory, NodeId, NodeSet, Settings, Told, TraceId, Trigger,
@@ -59,16 +59,16 @@ pub struct Holdings<L: Token> {
     index: TraceIndex<Tagged<L>>,
     pins: Pins<Tagged<L>>,
     /// What the turn that is under way has sent. There is room for all that is pinned.
-    sent: VecDeque<Sent<L>>,
+    sent: VecDeque<SentChunk<L>>,
     /// The chunks whose buffers are to be given back, the next one first, but for the one that was offered.
     hand: VecDeque<Parting<L>>,
     /// The chunk that was offered to the pool and not answered yet. There is room in the hand for it to come back.
     offered: Option<Out>,
     /// Whether the first of the hand was offered before, and came back.
     again: bool,
-    standings: Standings,
+    standings: ChunkNotes,
     claims: ClaimNotes,
-    pages: Pages,
+    pages: PageNotes,
 }
 
 impl<L: Token> Model for Holdings<L> {
@@ -90,9 +90,9 @@ impl<L: Token> Holdings<L> {
         requires { AreRules settings.now.triggers.items }
         ensures { IfOk result (λ holdings. Holds holdings (first_point (settings_of settings.now) node.0 true)) }
     {
-        let standings = Standings::new(alloc);
+        let standings = ChunkNotes::new(alloc);
         let claims = ClaimNotes::new(alloc);
-        let pages = Pages::new(alloc);
+        let pages = PageNotes::new(alloc);
         Holdings::empty(alloc, node, settings, standings, claims, pages)
     }
 
@@ -102,9 +102,9 @@ impl<L: Token> Holdings<L> {
         requires { AreRules settings.now.triggers.items }
         ensures { IfOk result (λ holdings. Holds holdings (first_point (settings_of settings.now) node.0 false)) }
     {
-        let standings = Standings::bare();
+        let standings = ChunkNotes::bare();
         let claims = ClaimNotes::bare();
-        let pages = Pages::bare();
+        let pages = PageNotes::bare();
         let mut holdings = Holdings::empty(alloc, node, settings, standings, claims, pages)?;
         holdings.fill(settings)?;
         Ok(holdings)
@@ -133,9 +133,9 @@ impl<L: Token> Holdings<L> {
         alloc: Global,
         node: NodeId,
         settings: &Settings,
-        standings: Standings,
+        standings: ChunkNotes,
         claims: ClaimNotes,
-        pages: Pages,
+        pages: PageNotes,
     ) -> Result<Holdings<L>, Memory>
         requires rules { AreRules settings.now.triggers.items }
         requires standings { standings.items ≡ [] }
@@ -298,7 +298,7 @@ impl<L: Token> Holdings<L> {
         ensures { OnOk result (self.new ≡ reported self.old) }
     {
         while let Some(sent) = self.sent.pop_front() {
-            let Sent { held, place, group } = sent;
+            let SentChunk { held, place, group } = sent;
             self.pages.append(self.alloc, &held.chunk)?;
             let left = Left::Reported(group);
             self.let_go(Parting { held, place, left })?;
@@ -429,12 +429,12 @@ fn apart<L: Token>(held: Held<Tagged<L>>) -> (Held<L>, ArrivalPlace)
 }
 
 /// A chunk that the pins sent.
-fn sent_of<L: Token>(dropped: Dropped<Tagged<L>>) -> Sent<L>
+fn sent_of<L: Token>(dropped: Dropped<Tagged<L>>) -> SentChunk<L>
     ensures { sent_pin result ≡ pin_of dropped }
 {
     let Dropped { held, group } = dropped;
     let (held, place) = apart(held);
-    Sent { held, place, group }
+    SentChunk { held, place, group }
 }
 
 /// A book with what is left, where memory was found for that.

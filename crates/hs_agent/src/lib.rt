@@ -3,14 +3,14 @@
 #![tactic(auto)]
 
 mod agent;
+mod chunk_notes;
 mod claim_notes;
 mod hand;
 mod holdings;
 mod input;
 mod laws;
-mod pages;
+mod page_notes;
 mod placed;
-mod standings;
 
 pub use agent::Agent;
 pub use hand::{First, Left};

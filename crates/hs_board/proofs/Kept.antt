@@ -7,9 +7,9 @@ use Rattle.hs_board.proofs.Fronts.{among_front}
 use Rattle.hs_board.specs.Looking.{Looking}
 use Rattle.std.specs.Prelude.{Result, Ok, Err, OnOk, OnErr}
 use Rattle.hs_lists.proofs.Alls.{all_push, all_weaker}
-use Rattle.hs_board.specs.Watching.{Totals, IsFrom, IsRising, Watching, Watches, KeepsWatching, EndsAtLatest, IsSeenOf, Showing, WatchStands, KnowLast}
+use Rattle.hs_board.specs.Watching.{ShownTotals, IsFrom, IsRising, Watching, Watches, KeepsWatching, EndsAtLatest, IsSeenOf, Showing, WatchStands, KnowLast}
 
-module _ (shown known known' : Totals) (front : IsFront known known') where
+module _ (shown known known' : ShownTotals) (front : IsFront known known') where
   pub kept : (x : Progress) → IsFrom shown known x → IsFrom shown known' x
   kept x from = ⊎_elim (λ (a : IsAmong x known). inl (among_front known known' front x a)) (λ (a : IsAmong x shown). inr a) from
 
@@ -60,7 +60,7 @@ all_below xs n rises most new = ⊎_elim (λ (none : xs ≡ []). subst (AllByRec
 pub among_more : (xs more : List Progress) (x : Progress) → IsAmong x xs → IsAmong x (xs ++ more)
 among_more xs more x a = among_front xs (xs ++ more) (more, refl) x a
 
-pub shown_more : (shown more : Totals) (w : Watching) → Watches shown w → Watches (shown ++ more) w
+pub shown_more : (shown more : ShownTotals) (w : Watching) → Watches shown w → Watches (shown ++ more) w
 shown_more shown more w h =
     record {
       latest = from w.looking.latest h.latest;
@@ -75,7 +75,7 @@ shown_more shown more w h =
 -- ---- a watcher that looked or was told
 
 -- The reader knows more, and the latest is the same or one that it knows.
-pub watches_more : (shown : Totals) (w w' : Watching) → Watches shown w → IsFront w.looking.known w'.looking.known → IsAmong w'.looking.latest w'.looking.known ⊎ (w'.looking.latest ≡ w.looking.latest)
+pub watches_more : (shown : ShownTotals) (w w' : Watching) → Watches shown w → IsFront w.looking.known w'.looking.known → IsAmong w'.looking.latest w'.looking.known ⊎ (w'.looking.latest ≡ w.looking.latest)
     → w.looking.latest.rounds ≤ w'.looking.latest.rounds → w'.seen ≡ w.seen → Watches shown w'
 watches_more shown w w' h front latest rises same =
     record {
@@ -86,7 +86,7 @@ watches_more shown w w' h front latest rises same =
     }
 
 -- And it noted that one, whose rounds differ from those before.
-pub watches_noted : (shown : Totals) (w w' : Watching) → Watches shown w → IsFront w.looking.known w'.looking.known → IsAmong w'.looking.latest w'.looking.known ⊎ (w'.looking.latest ≡ w.looking.latest)
+pub watches_noted : (shown : ShownTotals) (w w' : Watching) → Watches shown w → IsFront w.looking.known w'.looking.known → IsAmong w'.looking.latest w'.looking.known ⊎ (w'.looking.latest ≡ w.looking.latest)
     → w.looking.latest.rounds ≤ w'.looking.latest.rounds → ((last : Progress) → IsLast last w.seen → last.rounds ≡ w'.looking.latest.rounds → ⊥) → w'.seen ≡ w.seen ++ w'.looking.latest ∷ [] → Watches shown w'
 watches_noted shown w w' h front latest rises new noted =
     let from = now_from shown w.looking.known w'.looking.known front w.looking.latest w'.looking.latest h.latest latest in
@@ -101,12 +101,12 @@ watches_noted shown w w' h front latest rises new noted =
     }
 
 -- The same by what a look answers, which is the latest then.
-pub look_same : (shown : Totals) (w w' : Watching) (now : Progress) → now ≡ w'.looking.latest → Watches shown w → IsFront w.looking.known w'.looking.known → IsAmong now w'.looking.known ⊎ (now ≡ w.looking.latest)
+pub look_same : (shown : ShownTotals) (w w' : Watching) (now : Progress) → now ≡ w'.looking.latest → Watches shown w → IsFront w.looking.known w'.looking.known → IsAmong now w'.looking.known ⊎ (now ≡ w.looking.latest)
     → w.looking.latest.rounds ≤ now.rounds → w'.seen ≡ w.seen → Watches shown w'
 look_same shown w w' now is h front =
     subst (λ (n : Progress). IsAmong n w'.looking.known ⊎ (n ≡ w.looking.latest) → w.looking.latest.rounds ≤ n.rounds → w'.seen ≡ w.seen → Watches shown w') (sym is) (watches_more shown w w' h front)
 
-pub look_noted : (shown : Totals) (w w' : Watching) (now : Progress) → now ≡ w'.looking.latest → Watches shown w → IsFront w.looking.known w'.looking.known → IsAmong now w'.looking.known ⊎ (now ≡ w.looking.latest)
+pub look_noted : (shown : ShownTotals) (w w' : Watching) (now : Progress) → now ≡ w'.looking.latest → Watches shown w → IsFront w.looking.known w'.looking.known → IsAmong now w'.looking.known ⊎ (now ≡ w.looking.latest)
     → w.looking.latest.rounds ≤ now.rounds → ((last : Progress) → IsLast last w.seen → last.rounds ≡ now.rounds → ⊥) → w'.seen ≡ w.seen ++ now ∷ [] → Watches shown w'
 look_noted shown w w' now is h front =
     subst
@@ -115,13 +115,13 @@ look_noted shown w w' now is h front =
     (sym is) (watches_noted shown w w' h front)
 
 -- It was told what was shown, and knows no more of the board.
-pub watches_told : (shown : Totals) (w w' : Watching) → Watches shown w → w'.looking.known ≡ w.looking.known → (w'.looking.latest ≡ w.looking.latest) ⊎ IsAmong w'.looking.latest shown
+pub watches_told : (shown : ShownTotals) (w w' : Watching) → Watches shown w → w'.looking.known ≡ w.looking.known → (w'.looking.latest ≡ w.looking.latest) ⊎ IsAmong w'.looking.latest shown
     → w.looking.latest.rounds ≤ w'.looking.latest.rounds → w'.seen ≡ w.seen → Watches shown w'
 watches_told shown w w' h known latest rises same =
     record {
-      latest = subst (λ (k : Totals). IsFrom shown k w'.looking.latest) (sym known)
+      latest = subst (λ (k : ShownTotals). IsFrom shown k w'.looking.latest) (sym known)
           (⊎_elim (λ (e : w'.looking.latest ≡ w.looking.latest). subst (IsFrom shown w.looking.known) (sym e) h.latest) (λ (a : IsAmong w'.looking.latest shown). inr a) latest);
-      seen = subst (AllByRecursion (IsFrom shown w'.looking.known)) (sym same) (subst (λ (k : Totals). AllByRecursion (IsFrom shown k) w.seen) (sym known) h.seen);
+      seen = subst (AllByRecursion (IsFrom shown w'.looking.known)) (sym same) (subst (λ (k : ShownTotals). AllByRecursion (IsFrom shown k) w.seen) (sym known) h.seen);
       rises = subst IsRising (sym same) h.rises;
       most = subst (AllByRecursion (λ (x : Progress). x.rounds ≤ w'.looking.latest.rounds)) (sym same) (raised w.looking.latest.rounds w'.looking.latest.rounds rises w.seen h.most);
     }
@@ -129,18 +129,18 @@ watches_told shown w w' h known latest rises same =
 -- ---- the end
 
 -- Where the reader knows a front of what was shown, all that was noted was shown.
-pub seen_among : (shown : Totals) (w : Watching) → Watches shown w → IsFront w.looking.known shown → AllByRecursion (λ (x : Progress). IsAmong x shown) w.seen
+pub seen_among : (shown : ShownTotals) (w : Watching) → Watches shown w → IsFront w.looking.known shown → AllByRecursion (λ (x : Progress). IsAmong x shown) w.seen
 seen_among shown w h front =
     all_weaker (IsFrom shown w.looking.known) (λ (x : Progress). IsAmong x shown)
     (λ x f. ⊎_elim (λ (a : IsAmong x w.looking.known). among_front w.looking.known shown front x a) (λ (a : IsAmong x shown). a) f) w.seen h.seen
 
-pub seen_of : (shown : Totals) (w : Watching) → Watches shown w → ((last : Progress) → IsLast last shown → last.rounds ≤ w.looking.latest.rounds) → EndsAtLatest w → IsFront w.looking.known shown → IsSeenOf shown w.seen
+pub seen_of : (shown : ShownTotals) (w : Watching) → Watches shown w → ((last : Progress) → IsLast last shown → last.rounds ≤ w.looking.latest.rounds) → EndsAtLatest w → IsFront w.looking.known shown → IsSeenOf shown w.seen
 seen_of shown w h knows ends front =
     record { among = seen_among shown w h front; rises = h.rises; last = (ends.0, ends.1, λ y is. let low = knows y is in let same = ends.2 in omega (arith, low, same)) }
 
 -- ---- two watchers
 
-pub same_watches : (shown : Totals) (w w' : Watching) → w'.seen ≡ w.seen → w'.looking ≡ w.looking → Watches shown w → Watches shown w'
+pub same_watches : (shown : ShownTotals) (w w' : Watching) → w'.seen ≡ w.seen → w'.looking ≡ w.looking → Watches shown w → Watches shown w'
 same_watches shown w w' seen looking h =
     record {
       latest = subst (λ (l : Looking). IsFrom shown l.known l.latest) (sym looking) h.latest;
@@ -152,13 +152,13 @@ same_watches shown w w' seen looking h =
 
 pub both : (s s' : Showing) → s'.shown ≡ s.shown → KeepsWatching s.one s'.one → KeepsWatching s.other s'.other → WatchStands s → WatchStands s'
 both s s' same one other h =
-    record { one = subst (λ (shown : Totals). Watches shown s'.one) (sym same) (one s.shown h.one); other = subst (λ (shown : Totals). Watches shown s'.other) (sym same) (other s.shown h.other) }
+    record { one = subst (λ (shown : ShownTotals). Watches shown s'.one) (sym same) (one s.shown h.one); other = subst (λ (shown : ShownTotals). Watches shown s'.other) (sym same) (other s.shown h.other) }
 
-pub both_more : (s s' : Showing) (more : Totals) → s'.shown ≡ s.shown ++ more → KeepsWatching s.one s'.one → KeepsWatching s.other s'.other → WatchStands s → WatchStands s'
+pub both_more : (s s' : Showing) (more : ShownTotals) → s'.shown ≡ s.shown ++ more → KeepsWatching s.one s'.one → KeepsWatching s.other s'.other → WatchStands s → WatchStands s'
 both_more s s' more same one other h =
     record {
-      one = subst (λ (shown : Totals). Watches shown s'.one) (sym same) (one (s.shown ++ more) (shown_more s.shown more s.one h.one));
-      other = subst (λ (shown : Totals). Watches shown s'.other) (sym same) (other (s.shown ++ more) (shown_more s.shown more s.other h.other));
+      one = subst (λ (shown : ShownTotals). Watches shown s'.one) (sym same) (one (s.shown ++ more) (shown_more s.shown more s.one h.one));
+      other = subst (λ (shown : ShownTotals). Watches shown s'.other) (sym same) (other (s.shown ++ more) (shown_more s.shown more s.other h.other));
     }
 
 pub published : {E : Type 0} (r : Result (Unit {0}) E) (s s' : Showing) (x : Progress) → OnOk r (s'.shown ≡ s.shown ++ x ∷ []) → OnErr r (s'.shown ≡ s.shown) → KeepsWatching s.one s'.one → KeepsWatching s.other s'.other → WatchStands s → WatchStands s'

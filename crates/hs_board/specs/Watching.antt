@@ -7,8 +7,8 @@ use Rattle.hs_board.specs.Looking.{Looking, HasLookedTimes}
 use Rattle.hs_board.specs.Shown.{IsFront, IsAmong, IsLast}
 
 -- all that was shown on a board
-abbrev pub Totals : Type 0
-Totals = List Progress
+abbrev pub ShownTotals : Type 0
+ShownTotals = List Progress
 
 pub record Watching : Type 0 where
   pub looking : Looking
@@ -17,7 +17,7 @@ pub record Watching : Type 0 where
   pub room : ℕ
 
 -- It is known of the board, or was shown on it.
-abbrev pub IsFrom : Totals → Totals → Progress → Type 0
+abbrev pub IsFrom : ShownTotals → ShownTotals → Progress → Type 0
 IsFrom shown known x = IsAmong x known ⊎ IsAmong x shown
 
 -- Each has more rounds than those before it.
@@ -26,7 +26,7 @@ IsRising [] = Unit {0}
 IsRising (x ∷ xs) = AllByRecursion (λ (y : Progress). x.rounds < y.rounds) xs × IsRising xs
 
 -- What the watcher noted rises, and it and the latest that it knows are of a board on which this was shown.
-pub record Watches (shown : Totals) (w : Watching) : Type 0 where
+pub record Watches (shown : ShownTotals) (w : Watching) : Type 0 where
   pub latest : IsFrom shown w.looking.known w.looking.latest
   pub seen : AllByRecursion (IsFrom shown w.looking.known) w.seen
   pub rises : IsRising w.seen
@@ -40,7 +40,7 @@ MayLook w = length w.seen + 4 ≤ w.room
 
 -- It still watches what it watched.
 abbrev pub KeepsWatching : Watching → Watching → Type 0
-KeepsWatching old new = (shown : Totals) → Watches shown old → Watches shown new
+KeepsWatching old new = (shown : ShownTotals) → Watches shown old → Watches shown new
 
 -- All that it noted before stands, in front of what it noted since.
 abbrev pub KeepsNotes : Watching → Watching → Type 0
@@ -65,7 +65,7 @@ EndsAtLatest w = (x : Progress) × IsLast x w.seen × (x.rounds ≡ w.looking.la
 -- ---- two watchers of one board
 
 pub record Showing : Type 0 where
-  pub shown : Totals
+  pub shown : ShownTotals
   pub one : Watching
   pub other : Watching
 
@@ -97,7 +97,7 @@ abbrev pub BothKeepNotes : Showing → Showing → Type 0
 BothKeepNotes old new = KeepsNotes old.one new.one × KeepsNotes old.other new.other
 
 -- These totals have more rounds than those that are shown.
-abbrev pub IsLater : Progress → Totals → Type 0
+abbrev pub IsLater : Progress → ShownTotals → Type 0
 IsLater progress shown = (last : Progress) → IsLast last shown → last.rounds < progress.rounds
 
 -- Each of the two knows the latest that was shown, or a later one.
@@ -108,7 +108,7 @@ pub record KnowLast (s : Showing) : Type 0 where
 -- ---- the end
 
 -- What was seen was shown, rises, and ends with the last that was shown.
-pub record IsSeenOf (shown : Totals) (seen : List Progress) : Type 0 where
+pub record IsSeenOf (shown : ShownTotals) (seen : List Progress) : Type 0 where
   pub among : AllByRecursion (λ (x : Progress). IsAmong x shown) seen
   pub rises : IsRising seen
   pub last : (x : Progress) × IsLast x seen × ((y : Progress) → IsLast y shown → y.rounds ≤ x.rounds)

@@ -3,7 +3,7 @@
 ghost use Rattle.std.specs.Prelude.{◌≡◌, ◌+◌, ◌<◌, ◌≤◌, [], true, false, length, OnOk, OnErr};
 ghost use Rattle.hs_board.specs.declared.progress.Progress.{Progress as Totalled};
 ghost use Rattle.hs_board.specs.Shown.{IsLast};
-ghost use Rattle.hs_board.specs.Watching.{Totals, Watches, MayLook, HasLooked, KeepsNotes, LooksTimes, KnowsLastSeen, EndsAtLatest};
+ghost use Rattle.hs_board.specs.Watching.{ShownTotals, Watches, MayLook, HasLooked, KeepsNotes, LooksTimes, KnowsLastSeen, EndsAtLatest};
 
 use crate::progress::Progress;
 use crate::reader::BoardReader;
@@ -50,7 +50,7 @@ impl Watcher {
     /// Looks once, and notes what it saw if more rounds are over than it last saw.
     pub(crate) fn look(&mut self)
         requires { length self.old.seen < self.old.room }
-        ensures watches { (shown : Totals) → Watches shown self.old → Watches shown self.new }
+        ensures watches { (shown : ShownTotals) → Watches shown self.old → Watches shown self.new }
         ensures keeps { KeepsNotes self.old self.new }
         ensures ends { EndsAtLatest self.new }
         ensures rises { self.old.looking.latest.rounds ≤ self.new.looking.latest.rounds }

@@ -3,9 +3,9 @@ use Rattle.std.specs.Prelude.{◌≡◌, ℕ, Some, count_by}
 use Rattle.hs_client.specs.Core.{is_null}
 use Rattle.hs_node_client.specs.Clients.{PlainNodeClient, PutsThrough, waiting}
 use Rattle.hs_node_client.specs.Counting.{all_counts}
-use Rattle.hs_node_client.specs.declared.counts.Counts.{Counts as ClientCounts}
-use Rattle.hs_node_client.specs.declared.called.Called.{Called}
-use Rattle.hs_node_client.specs.declared.called.Pointed.{Pointed}
+use Rattle.hs_node_client.specs.declared.counts.ClientCounts.{ClientCounts}
+use Rattle.hs_node_client.specs.declared.answers.CallAnswer.{CallAnswer}
+use Rattle.hs_node_client.specs.declared.answers.PointAnswer.{PointAnswer}
 use Rattle.hs_c.specs.declared.handles.HindClient.{HindClient}
 use Rattle.hs_c.specs.declared.handles.HindCounts.{HindCounts}
 use Rattle.hs_c.specs.declared.codes.TheConstants.{DONE, VACANT}
@@ -21,13 +21,13 @@ abbrev pub IsIdle : HindClient → ℕ → HindClient → Type 0
 IsIdle old code new = (old.live ≡ 1 → ⊥) → (code ≡ VACANT) × (new ≡ old)
 
 -- The client behind the handle is called, and its answer is the code. The same handle holds what it is then.
-abbrev pub Calls : (PlainNodeClient → Called → PlainNodeClient → Type 0) → HindClient → ℕ → HindClient → Type 0
-Calls does old code new = (client : PlainNodeClient) → Holds old client → (called : Called) × (after : PlainNodeClient) × (code ≡ code_of called) × Holds new after × does client called after
+abbrev pub Calls : (PlainNodeClient → CallAnswer → PlainNodeClient → Type 0) → HindClient → ℕ → HindClient → Type 0
+Calls does old code new = (client : PlainNodeClient) → Holds old client → (called : CallAnswer) × (after : PlainNodeClient) × (code ≡ code_of called) × Holds new after × does client called after
 
 -- The same of a point, which is told of a pool that was empty.
-abbrev pub Points : (PlainNodeClient → Pointed → PlainNodeClient → Type 0) → HindClient → ℕ → HindClient → Type 0
+abbrev pub Points : (PlainNodeClient → PointAnswer → PlainNodeClient → Type 0) → HindClient → ℕ → HindClient → Type 0
 Points does old code new =
-    (client : PlainNodeClient) → Holds old client → (pointed : Pointed) × (after : PlainNodeClient) × (code ≡ code_of_point pointed) × Holds new after × does client pointed after
+    (client : PlainNodeClient) → Holds old client → (pointed : PointAnswer) × (after : PlainNodeClient) × (code ≡ code_of_point pointed) × Holds new after × does client pointed after
 
 -- The client behind the handle does this, with this code. The same handle holds what it is then.
 abbrev pub DoesClient : (PlainNodeClient → ℕ → PlainNodeClient → Type 0) → HindClient → ℕ → HindClient → Type 0

@@ -1,12 +1,12 @@
 -- The codes that C is answered.
 use Rattle.std.specs.Prelude.{◌≡◌, ℕ, refl}
-use Rattle.hs_node_client.specs.declared.called.Called.{Called}
-use Rattle.hs_node_client.specs.declared.called.Called.TheVariants as called
-use Rattle.hs_node_client.specs.declared.called.Pointed.{Pointed}
-use Rattle.hs_node_client.specs.declared.called.Pointed.TheVariants as pointed
+use Rattle.hs_node_client.specs.declared.answers.CallAnswer.{CallAnswer}
+use Rattle.hs_node_client.specs.declared.answers.CallAnswer.TheVariants as called
+use Rattle.hs_node_client.specs.declared.answers.PointAnswer.{PointAnswer}
+use Rattle.hs_node_client.specs.declared.answers.PointAnswer.TheVariants as pointed
 use Rattle.hs_node_client.specs.Pointing.{called_of}
 
-abbrev pub code_of : Called → ℕ
+abbrev pub code_of : CallAnswer → ℕ
 code_of called.Done = 0
 code_of called.NoTrace = 6
 code_of called.AlreadyOpen = 7
@@ -16,7 +16,7 @@ code_of called.Unknown = 10
 code_of called.Spent = 11
 
 -- A point that found the pool empty has a code of its own, and any other that of its answer.
-abbrev pub code_of_point : Pointed → ℕ
+abbrev pub code_of_point : PointAnswer → ℕ
 code_of_point pointed.Done = code_of called.Done
 code_of_point pointed.Dry = 16
 code_of_point pointed.NoTrace = code_of called.NoTrace

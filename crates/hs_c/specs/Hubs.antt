@@ -18,7 +18,7 @@ use Rattle.hs_hub.specs.declared.answers.Delivered.TheVariants as delivered
 use Rattle.hs_cursor.specs.Rows.{PlainRow}
 use Rattle.hs_cursor.specs.Walking.{Found, start}
 use Rattle.hs_base.specs.declared.told.Ask.{Ask}
-use Rattle.hs_groups.specs.declared.followed.Followed.{Followed}
+use Rattle.hs_groups.specs.declared.followed_group.FollowedGroup.{FollowedGroup}
 use Rattle.hs_settings.specs.Faults.{reading_of}
 use Rattle.hs_settings.specs.Settings.{PlainService}
 use Rattle.hs_hub.specs.ByService.{limits_by}
@@ -139,12 +139,12 @@ claim_out ask =
     }
 
 -- a group that claims the trace that is out, as C sees it
-abbrev pub claim_in : Followed → HindClaim
+abbrev pub claim_in : FollowedGroup → HindClaim
 claim_in followed = claim_out followed.ask
 
 -- the lateral at a place among those of the group at a place
 abbrev pub lateral_at : PlainHub → ℕ → ℕ → Option TraceId
-lateral_at hub place at = option_and_then (λ (followed : Followed). slice_get followed.ask.laterals at) (claim_at_place hub place)
+lateral_at hub place at = option_and_then (λ (followed : FollowedGroup). slice_get followed.ask.laterals at) (claim_at_place hub place)
 
 abbrev pub life_id_out : Life → HindLifeId
 life_id_out life = record { epoch = life.epoch; node = life.node }

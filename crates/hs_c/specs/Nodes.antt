@@ -5,8 +5,8 @@ use Rattle.hs_settings.specs.Faults.{reading_of}
 use Rattle.hs_outbox.specs.Queue.{Pending}
 use Rattle.hs_mail.specs.declared.mail.Unposted.{Unposted}
 use Rattle.hs_mail.specs.declared.mail.Unposted.TheVariants as unposted
-use Rattle.hs_inbox.specs.declared.inbox.Delivered.{Delivered}
-use Rattle.hs_inbox.specs.declared.inbox.Delivered.TheVariants as delivered
+use Rattle.hs_inbox.specs.declared.inbox.AskDelivered.{AskDelivered}
+use Rattle.hs_inbox.specs.declared.inbox.AskDelivered.TheVariants as delivered
 use Rattle.hs_node_client.specs.declared.limits.MakeFault.{MakeFault}
 use Rattle.hs_node_client.specs.declared.limits.MakeFault.TheVariants as faults
 use Rattle.hs_node_client.specs.Clients.{PlainNodeClient}
@@ -80,7 +80,7 @@ abbrev pub flag_code : Bool → ℕ
 flag_code true = 0
 flag_code false = 12
 
-abbrev pub asked_code : Delivered → ℕ
+abbrev pub asked_code : AskDelivered → ℕ
 asked_code delivered.Taken = 0
 asked_code delivered.Full = 9
 asked_code delivered.Refused = 13

@@ -9,7 +9,7 @@ use hs_hub::Hub;
 use hs_link::Receiver;
 use hs_live::{AgentPort, ClientKey};
 use hs_node::Node;
-use hs_node_client::{NodeClient, Segment, SegmentKey};
+use hs_node_client::{NodeClient, SegmentKey, SegmentNote};
 use hs_ring::Lease;
 use hs_words::{Given, Held};
 use std::alloc::Global;
@@ -26,7 +26,7 @@ pub struct PortCell {
     pub port: AgentPort,
     pub left: List<Box<ClientCell, Global>>,
     pub late: List<Receiver<Crumb, ClientKey>>,
-    pub notes: List<Receiver<Segment, SegmentKey>>,
+    pub notes: List<Receiver<SegmentNote, SegmentKey>>,
     pub clients: u16,
     pub ghost few: { clients ≡ length port.chunks },
 }
@@ -46,7 +46,7 @@ pub struct HubCell {
 }
 
 /// What became of a call that takes a chunk of a client.
-pub enum Took {
+pub enum TakenChunk {
     /// A chunk, whose buffer was given back.
     Chunk,
     /// A chunk, whose buffer the pool did not take in so many tries. It is gone.
@@ -78,17 +78,17 @@ fn give_back(port: &mut AgentPort, held: Held<Lease>) -> bool
 
 impl PortCell {
     /// Takes the next chunk of a client, and gives its buffer back.
-    pub fn take(&mut self, client: u16) -> Took {
+    pub fn take(&mut self, client: u16) -> TakenChunk {
         if client >= self.clients {
-            return Took::Unknown;
+            return TakenChunk::Unknown;
         }
         let Some(held) = self.port.chunk(client) else {
-            return Took::Nothing;
+            return TakenChunk::Nothing;
         };
         if give_back(&mut self.port, held) {
-            Took::Chunk
+            TakenChunk::Chunk
         } else {
-            Took::Lost
+            TakenChunk::Lost
         }
     }
 

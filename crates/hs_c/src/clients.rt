@@ -13,7 +13,7 @@ ghost use Rattle.hs_node_client.specs.Notes.{PutsOn};
 ghost use Rattle.hs_node_client.specs.Paging.{place_in};
 ghost use Rattle.hs_node_client.specs.Pointing.{called_of, DriesBy};
 ghost use Rattle.hs_live.specs.Live.{Sends};
-ghost use Rattle.hs_node_client.specs.declared.called.Called.TheVariants.{Done, Full, Unknown};
+ghost use Rattle.hs_node_client.specs.declared.answers.CallAnswer.TheVariants.{Done, Full, Unknown};
 ghost use Rattle.hs_node_client.specs.declared.segment.SegmentState.TheVariants.{Opened, Refused, Led};
 ghost use Rattle.hs_c.specs.Calls.{IsIdle, Calls, Points, DoesClient, Flushes, Counts};
 ghost use Rattle.hs_c.specs.Traces.{trace_in, trigger_in};

@@ -3,7 +3,7 @@
 ghost use Rattle.std.specs.Prelude.{◌≡◌};
 ghost use Rattle.hs_c.specs.Codes.{code_of, code_of_point};
 
-use hs_node_client::{Called, Pointed};
+use hs_node_client::{CallAnswer, PointAnswer};
 
 /// The call was done.
 pub const DONE: u32 = 0;
@@ -60,30 +60,30 @@ pub const DRY: u32 = 16;
 pub const TORN: u32 = 17;
 
 /// The code of a client's answer.
-pub(crate) fn code_of(called: Called) -> u32
+pub(crate) fn code_of(called: CallAnswer) -> u32
     ensures { result ≡ code_of called }
 {
     match called {
-        Called::Done => DONE,
-        Called::NoTrace => NO_TRACE,
-        Called::AlreadyOpen => OPEN,
-        Called::TooWide => TOO_WIDE,
-        Called::Full => FULL,
-        Called::Unknown => UNKNOWN,
-        Called::Spent => SPENT,
+        CallAnswer::Done => DONE,
+        CallAnswer::NoTrace => NO_TRACE,
+        CallAnswer::AlreadyOpen => OPEN,
+        CallAnswer::TooWide => TOO_WIDE,
+        CallAnswer::Full => FULL,
+        CallAnswer::Unknown => UNKNOWN,
+        CallAnswer::Spent => SPENT,
     }
 }
 
 /// The code of a point's answer.
-pub(crate) fn code_of_point(pointed: Pointed) -> u32
+pub(crate) fn code_of_point(pointed: PointAnswer) -> u32
     ensures { result ≡ code_of_point pointed }
 {
     match pointed {
-        Pointed::Done => DONE,
-        Pointed::Dry => DRY,
-        Pointed::NoTrace => NO_TRACE,
-        Pointed::TooWide => TOO_WIDE,
-        Pointed::Full => FULL,
-        Pointed::Spent => SPENT,
+        PointAnswer::Done => DONE,
+        PointAnswer::Dry => DRY,
+        PointAnswer::NoTrace => NO_TRACE,
+        PointAnswer::TooWide => TOO_WIDE,
+        PointAnswer::Full => FULL,
+        PointAnswer::Spent => SPENT,
     }
 }

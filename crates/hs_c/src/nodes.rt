@@ -2,9 +2,9 @@
 
 ghost use Rattle.std.specs.Prelude.{◌≡◌, ◌≢◌, ◌||◌, ◌++◌, [], ◌∷◌, is_some, OnOk, OnErr, IfSome, IfNone};
 ghost use Rattle.hs_ring.specs.Parts.{Leased};
-ghost use Rattle.hs_agent.specs.Runs.{Run};
+ghost use Rattle.hs_agent.specs.Runs.{AgentRun};
 ghost use Rattle.hs_intake.specs.Intakes.{Stands};
-ghost use Rattle.hs_inbox.specs.declared.inbox.Delivered.{Delivered};
+ghost use Rattle.hs_inbox.specs.declared.inbox.AskDelivered.{AskDelivered};
 ghost use Rattle.hs_inbox.specs.Delivering.{Delivers};
 ghost use Rattle.hs_mail.specs.Letters.{first_offered, after, HandsOut, Acknowledges, OffersAgain, Posts};
 ghost use Rattle.hs_wire.specs.Messages.{SaysHello};
@@ -26,7 +26,7 @@ use crate::loose::Loose;
 use crate::opening::{boxed, no_room, refusal_out};
 use crate::slots::{ClientSlot, NodeSlot};
 use hs_base::Memory;
-use hs_inbox::Delivered;
+use hs_inbox::AskDelivered;
 use hs_mail::Unposted;
 use hs_node::{MadeNode, NodeFault, Passed, make_node};
 use hs_node_client::MakeFault;
@@ -157,8 +157,8 @@ pub extern "C" fn hindcore_node_client(
 #[unsafe(no_mangle)]
 pub extern "C" fn hindcore_node_pass(alloc: Global, node: &mut HindNode, says: &mut u32) -> u32
     ensures idle { IsIdleNode node.old result node.new }
-    ensures pass { DoesNode (λ old code new. (passed : Passed) × (code ≡ passed_code passed) × ((run : Run Leased) → Stands run old.intake → PassesAs run passed old new)) node.old result node.new }
-    ensures does { DoesNode (λ old code new. code ≡ done → (run : Run Leased) → Stands run old.intake → Passes run old new) node.old result node.new }
+    ensures pass { DoesNode (λ old code new. (passed : Passed) × (code ≡ passed_code passed) × ((run : AgentRun Leased) → Stands run old.intake → PassesAs run passed old new)) node.old result node.new }
+    ensures does { DoesNode (λ old code new. code ≡ done → (run : AgentRun Leased) → Stands run old.intake → Passes run old new) node.old result node.new }
     ensures says { DoesNode (λ old code new. says.new ≡ flag (is_some (first_offered new.intake.mail))) node.old result node.new }
     ensures same { (node.old.live ≡ 1 → ⊥) → says.new ≡ says.old }
 {
@@ -284,7 +284,7 @@ pub extern "C" fn hindcore_node_again(alloc: Global, node: &mut HindNode) -> u32
 #[unsafe(no_mangle)]
 pub extern "C" fn hindcore_node_deliver(alloc: Global, node: &mut HindNode, bytes: &[u8]) -> u32
     ensures idle { IsIdleNode node.old result node.new }
-    ensures delivers { DoesNode (λ old code new. (delivered : Delivered) × (code ≡ asked_code delivered) × Delivers old.intake.inbox bytes.now delivered new.intake.inbox) node.old result node.new }
+    ensures delivers { DoesNode (λ old code new. (delivered : AskDelivered) × (code ≡ asked_code delivered) × Delivers old.intake.inbox bytes.now delivered new.intake.inbox) node.old result node.new }
     ensures only { DoesNode (λ old code new. new ≡ record old { intake = record old.intake { inbox = new.intake.inbox } }) node.old result node.new }
 {
     if node.live != 1 {
@@ -296,9 +296,9 @@ pub extern "C" fn hindcore_node_deliver(alloc: Global, node: &mut HindNode, byte
     let delivered = cell.node.deliver(bytes);
     node.slot = NodeSlot::full(Loose::of(cell));
     match delivered {
-        Delivered::Taken => DONE,
-        Delivered::Full => FULL,
-        Delivered::Refused => NO_MESSAGE,
+        AskDelivered::Taken => DONE,
+        AskDelivered::Full => FULL,
+        AskDelivered::Refused => NO_MESSAGE,
     }
 }
 

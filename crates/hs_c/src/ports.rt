@@ -3,7 +3,7 @@
 ghost use Rattle.std.specs.Prelude.{◌≡◌};
 ghost use Rattle.hs_c.specs.declared.codes.TheConstants.{DONE, VACANT};
 
-use crate::cells::Took;
+use crate::cells::TakenChunk;
 use crate::codes::{DONE, FULL, NOTHING, UNKNOWN, VACANT};
 use crate::handles::{HindClient, HindPort};
 use crate::loose::Loose;
@@ -27,10 +27,10 @@ pub extern "C" fn hindcore_take(alloc: Global, port: &mut HindPort, client: u16)
     let took = cell.take(client);
     port.slot = PortSlot::full(Loose::of(cell));
     match took {
-        Took::Chunk => DONE,
-        Took::Nothing => NOTHING,
-        Took::Lost => FULL,
-        Took::Unknown => UNKNOWN,
+        TakenChunk::Chunk => DONE,
+        TakenChunk::Nothing => NOTHING,
+        TakenChunk::Lost => FULL,
+        TakenChunk::Unknown => UNKNOWN,
     }
 }
 

@@ -23,7 +23,7 @@ module _ (settings : PlainSettings) (runs : List NodeRun) (all : List (PlainAgen
 
   -- with its book there is one more
   pub one_more : (i : ℕ) (agent : PlainAgent (Unit {0})) (books : List AgentBook) (book : AgentBook) → i < length all → agent ≡ get_or all i agent
-      → ((run : agents.Run (Unit {0})) → agents.Follows agent run → agent_book_of book ≡ book_kept run.keeps run.node (agents.state_of run))
+      → ((run : agents.AgentRun (Unit {0})) → agents.Follows agent run → agent_book_of book ≡ book_kept run.keeps run.node (agents.state_of run))
       → AreBooksSo runs i books → AreBooksSo runs (i + 1) (books ++ book ∷ [])
   one_more i agent books book low here noted so =
       let at = found_at (IsAgentOf settings) runs all i agent are low here in

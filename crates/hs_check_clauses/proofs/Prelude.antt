@@ -19,7 +19,7 @@ pub use Rattle.hs_check_clauses.specs.declared.found.FoundNode.{FoundNode}
 pub use Rattle.hs_check_clauses.specs.declared.found.FoundPage.{FoundPage}
 pub use Rattle.hs_check_clauses.specs.declared.happened.NotedEvent.{NotedEvent}
 pub use Rattle.hs_check_clauses.specs.declared.happened.StampedEvent.{StampedEvent}
-pub use Rattle.hs_check_clauses.specs.declared.passes.Walk.{Walk}
+pub use Rattle.hs_check_clauses.specs.declared.passes.PassWalk.{PassWalk}
 pub use Rattle.hs_coord.specs.Following.{Message}
 pub use Rattle.hs_law_agent.specs.Standings.{Taken}
 pub use Rattle.hs_law_agent.specs.State.{GivenPlace}

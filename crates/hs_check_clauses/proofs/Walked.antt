@@ -1,8 +1,8 @@
 -- A walk goes through a log exactly where its passes are whole.
 use Rattle.std.proofs.Common.{◌≡◌, ℕ, zero, suc, ◌+◌, ◌*◌, ◌<◌, ◌≤◌, Bool, true, false, cond, eqb, leb, ltb, List, [], ◌∷◌, ◌++◌, length, Option, Some, None, refl, sym, ap, ◌∙◌, subst, inl, inr, ◌⊎◌, arith}
-use Rattle.hs_check_clauses.proofs.Prelude.{count_by, not, ◌&&◌, ◌||◌, unwrap_or, list_all, range_with_len, AllByRecursion, eqb-true, eqb-false, ltb-true, ltb-false, eq-eqb, ne_eqb, lt-ltb, le-ltb, cases_eq, cases_lt, and_left, append_assoc, append-nil, one_if, count_append, count_cons, all_each, all_append, MAX_TAKEN, Step, Queue, is_turn, is_offer, is_whole_pass, passes_of, IsTake, Walk, walk_behind, goes_through, at_start}
+use Rattle.hs_check_clauses.proofs.Prelude.{count_by, not, ◌&&◌, ◌||◌, unwrap_or, list_all, range_with_len, AllByRecursion, eqb-true, eqb-false, ltb-true, ltb-false, eq-eqb, ne_eqb, lt-ltb, le-ltb, cases_eq, cases_lt, and_left, append_assoc, append-nil, one_if, count_append, count_cons, all_each, all_append, MAX_TAKEN, Step, Queue, is_turn, is_offer, is_whole_pass, passes_of, IsTake, PassWalk, walk_behind, goes_through, at_start}
 use Rattle.hs_records.specs.declared.journal.Step.TheVariants as steps
-use Rattle.hs_check_clauses.specs.declared.passes.Walk.TheVariants as walks
+use Rattle.hs_check_clauses.specs.declared.passes.PassWalk.TheVariants as walks
 use Rattle.hs_check_clauses.specs.Walking.{place_of, walk_taking, walk_at}
 use Rattle.hs_check_clauses.proofs.PassFronts.{offers_of, behind_offers, offers_are_offers, begins, items_join, items_alone, closes}
 use Rattle.hs_check_clauses.proofs.Queues.{queue_count, place, Match}
@@ -76,7 +76,7 @@ module _ (clients : ℕ) where
     whole log = list_all (is_whole_pass queues) (passes_of log)
 
     -- what a walk does behind a step
-    abbrev goes_on : Option Walk → List Step → Bool
+    abbrev goes_on : Option PassWalk → List Step → Bool
     goes_on walk log = elim walk [ Some next ↦ goes_through clients next log | None ↦ false ]
 
     -- a first pass that is not whole

@@ -1,10 +1,10 @@
 -- The queues of a node as the code names them.
 use Rattle.hs_law_journal.specs.Following.{Queue}
 use Rattle.hs_law_journal.specs.Following as queues
-use Rattle.hs_check_clauses.specs.declared.sources.Source.{Source}
-use Rattle.hs_check_clauses.specs.declared.sources.Source.TheVariants as sources
+use Rattle.hs_check_clauses.specs.declared.sources.NodeQueue.{NodeQueue}
+use Rattle.hs_check_clauses.specs.declared.sources.NodeQueue.TheVariants as sources
 
-abbrev pub queue_of : Source → Queue
+abbrev pub queue_of : NodeQueue → Queue
 queue_of (sources.Chunks client) = queues.Chunks client
 queue_of (sources.Crumbs client) = queues.Crumbs client
 queue_of (sources.Triggers client) = queues.Triggers client

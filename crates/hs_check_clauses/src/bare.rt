@@ -16,7 +16,7 @@ ghost use Rattle.hs_check_clauses.specs.Finding.{AreFound, IsFound, IsFoundNode,
 
 use crate::counting::log_of;
 use crate::found::{Found, FoundClient, FoundNode};
-use crate::sources::Source;
+use crate::sources::NodeQueue;
 use hs_base::{NodeId, NodeSet};
 use hs_law_journal::laws::{following_plays_out, runs_are_of_the_journal};
 use hs_records::{Journal, Step, Workload};
@@ -54,7 +54,7 @@ fn is_left_bare(log: &[Step], found: &FoundNode, asks: usize, heard: usize) -> b
         && taken Asks run.state.log == asks && heard == length run.state.said && length run.state.pinned == 0) }
 {
     let clients = took_all_items(log, found.clients.as_slice());
-    clients && Source::Asks.count(log) == asks && heard == found.told && found.pinned == 0
+    clients && NodeQueue::Asks.count(log) == asks && heard == found.told && found.pinned == 0
 }
 
 /// Whether these steps took all that the clients sent.
@@ -75,9 +75,9 @@ fn took_all_items(log: &[Step], clients: &[FoundClient]) -> bool
 fn took_all(log: &[Step], client: u16, found: &FoundClient) -> bool
     ensures { (sends : ClientSends) → IsFoundClient sends found.now → result ≡ took_all log.now client sends }
 {
-    Source::Chunks { client }.count(log) == found.chunks.len()
-        && Source::Crumbs { client }.count(log) == found.crumbs.len()
-        && Source::Triggers { client }.count(log) == found.triggers.len()
+    NodeQueue::Chunks { client }.count(log) == found.chunks.len()
+        && NodeQueue::Crumbs { client }.count(log) == found.crumbs.len()
+        && NodeQueue::Triggers { client }.count(log) == found.triggers.len()
 }
 
 /// How many of these sets have a node.

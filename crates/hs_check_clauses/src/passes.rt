@@ -29,7 +29,7 @@ pub fn has_passes(workload: &Workload, journal: &Journal) -> bool
 fn are_whole(clients: u16, log: &[Step]) -> bool
     ensures { (W : PlainWorkload) → W.settings.clients ≡ clients → result ≡ list_all (is_whole_pass (queues_of W)) (passes_of log.now) }
 {
-    let mut walk = Walk::Taking { queue: 0, taken: 0 };
+    let mut walk = PassWalk::Taking { queue: 0, taken: 0 };
     for step in log {
         let Some(next) = walk.behind(clients, *step) else {
             return false;
@@ -41,7 +41,7 @@ fn are_whole(clients: u16, log: &[Step]) -> bool
 
 /// Where a walk over a log is in its pass.
 #[derive(Clone, Copy)]
-pub(crate) enum Walk {
+pub(crate) enum PassWalk {
     /// It took so many items of the queue at this place, and none of a later one.
     Taking { queue: usize, taken: u32 },
     /// It made its turn, and perhaps offers.
@@ -62,13 +62,13 @@ fn place_of(clients: u16, step: Step) -> Option<usize>
     }
 }
 
-impl Walk {
+impl PassWalk {
     /// The walk behind a step, or `None` where the step may not stand there in a pass.
-    fn behind(self, clients: u16, step: Step) -> Option<Walk>
+    fn behind(self, clients: u16, step: Step) -> Option<PassWalk>
         ensures { result ≡ walk_behind clients self step }
     {
         match step {
-            Step::Turn => Some(Walk::Turned),
+            Step::Turn => Some(PassWalk::Turned),
             Step::Given { .. } | Step::Missed { .. } | Step::Unread => self.offer(),
             _ => match place_of(clients, step) {
                 Some(place) => self.take(place),
@@ -78,35 +78,35 @@ impl Walk {
     }
 
     /// The walk behind an offer.
-    fn offer(self) -> Option<Walk>
+    fn offer(self) -> Option<PassWalk>
         ensures { result ≡ walk_offering self }
     {
         match self {
-            Walk::Turned => Some(Walk::Turned),
-            Walk::Taking { .. } => None,
+            PassWalk::Turned => Some(PassWalk::Turned),
+            PassWalk::Taking { .. } => None,
         }
     }
 
     /// The walk behind an item of the queue at a place.
-    fn take(self, place: usize) -> Option<Walk>
+    fn take(self, place: usize) -> Option<PassWalk>
         ensures { result ≡ walk_taking place self }
     {
         match self {
-            Walk::Turned => Some(Walk::Taking {
+            PassWalk::Turned => Some(PassWalk::Taking {
                 queue: place,
                 taken: 1,
             }),
-            Walk::Taking { queue, taken } if place == queue && taken < MAX_TAKEN => {
-                Some(Walk::Taking {
+            PassWalk::Taking { queue, taken } if place == queue && taken < MAX_TAKEN => {
+                Some(PassWalk::Taking {
                     queue,
                     taken: taken + 1,
                 })
             }
-            Walk::Taking { queue, .. } if queue < place => Some(Walk::Taking {
+            PassWalk::Taking { queue, .. } if queue < place => Some(PassWalk::Taking {
                 queue: place,
                 taken: 1,
             }),
-            Walk::Taking { .. } => None,
+            PassWalk::Taking { .. } => None,
         }
     }
 
@@ -114,6 +114,6 @@ impl Walk {
     fn is_turned(self) -> bool
         ensures { result ≡ is_turned self }
     {
-        matches!(self, Walk::Turned)
+        matches!(self, PassWalk::Turned)
     }
 }

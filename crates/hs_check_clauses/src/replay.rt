@@ -120,7 +120,11 @@ impl Replay {
     }
 
     /// Takes an event as `take_event` does. One whose stamp is not below a bound is let pass, and changes nothing.
-    pub(crate) fn take_event_below(&mut self, bound: u64, event: StampedEvent) -> Result<bool, Memory>
+    pub(crate) fn take_event_below(
+        &mut self,
+        bound: u64,
+        event: StampedEvent,
+    ) -> Result<bool, Memory>
         requires { IsReplaying self.old }
         ensures { (n : ℕ) (earlier : List PoolEvent) → IsReplayed n earlier self.old
             → IfOk result (λ yes. (yes ≡ may_come n bound earlier event) × OnTrue yes (IsReplayed n (earlier_with bound event earlier) self.new)) }

@@ -8,23 +8,23 @@ use hs_records::Step;
 
 /// A queue of a node. A client is named by its number there.
 #[derive(Clone, Copy)]
-pub(crate) enum Source {
+pub(crate) enum NodeQueue {
     Chunks { client: u16 },
     Crumbs { client: u16 },
     Triggers { client: u16 },
     Asks,
 }
 
-impl Source {
+impl NodeQueue {
     /// Whether a step takes from the queue.
     pub(crate) fn gives(self, step: Step) -> bool
         ensures { result ≡ takes (queue_of self) step }
     {
         match (self, step) {
-            (Source::Chunks { client }, Step::Chunk { client: other }) => other == client,
-            (Source::Crumbs { client }, Step::Crumb { client: other }) => other == client,
-            (Source::Triggers { client }, Step::Trigger { client: other }) => other == client,
-            (Source::Asks, Step::Ask) => true,
+            (NodeQueue::Chunks { client }, Step::Chunk { client: other }) => other == client,
+            (NodeQueue::Crumbs { client }, Step::Crumb { client: other }) => other == client,
+            (NodeQueue::Triggers { client }, Step::Trigger { client: other }) => other == client,
+            (NodeQueue::Asks, Step::Ask) => true,
             _ => false,
         }
     }

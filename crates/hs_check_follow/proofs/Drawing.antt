@@ -1,6 +1,6 @@
 -- Draws that get a buffer where the given ones do. What is sent is that of the given ones: a front while draws are left, and all in the end.
 use Rattle.std.proofs.Common.{◌≡◌, ℕ, zero, suc, ◌+◌, ◌≤◌, Bool, true, false, cond, List, [], ◌∷◌, ◌++◌, length, map, filter, Some, None, refl, sym, ap, ◌∙◌, arith, append_assoc, length-append}
-use Rattle.hs_check_follow.proofs.Prelude.{lt-ltb, append-nil, length-map, map-append, nil_from_length, slice_get, get_front, ClientId, Draw, ReplayClientIsAt, PlainReplayClient, DrawsAll, pages_of, Operation, PlainSettings, AreBracketed, count_started, has_buffer, drawn_from, IsTimely, TimedPagesAreThePages, TimedPagesAreTimely, Sent, sends_of, sent_chunks, sent_within, AllChunksAreSent, started_within, TimedPage, timed_pages, Sheet, Script, script_way}
+use Rattle.hs_check_follow.proofs.Prelude.{lt-ltb, append-nil, length-map, map-append, nil_from_length, slice_get, get_front, ClientId, Draw, ReplayClientIsAt, PlainReplayClient, DrawsAll, pages_of, Operation, PlainSettings, AreBracketed, count_started, has_buffer, drawn_from, IsTimely, TimedPagesAreThePages, TimedPagesAreTimely, Sent, sends_of, sent_chunks, sent_within, AllChunksAreSent, started_within, TimedPage, timed_pages, Sheet, DrawScript, script_way}
 use Rattle.hs_law_sends.specs.Drawn.{DrawnPage}
 use Rattle.hs_law_sends.specs.Sending.{sheet_of}
 use Rattle.hs_check_follow.proofs.Scripted.{kinds_are}
@@ -55,7 +55,7 @@ all_started from to (page ∷ pages) timely =
     let low : suc page.started ≤ to = omega (arith, timely.1, timely.2) in
     rw (lt-ltb page.started to low) (ap (λ (l : List TimedPage). page ∷ l) (all_started page.sent to pages timely.3))
 
-module _ (settings : PlainSettings) (client : ClientId) (ops : List Operation) (draws : List Draw) (each : length draws ≡ length (pages_of settings.size ops)) (drawn : List Draw) (script : Script)
+module _ (settings : PlainSettings) (client : ClientId) (ops : List Operation) (draws : List Draw) (each : length draws ≡ length (pages_of settings.size ops)) (drawn : List Draw) (script : DrawScript)
     (kinds : map has_buffer drawn ++ map has_buffer script.left.items ≡ map has_buffer draws) where
   pub left_long : length drawn + length script.left.items ≡ length draws
   left_long =
@@ -77,7 +77,7 @@ module _ (settings : PlainSettings) (client : ClientId) (ops : List Operation) (
 
   -- ---- where more draws are made
 
-  module _ (paged : TimedPagesAreThePages) (more : List Draw) (script' : Script) (drew : DrawsAll script_way more script script') (n k l m : ℕ) (player : PlainReplayClient) (at : ReplayClientIsAt settings client ops (drawn ++ more) n k l m player) where
+  module _ (paged : TimedPagesAreThePages) (more : List Draw) (script' : DrawScript) (drew : DrawsAll script_way more script script') (n k l m : ℕ) (player : PlainReplayClient) (at : ReplayClientIsAt settings client ops (drawn ++ more) n k l m player) where
     -- as many pages are started as the client has in all, at most
     started_few : count_started settings.size ops n ≤ length draws
     started_few =

@@ -1,6 +1,6 @@
 -- A client goes on until its next chunk is there: it is the next of those that it sends at the given draws.
 use Rattle.std.proofs.Common.{◌≡◌, ℕ, ◌+◌, ◌<◌, ◌≤◌, Bool, true, false, List, ◌++◌, length, Option, Some, None, refl, sym, ap, subst, ◌∙◌, arith}
-use Rattle.hs_check_follow.proofs.Prelude.{ltb-true, ltb-false, IsTrue, nat_lt, slice_get, MatchOption, ClientId, Crumb, Trigger, Draw, ReplayClientIsAt, WentOn, PlainReplayClient, Unleased, Operation, PlainSettings, TimedPagesAreThePages, TimedPagesAreTimely, sends_of, sent_within, AllChunksAreSent, done_behind, SecondPlay, Script, IsSecondPlay, IsFilled, script_way}
+use Rattle.hs_check_follow.proofs.Prelude.{ltb-true, ltb-false, IsTrue, nat_lt, slice_get, MatchOption, ClientId, Crumb, Trigger, Draw, ReplayClientIsAt, WentOn, PlainReplayClient, Unleased, Operation, PlainSettings, TimedPagesAreThePages, TimedPagesAreTimely, sends_of, sent_within, AllChunksAreSent, done_behind, SecondPlay, DrawScript, IsSecondPlay, IsFilled, script_way}
 use Rattle.std.specs.Prelude.{◌↔◌}
 use Rattle.hs_replay_client.specs.Places.{IsChunkAt, TakesCrumb, TakesTrigger}
 use Rattle.hs_check_follow.proofs.Drawing.{sent_there, kinds_more, none_there}
@@ -17,10 +17,10 @@ none_left left done all tells none within = either (nat_lt done all) refl
 module _ (settings : PlainSettings) (client : ClientId) (ops : List Operation) (draws : List Draw) (k : ℕ) (f : SecondPlay) (is : IsSecondPlay settings client ops draws k f) where
   -- ---- one operation more
 
-  abbrev Went : Script → PlainReplayClient → Type 0
+  abbrev Went : DrawScript → PlainReplayClient → Type 0
   Went script player = WentOn script_way settings client ops is.drawn (done_behind 1 is.done ops) k is.l is.m f.script player script
 
-  module _ (script : Script) (player : PlainReplayClient) (went : Went script player) where
+  module _ (script : DrawScript) (player : PlainReplayClient) (went : Went script player) where
     abbrev drawn : List Draw
     drawn = is.drawn ++ went.more
 

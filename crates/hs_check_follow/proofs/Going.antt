@@ -1,6 +1,6 @@
 -- One operation more: where the client stands when it has gone on, and what was taken then.
 use Rattle.std.proofs.Common.{◌≡◌, ℕ, ◌+◌, ◌<◌, ◌≤◌, Bool, false, List, [], ◌++◌, length, map, take, drop, sym, ap, subst, ◌∙◌, arith, length-append}
-use Rattle.hs_check_follow.proofs.Prelude.{append-nil, length-map, IsTrue, replicate, ClientId, Crumb, Trigger, Draw, ReplayClientIsAt, WentOn, PlainReplayClient, pages_of, Operation, PlainSettings, AreBracketed, count_started, has_buffer, drawn_from, TimedPagesAreThePages, TimedPagesAreTimely, ChunksAreInOrder, ClientSends, Sent, sends_of, sent_chunks, sent_within, done_behind, timed_pages, Sheet, Gathering, Keeping, Script, HasChunks, HasItems, IsSentBy, Where, AtChunk, AtCrumb, AtTrigger, chunks_at, crumbs_at, triggers_at, WereChunks, WereCrumbs, WereTriggers, count_within, starts_within, script_way}
+use Rattle.hs_check_follow.proofs.Prelude.{append-nil, length-map, IsTrue, replicate, ClientId, Crumb, Trigger, Draw, ReplayClientIsAt, WentOn, PlainReplayClient, pages_of, Operation, PlainSettings, AreBracketed, count_started, has_buffer, drawn_from, TimedPagesAreThePages, TimedPagesAreTimely, ChunksAreInOrder, ClientSends, Sent, sends_of, sent_chunks, sent_within, done_behind, timed_pages, Sheet, Gathering, Keeping, DrawScript, HasChunks, HasItems, IsSentBy, Where, AtChunk, AtCrumb, AtTrigger, chunks_at, crumbs_at, triggers_at, WereChunks, WereCrumbs, WereTriggers, count_within, starts_within, script_way}
 use Rattle.std.proofs.lemmas.List.{length-take-le, take-append-drop}
 use Rattle.hs_replay_client.specs.Places.{TellsBare}
 use Rattle.hs_law_sends.specs.Drawn.{drawn_pages}
@@ -20,7 +20,7 @@ pub record Sends : Type 0 where
   pub first : FirstOperationsSend
   pub chunks : FirstChunksAreSent
 
-module _ (k : Sends) (settings : PlainSettings) (client : ClientId) (ops : List Operation) (draws : List Draw) (n : ℕ) (script : Script) (player : PlainReplayClient) (g : Gathering)
+module _ (k : Sends) (settings : PlainSettings) (client : ClientId) (ops : List Operation) (draws : List Draw) (n : ℕ) (script : DrawScript) (player : PlainReplayClient) (g : Gathering)
     (s : IsSentBy settings client ops draws n script player g) (low : n < length ops) where
   abbrev size : ℕ
   size = settings.size
@@ -56,7 +56,7 @@ module _ (k : Sends) (settings : PlainSettings) (client : ClientId) (ops : List 
           ap (λ m. sent_within m (sent_chunks (drawn_pages size client ops (s.drawn ++ more)))) (sym long) ∙ ap (λ (all : List Operation). sent_within (length front) (sent_chunks (drawn_pages size client all (s.drawn ++ more)))) (sym whole)
           ∙ k.chunks size client front rest s.drawn more s.at.playable.least same_bracketed drawn_long
 
-  module _ (script' : Script) (player' : PlainReplayClient)
+  module _ (script' : DrawScript) (player' : PlainReplayClient)
       (went :
       WentOn script_way settings client ops s.drawn (done_behind 1 n ops) (count_within n (sends_of settings client ops s.drawn).chunks) (count_within n (sends_of settings client ops s.drawn).crumbs)
       (count_within n (sends_of settings client ops s.drawn).triggers) script player' script') where

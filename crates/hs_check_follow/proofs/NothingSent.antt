@@ -1,5 +1,5 @@
 -- A client that has done nothing has sent nothing, and all its chunks are to be filled.
-use Rattle.hs_check_follow.proofs.Prelude.{le-ltb, ClientId, numbers_of, Draw, ReplayClientIsAt, PlainReplayClient, pages_of, Unleased, Operation, PlainSettings, has_buffer, Sent, sends_of, sent_within, started_within, TimedPage, timed_pages, SecondPlay, Gathering, Script, HavePages, HasChunks, buffer_of, IsSecondPlay, HasItems, IsSentBy, count_within}
+use Rattle.hs_check_follow.proofs.Prelude.{le-ltb, ClientId, numbers_of, Draw, ReplayClientIsAt, PlainReplayClient, pages_of, Unleased, Operation, PlainSettings, has_buffer, Sent, sends_of, sent_within, started_within, TimedPage, timed_pages, SecondPlay, Gathering, DrawScript, HavePages, HasChunks, buffer_of, IsSecondPlay, HasItems, IsSentBy, count_within}
 use Rattle.std.proofs.Common.{◌≡◌, ◌≤◌, arith, List, [], ◌∷◌, length, map, refl, sym, ap, subst, ◌∙◌}
 use Rattle.hs_check_follow.specs.Gathering.{IsNew}
 
@@ -11,7 +11,7 @@ none_started : (pages : List TimedPage) → started_within 0 pages ≡ []
 none_started [] = refl
 none_started (page ∷ pages) = let low : 0 ≤ page.started = omega arith in rw (le-ltb page.started 0 low) (none_started pages)
 
-pub begins_so : (settings : PlainSettings) (client : ClientId) (ops : List Operation) (draws : List Draw) (script : Script) (player : PlainReplayClient) (g : Gathering) → length draws ≡ length (pages_of settings.size ops)
+pub begins_so : (settings : PlainSettings) (client : ClientId) (ops : List Operation) (draws : List Draw) (script : DrawScript) (player : PlainReplayClient) (g : Gathering) → length draws ≡ length (pages_of settings.size ops)
     → script.left.items ≡ draws → script.size ≡ settings.size → ReplayClientIsAt settings client ops [] 0 0 0 0 player → IsNew g → IsSentBy settings client ops draws 0 script player g
 begins_so settings client ops draws script player g each left size at new =
     let sends = sends_of settings client ops [] in

@@ -65,7 +65,7 @@ module _ (go_on : EventsGoOn) (adds : EventsAddThis) (says : StepsSayWhatTheyTel
     abbrev event : AgentEvent
     event = Took (input_of input)
 
-    abbrev pub at_run : agents.Run (Unit {0})
+    abbrev pub at_run : agents.AgentRun (Unit {0})
     at_run = agent_run W.settings run r.stands.agent.buffers
 
     pub takable : MayTakeNext W heard run step → Knows f.agent (λ run. IsTakable (point_of run) input)
@@ -118,7 +118,7 @@ module _ (go_on : EventsGoOn) (adds : EventsAddThis) (says : StepsSayWhatTheyTel
   -- ---- an offer was made
 
   module _ (f : FollowedAgent) (s : FollowedNodeStands W J run run.state.log f) where
-    abbrev pub before : agents.Run (Unit {0})
+    abbrev pub before : agents.AgentRun (Unit {0})
     before = agent_run W.settings run s.agent.buffers
 
     hand_is : (state_of before).hand ≡ run.state.hand

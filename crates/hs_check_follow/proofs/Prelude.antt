@@ -32,7 +32,7 @@ pub use Rattle.hs_check_follow.specs.declared.filling.Filling.{Filling}
 pub use Rattle.hs_check_follow.specs.declared.gathering.Gathering.{Gathering}
 pub use Rattle.hs_check_follow.specs.declared.keeping.Keeping.{Keeping}
 pub use Rattle.hs_check_follow.specs.declared.node.FollowedNode.{FollowedNode}
-pub use Rattle.hs_check_follow.specs.declared.script.Script.{Script}
+pub use Rattle.hs_check_follow.specs.declared.script.DrawScript.{DrawScript}
 pub use Rattle.hs_check_follow.specs.declared.second_play.SecondPlay.{SecondPlay}
 pub use Rattle.hs_client.specs.Calls.{note_of}
 pub use Rattle.hs_coord.specs.Following.{Messages}

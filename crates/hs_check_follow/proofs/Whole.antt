@@ -1,6 +1,6 @@
 -- All operations are done: what was taken is what the client sends at the given draws.
 use Rattle.std.proofs.Common.{◌≡◌, ℕ, ◌+◌, List, [], ◌∷◌, length, map, refl, sym, ap, subst, ◌∙◌, arith}
-use Rattle.hs_check_follow.proofs.Prelude.{ClientId, IsFoundClient, numbers_of, Draw, PlainReplayClient, Operation, PlainSettings, drawn_from, IsTimely, TimedPagesAreThePages, TimedPagesAreTimely, items_of, sends_of, sent_within, AllChunksAreSent, TimedPage, timed_pages, Gathering, Script, KeepsAll, IsSentBy}
+use Rattle.hs_check_follow.proofs.Prelude.{ClientId, IsFoundClient, numbers_of, Draw, PlainReplayClient, Operation, PlainSettings, drawn_from, IsTimely, TimedPagesAreThePages, TimedPagesAreTimely, items_of, sends_of, sent_within, AllChunksAreSent, TimedPage, timed_pages, Gathering, DrawScript, KeepsAll, IsSentBy}
 use Rattle.hs_check_clauses.specs.Finding.{starts_of}
 use Rattle.hs_law_sends.specs.SoFar.{AllCrumbsAreSent, AllTriggersAreSent}
 use Rattle.hs_check_follow.proofs.Drawing.{all_started, in_time, pages_long, same_chunks}
@@ -17,7 +17,7 @@ pub record Ends : Type 0 where
   pub crumbs : AllCrumbsAreSent
   pub triggers : AllTriggersAreSent
 
-module _ (k : Ends) (settings : PlainSettings) (client : ClientId) (ops : List Operation) (draws : List Draw) (script : Script) (player : PlainReplayClient) (g : Gathering)
+module _ (k : Ends) (settings : PlainSettings) (client : ClientId) (ops : List Operation) (draws : List Draw) (script : DrawScript) (player : PlainReplayClient) (g : Gathering)
     (s : IsSentBy settings client ops draws (length ops) script player g) where
   timely : IsTimely 0 (length ops) (timed_pages settings.size ops)
   timely = in_time settings client ops draws s.each s.drawn script s.kinds k.paged k.timely k.chunks _ _ _ player s.at

@@ -15,8 +15,8 @@ use Rattle.hs_words.specs.Chunks.{Contents}
 use Rattle.hs_words.specs.Pages.{Sheet}
 use Rattle.hs_check_follow.specs.Keepings.{HavePages}
 use Rattle.hs_check_follow.specs.declared.filling.Filling.{Filling}
-use Rattle.hs_check_follow.specs.declared.filling.Left.{Left}
-use Rattle.hs_check_follow.specs.declared.filling.Left.TheVariants as lefts
+use Rattle.hs_check_follow.specs.declared.filling.ChunksLeft.{ChunksLeft}
+use Rattle.hs_check_follow.specs.declared.filling.ChunksLeft.TheVariants as lefts
 use Rattle.hs_check_follow.specs.declared.second_play.SecondPlay.{SecondPlay}
 
 -- The first k chunks of the client were filled.
@@ -31,7 +31,7 @@ pub record IsSecondPlay (settings : PlainSettings) (client : ClientId) (ops : Li
   pub at : ReplayClientIsAt settings client ops drawn done k l m f.player
 
 -- All but the first k chunks of the client are left.
-abbrev pub LeftAt : PlainSettings → ClientId → List Operation → List Draw → ℕ → Left → Type 0
+abbrev pub LeftAt : PlainSettings → ClientId → List Operation → List Draw → ℕ → ChunksLeft → Type 0
 LeftAt settings client ops draws k (lefts.Kept chunks) = HavePages settings.size (drop k (sends_of settings client ops draws).chunks) (map buffer_of chunks.items)
 LeftAt settings client ops draws k (lefts.Played play) = IsSecondPlay settings client ops draws k play
 

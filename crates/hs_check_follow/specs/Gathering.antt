@@ -20,7 +20,7 @@ use Rattle.hs_words.specs.Pages.{Sheet}
 use Rattle.hs_check_follow.specs.Keepings.{KeepsAll}
 use Rattle.hs_check_follow.specs.declared.gathering.Gathering.{Gathering}
 use Rattle.hs_check_follow.specs.declared.keeping.Keeping.{Keeping}
-use Rattle.hs_check_follow.specs.declared.script.Script.{Script}
+use Rattle.hs_check_follow.specs.declared.script.DrawScript.{DrawScript}
 
 -- The queue has these items, and their operations are noted.
 pub record HasItems {A : Type 0} (items : List (Sent A)) (queue : List A) (numbers : List ℕ) : Type 0 where
@@ -45,7 +45,7 @@ abbrev pub starts_within : ℕ → List TimedPage → List ℕ
 starts_within n pages = map (λ (page : TimedPage). page.started) (started_within n pages)
 
 -- The first n operations are done, at draws that get a buffer where the given ones do. All that they sent was taken.
-pub record IsSentBy (settings : PlainSettings) (client : ClientId) (ops : List Operation) (draws : List Draw) (n : ℕ) (script : Script) (player : PlainReplayClient) (g : Gathering) : Type 0 where
+pub record IsSentBy (settings : PlainSettings) (client : ClientId) (ops : List Operation) (draws : List Draw) (n : ℕ) (script : DrawScript) (player : PlainReplayClient) (g : Gathering) : Type 0 where
   pub each : length draws ≡ length (pages_of settings.size ops)
   pub drawn : List Draw
   pub kinds : map has_buffer drawn ++ map has_buffer script.left.items ≡ map has_buffer draws
@@ -60,19 +60,19 @@ pub record IsSentBy (settings : PlainSettings) (client : ClientId) (ops : List O
 
 -- All operations are done, and all that they sent was taken.
 abbrev pub AllIsSentBy : PlainSettings → ClientId → List Operation → List Draw → PlainReplayClient → Gathering → Type 0
-AllIsSentBy settings client ops draws player g = (script : Script) × IsSentBy settings client ops draws (length ops) script player g
+AllIsSentBy settings client ops draws player g = (script : DrawScript) × IsSentBy settings client ops draws (length ops) script player g
 
 -- Where these are the rules of the settings' autotriggers.
-abbrev pub WasSent : List AutoRule → List Operation → ℕ → Script → PlainReplayClient → Gathering → Type 0
+abbrev pub WasSent : List AutoRule → List Operation → ℕ → DrawScript → PlainReplayClient → Gathering → Type 0
 WasSent rules ops n script player g = (settings : PlainSettings) × (client : ClientId) × (draws : List Draw) × (rules ≡ settings.autos) × IsSentBy settings client ops draws n script player g
 
 -- one operation more was done
-abbrev pub SendsOneMore : List AutoRule → List Operation → ℕ → Script → PlainReplayClient → Gathering → Script → PlainReplayClient → Gathering → Type 0
+abbrev pub SendsOneMore : List AutoRule → List Operation → ℕ → DrawScript → PlainReplayClient → Gathering → DrawScript → PlainReplayClient → Gathering → Type 0
 SendsOneMore rules ops n script player g script' player' g' =
     (settings : PlainSettings) (client : ClientId) (draws : List Draw) → rules ≡ settings.autos → IsSentBy settings client ops draws n script player g → IsSentBy settings client ops draws (n + 1) script' player' g'
 
 -- the first n operations were done, where none had been
-abbrev pub SendsFirst : List AutoRule → List Operation → (n : ℕ) → Script → PlainReplayClient → Gathering → Script → PlainReplayClient → Gathering → Type 0
+abbrev pub SendsFirst : List AutoRule → List Operation → (n : ℕ) → DrawScript → PlainReplayClient → Gathering → DrawScript → PlainReplayClient → Gathering → Type 0
 SendsFirst rules ops n script player g script' player' g' =
     (settings : PlainSettings) (client : ClientId) (draws : List Draw) → rules ≡ settings.autos → IsSentBy settings client ops draws 0 script player g → IsSentBy settings client ops draws n script' player' g'
 

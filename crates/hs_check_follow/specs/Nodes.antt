@@ -28,7 +28,7 @@ use Rattle.hs_check_follow.specs.Clients.{ClientsStand}
 use Rattle.hs_check_follow.specs.declared.agent.FollowedAgent.{FollowedAgent}
 
 -- the run of the agent at a node's run, where the chunks came in these buffers
-abbrev pub agent_run : PlainSettings → NodeRun → List Unleased → agents.Run (Unit {0})
+abbrev pub agent_run : PlainSettings → NodeRun → List Unleased → agents.AgentRun (Unit {0})
 agent_run settings run buffers = record { settings = settings; node = run.node; start = start settings; events = run.events; buffers = buffers; offered = None; keeps = true }
 
 -- The agent follows the events of the node's run, and each chunk that it took has its page.

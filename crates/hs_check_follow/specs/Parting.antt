@@ -26,4 +26,4 @@ pub record IsFoundOf (t : FollowedNode) (found : FoundNode) : Type 0 where
   pub hands : found.hands ≡ t.hands
   pub said : found.said ≡ t.told
   pub told : found.told ≡ length t.follower.said.items
-  pub pinned : (run : agents.Run (Unit {0})) → agents.Follows t.follower.agent run → found.pinned ≡ length (agents.state_of run).pinned
+  pub pinned : (run : agents.AgentRun (Unit {0})) → agents.Follows t.follower.agent run → found.pinned ≡ length (agents.state_of run).pinned

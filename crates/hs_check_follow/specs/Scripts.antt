@@ -6,7 +6,7 @@ use Rattle.hs_records.specs.declared.journal.Draw.{Draw}
 use Rattle.hs_replay_client.specs.Wells.{Way}
 use Rattle.hs_law_sends.specs.Drawn.{has_buffer}
 use Rattle.hs_words.specs.Chunks.{Contents}
-use Rattle.hs_check_follow.specs.declared.script.Script.{Script}
+use Rattle.hs_check_follow.specs.declared.script.DrawScript.{DrawScript}
 
 pub record IsClearOf (size : ℕ) (chunk : Contents) : Type 0 where
   pub page : chunk.page ≡ None
@@ -17,14 +17,14 @@ abbrev pub FollowsNext : List Draw → Draw → List Draw → Type 0
 FollowsNext [] draw left = left ≡ []
 FollowsNext (next ∷ rest) draw left = (left ≡ rest) × (has_buffer draw ≡ has_buffer next)
 
-pub record DrawsNext (old : Script) (draw : Draw) (new : Script) : Type 0 where
+pub record DrawsNext (old : DrawScript) (draw : Draw) (new : DrawScript) : Type 0 where
   pub size_is : new.size ≡ old.size
   pub next : FollowsNext old.left.items draw new.left.items
 
-pub record MakesSize (script : Script) (size : ℕ) : Type 0 where
+pub record MakesSize (script : DrawScript) (size : ℕ) : Type 0 where
   pub size_is : script.size ≡ size
   pub least : MIN_SIZE ≤ size
   pub most : size ≤ MAX_SIZE
 
-abbrev pub script_way : Way Script
+abbrev pub script_way : Way DrawScript
 script_way = record { ready = λ script size count. MakesSize script size; draws = DrawsNext }

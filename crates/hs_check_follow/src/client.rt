@@ -15,7 +15,7 @@ ghost use Rattle.hs_check_follow.specs.Sendings.{IsFollowedClient, NotesBut};
 use crate::filling::Filling;
 use crate::gathering::Gathering;
 use crate::keeping::may_keep;
-use crate::script::Script;
+use crate::script::DrawScript;
 use hs_base::{ClientId, Crumb, List, Memory, Settings, Trigger};
 use hs_check_clauses::FoundClient;
 use hs_law_sends::laws::{
@@ -68,7 +68,7 @@ fn gather(
     ensures { IfOk result (λ sent. AllIsSentBy (settings_of settings.now) client (map operation_of operations.now) draws.now sent.0 sent.1) }
 {
     let keeps = may_keep(settings.size, operations, draws);
-    let mut script = Script::make(alloc, settings.size, draws)?;
+    let mut script = DrawScript::make(alloc, settings.size, draws)?;
     let mut player = ReplayClient::make(alloc, client, settings, operations)?;
     let mut gathering = Gathering::new(alloc, keeps);
     let rules = settings.autos.as_slice();

@@ -22,12 +22,12 @@ use std::collections::VecDeque;
 #[derive(Drop)]
 pub struct Filling {
     pub(crate) client: ClientId,
-    pub(crate) left: Left,
+    pub(crate) left: ChunksLeft,
 }
 
 /// The chunks themselves where they were kept, or else the client, which fills each when it is asked for.
 #[derive(Drop)]
-pub(crate) enum Left {
+pub(crate) enum ChunksLeft {
     Kept { chunks: VecDeque<Held<()>> },
     Played { play: SecondPlay },
 }
@@ -51,7 +51,7 @@ impl Filling {
         if keeping.keeps {
             return Ok(Filling {
                 client,
-                left: Left::Kept {
+                left: ChunksLeft::Kept {
                     chunks: keeping.chunks,
                 },
             });
@@ -59,7 +59,7 @@ impl Filling {
         let play = SecondPlay::make(alloc, client, settings, operations, draws)?;
         Ok(Filling {
             client,
-            left: Left::Played { play },
+            left: ChunksLeft::Played { play },
         })
     }
 
@@ -81,8 +81,8 @@ impl Filling {
         ensures { IfOk result (λ held. Fills rules.now (map operation_of operations.now) self.old (buffer_in held) self.new) }
     {
         match &mut self.left {
-            Left::Kept { chunks } => Ok(chunks.pop_front()),
-            Left::Played { play } => play.next(rules, operations),
+            ChunksLeft::Kept { chunks } => Ok(chunks.pop_front()),
+            ChunksLeft::Played { play } => play.next(rules, operations),
         }
     }
 }

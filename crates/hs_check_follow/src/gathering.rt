@@ -5,7 +5,7 @@ ghost use Rattle.hs_records.specs.Views.{operation_of};
 ghost use Rattle.hs_check_follow.specs.Gathering.{IsNew, WasSent, SendsFirst, SendsOneMore, WasSentChunks, IsSentChunks, WasSentCrumbs, IsSentCrumbs, WasSentTriggers, IsSentTriggers};
 
 use crate::keeping::Keeping;
-use crate::script::Script;
+use crate::script::DrawScript;
 use hs_base::{AutoRule, Crumb, List, Memory, Trigger};
 use hs_check_clauses::FoundClient;
 use hs_law_sends::laws::{
@@ -53,7 +53,7 @@ impl Gathering {
         &mut self,
         rules: &[AutoRule],
         operations: &[Op],
-        script: &mut Script,
+        script: &mut DrawScript,
         player: &mut ReplayClient,
     ) -> Result<(), Memory>
         requires { WasSent rules.now (map operation_of operations.now) 0 script.old player.old self.old }
@@ -71,7 +71,7 @@ impl Gathering {
         number: usize,
         rules: &[AutoRule],
         operations: &[Op],
-        script: &mut Script,
+        script: &mut DrawScript,
         player: &mut ReplayClient,
     ) -> Result<(), Memory>
         requires number { number < length operations.now }

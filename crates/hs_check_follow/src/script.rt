@@ -14,15 +14,15 @@ use std::collections::VecDeque;
 /// The draws that are still to be made, and what their buffers are made with. Each draw that got a buffer makes a clear one; which
 /// number it has does not matter to what is sent.
 #[derive(Drop)]
-pub(crate) struct Script {
+pub(crate) struct DrawScript {
     pub(crate) alloc: Global,
     pub(crate) size: u32,
     pub(crate) left: VecDeque<Draw>,
 }
 
-impl Script {
+impl DrawScript {
     /// A script of these draws, of which none was made, for buffers of this size in bytes.
-    pub(crate) fn make(alloc: Global, size: u32, draws: &[Draw]) -> Result<Script, Memory>
+    pub(crate) fn make(alloc: Global, size: u32, draws: &[Draw]) -> Result<DrawScript, Memory>
         ensures left { IfOk result (λ script. script.left.items ≡ draws.now) }
         ensures size { IfOk result (λ script. script.size ≡ size) }
     {
@@ -30,11 +30,11 @@ impl Script {
         for draw in draws {
             left.push_back(*draw)?;
         }
-        Ok(Script { alloc, size, left })
+        Ok(DrawScript { alloc, size, left })
     }
 }
 
-impl Well for Script {
+impl Well for DrawScript {
     ghost use Rattle.hs_check_follow.specs.Scripts.{script_way};
 
     ghost way = { script_way };

@@ -8,7 +8,7 @@ ghost use Rattle.hs_words.specs.Buffers.{buffer_in};
 ghost use Rattle.hs_records.specs.Views.{operation_of};
 ghost use Rattle.hs_check_follow.specs.Fillings.{IsSecondPlay, MayPlay, PlaysOn, Plays};
 
-use crate::script::Script;
+use crate::script::DrawScript;
 use hs_base::{AutoRule, ClientId, Memory, Settings};
 use hs_law_sends::laws::{
     all_is_sent_in_the_end, timed_pages_are_the_pages, timed_pages_are_timely,
@@ -22,7 +22,7 @@ use std::alloc::Global;
 /// open then, and what else the last operation sent.
 #[derive(Drop)]
 pub(crate) struct SecondPlay {
-    pub(crate) script: Script,
+    pub(crate) script: DrawScript,
     pub(crate) player: ReplayClient,
 }
 
@@ -39,7 +39,7 @@ impl SecondPlay {
         requires each { length draws.now ≡ length (pages_of settings.now.size (map operation_of operations.now)) }
         ensures { IfOk result (IsSecondPlay (settings_of settings.now) client (map operation_of operations.now) draws.now 0) }
     {
-        let script = Script::make(alloc, settings.size, draws)?;
+        let script = DrawScript::make(alloc, settings.size, draws)?;
         let player = ReplayClient::make(alloc, client, settings, operations)?;
         Ok(SecondPlay { script, player })
     }
@@ -74,7 +74,8 @@ impl SecondPlay {
         ensures plays { OnOk result (PlaysOn rules.now (map operation_of operations.now) self.old self.new) }
     {
         timed_pages_are_the_pages();
-        self.player.play_from(&mut self.script, rules, operations, 1)?;
+        self.player
+            .play_from(&mut self.script, rules, operations, 1)?;
         if self.player.is_bare() {
             return Ok(());
         }

@@ -16,15 +16,15 @@ use Rattle.hs_base.specs.declared.told.Group.{Group}
 use Rattle.hs_base.specs.declared.node_set.NodeSet.{NodeSet}
 use Rattle.hs_base.specs.Ids.{same_trace}
 use Rattle.hs_wire.specs.declared.message.Standing.{Standing}
-use Rattle.hs_claimed.specs.declared.answers.Claim.{Claim}
+use Rattle.hs_claimed.specs.declared.answers.StatedClaim.{StatedClaim}
 use Rattle.hs_claimed.specs.declared.answers.Claimant.{Claimant}
 use Rattle.hs_claimed.specs.Claims.{PlainClaims, no_claims, same_group, is_the, with_other, traces_of, claim_of, claimant, is_known, is_full_for, with_claims, after_claim, with_number, after_spoke, with_name, after_named, is_about, is_news_of, is_news_in, with_said, after_said, without_oldest, after_forget}
 use Rattle.hs_claimed.proofs.Groups.{group_refl, group_same, trace_refl, trace_same, get_both, get_drop, get_same, positioned, or_first, or_second}
-use Rattle.hs_claimed.specs.Lives.{Deed, Claims, Speaks, Names, Says, LooksOn, Forgets, after, claims_after, news_by, latest_news, same_claim, AreKept}
+use Rattle.hs_claimed.specs.Lives.{ClaimDeed, Claims, Speaks, Names, Says, LooksOn, Forgets, after, claims_after, news_by, latest_news, same_claim, AreKept}
 
 -- ---- claims stand group by group
 
-abbrev group_of : Claim → GroupId
+abbrev group_of : StatedClaim → GroupId
 group_of claim = claim.group
 
 abbrev ids_of : Claimant → List GroupId
@@ -43,15 +43,15 @@ any_in (one ∷ groups) i group at =
 abbrev AreTogether : PlainClaims → Type 0
 AreTogether s = map group_of s.claims ≡ flat_map ids_of s.groups
 
-known_at : (s : PlainClaims) → AreTogether s → (place : ℕ) (claim : Claim) → slice_get s.claims place ≡ Some claim → is_known s claim.group ≡ true
+known_at : (s : PlainClaims) → AreTogether s → (place : ℕ) (claim : StatedClaim) → slice_get s.claims place ≡ Some claim → is_known s claim.group ≡ true
 known_at s together place claim at =
     positioned (is_the claim.group) s.groups
     ∙ any_in s.groups place claim.group (ap (λ (ids : List GroupId). slice_get ids place) (sym together) ∙ get_map group_of s.claims place claim at)
 
 -- ---- each claim once
 
-abbrev AreOnce : List Claim → Type 0
-AreOnce claims = (place other : ℕ) (a b : Claim) → slice_get claims place ≡ Some a → slice_get claims other ≡ Some b → same_claim a b ≡ true → place ≡ other
+abbrev AreOnce : List StatedClaim → Type 0
+AreOnce claims = (place other : ℕ) (a b : StatedClaim) → slice_get claims place ≡ Some a → slice_get claims other ≡ Some b → same_claim a b ≡ true → place ≡ other
 
 abbrev AreApart : List TraceId → Type 0
 AreApart traces = (place other : ℕ) (a b : TraceId) → slice_get traces place ≡ Some a → slice_get traces other ≡ Some b → same_trace a b ≡ true → place ≡ other
@@ -102,8 +102,8 @@ traces_apart lead laterals = apart_more lead [] laterals (one_apart lead)
 
 -- ---- a group claims its traces
 
-abbrev SaidBy : (GroupId → TraceId → Option Standing) → List Claim → Type 0
-SaidBy word claims = (place : ℕ) (claim : Claim) → slice_get claims place ≡ Some claim → claim.said ≡ word claim.group claim.trace
+abbrev SaidBy : (GroupId → TraceId → Option Standing) → List StatedClaim → Type 0
+SaidBy word claims = (place : ℕ) (claim : StatedClaim) → slice_get claims place ≡ Some claim → claim.said ≡ word claim.group claim.trace
 
 -- what holds of the claims, where this is what was said last of each
 record Hold (word : GroupId → TraceId → Option Standing) (s : PlainClaims) : Type 0 where
@@ -128,7 +128,7 @@ together_new s group traces together =
 
 -- the claims of a group that is not known
 module _ (s : PlainClaims) (group : GroupId) (traces : List TraceId) (unknown : is_known s group ≡ false) (together : AreTogether s) where
-  other_group : (place : ℕ) (claim : Claim) → slice_get s.claims place ≡ Some claim → same_group claim.group group ≡ false
+  other_group : (place : ℕ) (claim : StatedClaim) → slice_get s.claims place ≡ Some claim → same_group claim.group group ≡ false
   other_group place claim at =
       by_answer (same_group claim.group group)
       (λ y. let known : is_known s group ≡ true = subst (λ (x : GroupId). is_known s x ≡ true) (group_same claim.group group y) (known_at s together place claim at) in
@@ -136,7 +136,7 @@ module _ (s : PlainClaims) (group : GroupId) (traces : List TraceId) (unknown : 
       absurd cc)
       (λ n. n)
 
-  new_claim : (place : ℕ) (claim : Claim) → slice_get (map (claim_of group) traces) place ≡ Some claim → (trace : TraceId) × (slice_get traces place ≡ Some trace) × (claim_of group trace ≡ claim)
+  new_claim : (place : ℕ) (claim : StatedClaim) → slice_get (map (claim_of group) traces) place ≡ Some claim → (trace : TraceId) × (slice_get traces place ≡ Some trace) × (claim_of group trace ≡ claim)
   new_claim place claim at = get_unmap (claim_of group) traces place claim at
 
   once_new : AreApart traces → AreOnce s.claims → AreOnce (s.claims ++ map (claim_of group) traces)
@@ -147,7 +147,7 @@ module _ (s : PlainClaims) (group : GroupId) (traces : List TraceId) (unknown : 
               | inl older ↦ once place other a b old older same
               | inr new ↦
                   let n = new_claim new.place b new.there in
-                  let on : same_group a.group group ≡ true = ap (λ (c : Claim). same_group a.group c.group) n.2 ∙ first_true (same_group a.group b.group) (same_trace a.trace b.trace) same in
+                  let on : same_group a.group group ≡ true = ap (λ (c : StatedClaim). same_group a.group c.group) n.2 ∙ first_true (same_group a.group b.group) (same_trace a.trace b.trace) same in
                   let never : true ≡ false = sym on ∙ other_group place a old in
                   absurd cc
             ]
@@ -156,12 +156,12 @@ module _ (s : PlainClaims) (group : GroupId) (traces : List TraceId) (unknown : 
             elim (get_both s.claims (map (claim_of group) traces) other b second) [
               | inl older ↦
                   let both : a.group ≡ b.group = group_same a.group b.group (first_true (same_group a.group b.group) (same_trace a.trace b.trace) same) in
-                  let on : same_group b.group group ≡ true = ap (λ (x : GroupId). same_group b.group x) (ap (λ (c : Claim). c.group) n.2 ∙ both) ∙ group_refl b.group in
+                  let on : same_group b.group group ≡ true = ap (λ (x : GroupId). same_group b.group x) (ap (λ (c : StatedClaim). c.group) n.2 ∙ both) ∙ group_refl b.group in
                   let never : true ≡ false = sym on ∙ other_group other b older in
                   absurd cc
               | inr newer ↦
                   let m = new_claim newer.place b newer.there in
-                  let on : same_trace n.0 m.0 ≡ true = ap (λ (c : Claim). same_trace c.trace m.0) n.2 ∙ ap (λ (c : Claim). same_trace a.trace c.trace) m.2 ∙ second_true (same_group a.group b.group) (same_trace a.trace b.trace) same in
+                  let on : same_trace n.0 m.0 ≡ true = ap (λ (c : StatedClaim). same_trace c.trace m.0) n.2 ∙ ap (λ (c : StatedClaim). same_trace a.trace c.trace) m.2 ∙ second_true (same_group a.group b.group) (same_trace a.trace b.trace) same in
                   let places = apart new.place newer.place n.0 m.0 n.1 m.1 on in
                   let one = new.is in
                   let two = newer.is in
@@ -182,9 +182,9 @@ module _ (s : PlainClaims) (group : GroupId) (traces : List TraceId) (unknown : 
         | inl old ↦ said_old word said place claim old
         | inr new ↦
             let n = new_claim new.place claim new.there in
-            let none : claim.said ≡ None = ap (λ (c : Claim). c.said) (sym n.2) in
+            let none : claim.said ≡ None = ap (λ (c : StatedClaim). c.said) (sym n.2) in
             let on : (same_group claim.group group && not (is_known s group)) ≡ true =
-            and_from _ _ (ap (λ (c : Claim). same_group c.group group) (sym n.2) ∙ group_refl group) (ap not unknown) in
+            and_from _ _ (ap (λ (c : StatedClaim). same_group c.group group) (sym n.2) ∙ group_refl group) (ap not unknown) in
             none ∙ sym (ap (λ b. if b then None else word claim.group claim.trace) on)
       ]
 
@@ -245,21 +245,21 @@ together_named s group nodes number together = together ∙ sym (same_ids (with_
 abbrev said_again : (GroupId → TraceId → Option Standing) → Bool → Standing → GroupId → TraceId → Option Standing
 said_again word taken standing group trace = if taken && (same_group standing.group group && same_trace standing.trace trace) then Some standing else word group trace
 
-module _ (word : GroupId → TraceId → Option Standing) (s : PlainClaims) (hold : Hold word s) (standing : Standing) (number : ℕ) (claim : Claim) (here : slice_get s.claims s.place ≡ Some claim) (about : is_about standing claim ≡ true) where
-  abbrev spoken : Claim
+module _ (word : GroupId → TraceId → Option Standing) (s : PlainClaims) (hold : Hold word s) (standing : Standing) (number : ℕ) (claim : StatedClaim) (here : slice_get s.claims s.place ≡ Some claim) (about : is_about standing claim ≡ true) where
+  abbrev spoken : StatedClaim
   spoken = record claim { said = Some standing }
 
   -- what stood at a place before
-  record Was (place : ℕ) (x : Claim) : Type 0 where
-    item : Claim
+  record Was (place : ℕ) (x : StatedClaim) : Type 0 where
+    item : StatedClaim
     there : slice_get s.claims place ≡ Some item
     group_is : item.group ≡ x.group
     trace_is : item.trace ≡ x.trace
 
-  was : (place : ℕ) (x : Claim) → slice_get (set s.claims s.place spoken) place ≡ Some x → Was place x
+  was : (place : ℕ) (x : StatedClaim) → slice_get (set s.claims s.place spoken) place ≡ Some x → Was place x
   was place x at =
       elim (get_set_cases s.claims s.place place claim spoken x here at) [
-        | inl h ↦ record { item = claim; there = ap (slice_get s.claims) (sym h.0) ∙ here; group_is = ap (λ (c : Claim). c.group) h.1; trace_is = ap (λ (c : Claim). c.trace) h.1 }
+        | inl h ↦ record { item = claim; there = ap (slice_get s.claims) (sym h.0) ∙ here; group_is = ap (λ (c : StatedClaim). c.group) h.1; trace_is = ap (λ (c : StatedClaim). c.trace) h.1 }
         | inr h ↦ record { item = x; there = h.1; group_is = refl; trace_is = refl }
       ]
 
@@ -275,8 +275,8 @@ module _ (word : GroupId → TraceId → Option Standing) (s : PlainClaims) (hol
   said_said place x at =
       elim (get_set_cases s.claims s.place place claim spoken x here at) [
         | inl h ↦
-            let on : (same_group standing.group x.group && same_trace standing.trace x.trace) ≡ true = ap (λ (c : Claim). same_group standing.group c.group && same_trace standing.trace c.trace) (sym h.1) ∙ about in
-            let now : x.said ≡ Some standing = ap (λ (c : Claim). c.said) (sym h.1) in
+            let on : (same_group standing.group x.group && same_trace standing.trace x.trace) ≡ true = ap (λ (c : StatedClaim). same_group standing.group c.group && same_trace standing.trace c.trace) (sym h.1) ∙ about in
+            let now : x.said ≡ Some standing = ap (λ (c : StatedClaim). c.said) (sym h.1) in
             now ∙ sym (ap (λ b. if b then Some standing else word x.group x.trace) on)
         | inr h ↦
             let off : (same_group standing.group x.group && same_trace standing.trace x.trace) ≡ false =
@@ -303,7 +303,7 @@ says_any word s standing number hold = at (slice_get s.claims s.place) refl
     same : Hold (said_again word false standing) s
     same = record { together = hold.together; once = hold.once; said = hold.said }
 
-    taken : (claim : Claim) → slice_get s.claims s.place ≡ Some claim → (b : Bool) → is_news_of standing claim ≡ b
+    taken : (claim : StatedClaim) → slice_get s.claims s.place ≡ Some claim → (b : Bool) → is_news_of standing claim ≡ b
         → Hold (said_again word b standing) (if b then after_spoke (with_said s standing claim) standing.group number else s)
     taken claim here true news =
         let about = first_true (is_about standing claim) _ news in
@@ -314,7 +314,7 @@ says_any word s standing number hold = at (slice_get s.claims s.place) refl
         }
     taken claim here false news = same
 
-    at : (o : Option Claim) → slice_get s.claims s.place ≡ o
+    at : (o : Option StatedClaim) → slice_get s.claims s.place ≡ o
         → Hold (said_again word (option_map_or (is_news_of standing) o false) standing)
         (option_map_or (λ claim. if is_news_of standing claim then after_spoke (with_said s standing claim) standing.group number else s) o s)
     at None is = same
@@ -351,7 +351,7 @@ none_hold most = record {
   said = λ place claim found. (let never : None ≡ Some claim = found in absurd cc);
 }
 
-by_deed : (word : GroupId → TraceId → Option Standing) (s : PlainClaims) (deed : Deed) → Hold word s → Hold (λ group trace. news_by s group trace deed (word group trace)) (after s deed)
+by_deed : (word : GroupId → TraceId → Option Standing) (s : PlainClaims) (deed : ClaimDeed) → Hold word s → Hold (λ group trace. news_by s group trace deed (word group trace)) (after s deed)
 by_deed word s (Claims group laterals) hold = claims_any word s group laterals hold
 by_deed word s (Speaks group number) hold = record { together = together_spoke s group number hold.together; once = hold.once; said = hold.said }
 by_deed word s (Names group nodes number) hold = record { together = together_named s group nodes number hold.together; once = hold.once; said = hold.said }
@@ -359,11 +359,11 @@ by_deed word s (Says standing number) hold = says_any word s standing number hol
 by_deed word s LooksOn hold = record { together = hold.together; once = hold.once; said = hold.said }
 by_deed word s Forgets hold = forgets_any word s hold
 
-all_hold : (most : ℕ) (deeds : List Deed) → Hold (λ group trace. latest_news most group trace deeds) (claims_after most deeds)
+all_hold : (most : ℕ) (deeds : List ClaimDeed) → Hold (λ group trace. latest_news most group trace deeds) (claims_after most deeds)
 all_hold most [] = none_hold most
 all_hold most (deed ∷ deeds) = by_deed (λ group trace. latest_news most group trace deeds) (claims_after most deeds) deed (all_hold most deeds)
 
-pub are_kept : (most : ℕ) (deeds : List Deed) → AreKept most deeds
+pub are_kept : (most : ℕ) (deeds : List ClaimDeed) → AreKept most deeds
 are_kept most deeds =
     let hold = all_hold most deeds in
     record { said = hold.said; once = hold.once; known = known_at (claims_after most deeds) hold.together }

@@ -6,7 +6,7 @@ use Rattle.std.proofs.lemmas.List.{length_push}
 use Rattle.hs_base.specs.declared.ids.TraceId.{TraceId}
 use Rattle.hs_base.specs.Ids.{same_trace}
 use Rattle.hs_base.specs.declared.told.Group.{Group}
-use Rattle.hs_claimed.specs.declared.answers.Claiming.TheVariants.{Claimed, Known, Full}
+use Rattle.hs_claimed.specs.declared.answers.ClaimOutcome.TheVariants.{Claimed, Known, Full}
 use Rattle.hs_claimed.specs.Claims.{PlainClaims, with_other, is_known, is_full_for, answer_to_claim, after_claim, with_claims}
 
 pub others_longer : (lead : TraceId) (others : List TraceId) (trace : TraceId) → length (with_other lead others trace) ≤ length others + 1

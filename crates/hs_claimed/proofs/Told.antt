@@ -13,11 +13,11 @@ use Rattle.hs_base.specs.declared.node_set.NodeSet.{NodeSet}
 use Rattle.hs_base.specs.declared.told.Group.{Group}
 use Rattle.hs_base.specs.NodeSets.{no_nodes, either}
 use Rattle.hs_wire.specs.declared.message.Standing.{Standing}
-use Rattle.hs_claimed.specs.declared.answers.Claim.{Claim}
+use Rattle.hs_claimed.specs.declared.answers.StatedClaim.{StatedClaim}
 use Rattle.hs_claimed.specs.declared.answers.Claimant.{Claimant}
 use Rattle.hs_claimed.specs.ClaimsLayout.{AreDistinct}
 use Rattle.hs_claimed.specs.Claims.{PlainClaims, same_group, is_the, traces_of, claimant, is_known, is_full_for, with_claims, after_claim, with_number, noted_at, after_spoke, with_name, named_at, after_named, is_news_of, with_said, after_said, without_oldest, after_forget}
-use Rattle.hs_claimed.specs.Lives.{Deed, Claims, Speaks, Names, Says, LooksOn, Forgets, after, claims_after, names_by, named_since, AreTold}
+use Rattle.hs_claimed.specs.Lives.{ClaimDeed, Claims, Speaks, Names, Says, LooksOn, Forgets, after, claims_after, names_by, named_since, AreTold}
 use Rattle.hs_claimed.proofs.Groups.{group_refl, group_same, get_drop, positioned, none_distinct, not_at, push_distinct, drop_distinct, set_distinct}
 
 -- what holds of the groups, where these are the nodes that messages named for each
@@ -136,11 +136,11 @@ named word groups group nodes number hold = found (position (is_the group) group
 says_any : (word : GroupId → NodeSet) (s : PlainClaims) (standing : Standing) (number : ℕ) → Hold word s.groups → Hold word (after_said s standing number).groups
 says_any word s standing number hold = at (slice_get s.claims s.place)
   where
-    taken : (claim : Claim) (b : Bool) → Hold word (if b then after_spoke (with_said s standing claim) standing.group number else s).groups
+    taken : (claim : StatedClaim) (b : Bool) → Hold word (if b then after_spoke (with_said s standing claim) standing.group number else s).groups
     taken claim true = spoken word s.groups number (position (is_the standing.group) s.groups) hold
     taken claim false = hold
 
-    at : (o : Option Claim) → Hold word (option_map_or (λ claim. if is_news_of standing claim then after_spoke (with_said s standing claim) standing.group number else s) o s).groups
+    at : (o : Option StatedClaim) → Hold word (option_map_or (λ claim. if is_news_of standing claim then after_spoke (with_said s standing claim) standing.group number else s) o s).groups
     at None = hold
     at (Some claim) = taken claim (is_news_of standing claim)
 
@@ -158,7 +158,7 @@ forgets_any word s hold = at (slice_get s.groups 0)
 
 -- ---- and any deeds
 
-by_deed : (word : GroupId → NodeSet) (s : PlainClaims) (deed : Deed) → Hold word s.groups → Hold (λ group. names_by s group deed (word group)) (after s deed).groups
+by_deed : (word : GroupId → NodeSet) (s : PlainClaims) (deed : ClaimDeed) → Hold word s.groups → Hold (λ group. names_by s group deed (word group)) (after s deed).groups
 by_deed word s (Claims group laterals) hold = claims_any word s group laterals hold
 by_deed word s (Speaks group number) hold = spoken word s.groups number (position (is_the group) s.groups) hold
 by_deed word s (Names group nodes number) hold = named word s.groups group nodes number hold
@@ -166,9 +166,9 @@ by_deed word s (Says standing number) hold = says_any word s standing number hol
 by_deed word s LooksOn hold = hold
 by_deed word s Forgets hold = forgets_any word s hold
 
-all_hold : (most : ℕ) (deeds : List Deed) → Hold (λ group. named_since most group deeds) (claims_after most deeds).groups
+all_hold : (most : ℕ) (deeds : List ClaimDeed) → Hold (λ group. named_since most group deeds) (claims_after most deeds).groups
 all_hold most [] = record { distinct = none_distinct; told = λ place one is. (let never : None ≡ Some one = is in absurd cc) }
 all_hold most (deed ∷ deeds) = by_deed (λ group. named_since most group deeds) (claims_after most deeds) deed (all_hold most deeds)
 
-pub are_told : (most : ℕ) (deeds : List Deed) → AreTold most deeds
+pub are_told : (most : ℕ) (deeds : List ClaimDeed) → AreTold most deeds
 are_told most deeds = (all_hold most deeds).told

@@ -12,17 +12,17 @@ use Rattle.hs_base.specs.Ids.{same_trace}
 use Rattle.hs_base.specs.Samples.{t}
 use Rattle.hs_wire.specs.declared.message.Standing.{Standing}
 use Rattle.hs_wire.specs.declared.message.Wholeness.TheVariants.{WholeSince, UnheardSince}
-use Rattle.hs_claimed.specs.declared.answers.Claim.{Claim}
+use Rattle.hs_claimed.specs.declared.answers.StatedClaim.{StatedClaim}
 use Rattle.hs_claimed.specs.declared.answers.Claimant.{Claimant}
-use Rattle.hs_claimed.specs.declared.answers.Claiming.{Claiming}
-use Rattle.hs_claimed.specs.declared.answers.Claiming.TheVariants.{Claimed, Known, Full}
+use Rattle.hs_claimed.specs.declared.answers.ClaimOutcome.{ClaimOutcome}
+use Rattle.hs_claimed.specs.declared.answers.ClaimOutcome.TheVariants.{Claimed, Known, Full}
 use Rattle.hs_claimed.specs.News.{is_news, word}
 
 pub record PlainClaims : Type 0 where
   -- the most claims
   pub most : ℕ
   -- the oldest first
-  pub claims : List Claim
+  pub claims : List StatedClaim
   -- the one that claimed first in front
   pub groups : List Claimant
   -- the claim that is looked at, by its place
@@ -35,7 +35,7 @@ no_claims most = record { most = most; claims = []; groups = []; place = 0 }
 abbrev pub same_group : GroupId → GroupId → Bool
 same_group a b = a.node == b.node && a.number == b.number
 
-abbrev pub is_of : GroupId → Claim → Bool
+abbrev pub is_of : GroupId → StatedClaim → Bool
 is_of group claim = same_group group claim.group
 
 abbrev pub is_the : GroupId → Claimant → Bool
@@ -54,7 +54,7 @@ others lead laterals = fold (with_other lead) [] laterals
 abbrev pub traces_of : TraceId → List TraceId → List TraceId
 traces_of lead laterals = lead ∷ others lead laterals
 
-abbrev pub claim_of : GroupId → TraceId → Claim
+abbrev pub claim_of : GroupId → TraceId → StatedClaim
 claim_of group trace = record { group = group; trace = trace; said = None }
 
 -- a group with so many traces, of which no message speaks
@@ -68,7 +68,7 @@ is_known s group = is_some (position (is_the group) s.groups)
 abbrev pub is_full_for : PlainClaims → List TraceId → Bool
 is_full_for s traces = nat_lt s.most (length s.claims + length traces) || nat_le s.most (length s.groups)
 
-abbrev pub answer_to_claim : PlainClaims → Group → List TraceId → Claiming
+abbrev pub answer_to_claim : PlainClaims → Group → List TraceId → ClaimOutcome
 answer_to_claim s group traces = if is_known s group.id then Known else if is_full_for s traces then Full else Claimed
 
 -- each trace is claimed, or none
@@ -111,11 +111,11 @@ abbrev pub told_by : PlainClaims → GroupId → NodeSet
 told_by s group = option_map_or (told_at s.groups) (place_of s group) no_nodes
 
 -- these nodes, and those that messages named for a claim of the trace
-abbrev pub with_told : PlainClaims → TraceId → NodeSet → Claim → NodeSet
+abbrev pub with_told : PlainClaims → TraceId → NodeSet → StatedClaim → NodeSet
 with_told s trace nodes claim = if same_trace trace claim.trace then either nodes (told_by s claim.group) else nodes
 
 -- the nodes that messages named which speak of a group that claims the trace
-abbrev pub told_in : PlainClaims → TraceId → List Claim → NodeSet
+abbrev pub told_in : PlainClaims → TraceId → List StatedClaim → NodeSet
 told_in s trace claims = fold (with_told s trace) no_nodes claims
 
 abbrev pub told_for : PlainClaims → TraceId → NodeSet
@@ -123,21 +123,21 @@ told_for s trace = told_in s trace s.claims
 
 -- ---- the claim that is looked at
 
-abbrev pub current : PlainClaims → Option Claim
+abbrev pub current : PlainClaims → Option StatedClaim
 current s = slice_get s.claims s.place
 
 -- whether a standing is of this claim, and news of it
-abbrev pub is_about : Standing → Claim → Bool
+abbrev pub is_about : Standing → StatedClaim → Bool
 is_about standing claim = same_group standing.group claim.group && same_trace standing.trace claim.trace
 
-abbrev pub is_news_of : Standing → Claim → Bool
+abbrev pub is_news_of : Standing → StatedClaim → Bool
 is_news_of standing claim = is_about standing claim && is_news claim.said standing
 
 -- whether it is news of the claim that is looked at
 abbrev pub is_news_in : PlainClaims → Standing → Bool
 is_news_in s standing = option_map_or (is_news_of standing) (current s) false
 
-abbrev pub with_said : PlainClaims → Standing → Claim → PlainClaims
+abbrev pub with_said : PlainClaims → Standing → StatedClaim → PlainClaims
 with_said s standing claim = record s { claims = slice_set s.claims s.place (record claim { said = Some standing }) }
 
 -- it was said by the message of this number

@@ -9,20 +9,20 @@ use Rattle.hs_base.specs.Ids.{same_trace}
 use Rattle.hs_base.specs.Samples.{t}
 use Rattle.hs_wire.specs.declared.message.Standing.{Standing}
 use Rattle.hs_wire.specs.declared.message.Wholeness.TheVariants.{WholeSince, UnheardSince}
-use Rattle.hs_claimed.specs.declared.answers.Claim.{Claim}
+use Rattle.hs_claimed.specs.declared.answers.StatedClaim.{StatedClaim}
 use Rattle.hs_claimed.specs.declared.answers.Claimant.{Claimant}
 use Rattle.hs_claimed.specs.News.{word}
 use Rattle.hs_claimed.specs.Claims.{PlainClaims, no_claims, same_group, traces_of, is_known, after_claim, after_spoke, after_named, is_news_in, after_said, advanced, after_forget, g, led}
 
-pub data Deed : Type 0 where
-  Claims : (group : Group) → (laterals : List TraceId) → Deed
-  Speaks : (group : GroupId) → (number : ℕ) → Deed
-  Names : (group : GroupId) → (nodes : NodeSet) → (number : ℕ) → Deed
-  Says : (standing : Standing) → (number : ℕ) → Deed
-  LooksOn : Deed
-  Forgets : Deed
+pub data ClaimDeed : Type 0 where
+  Claims : (group : Group) → (laterals : List TraceId) → ClaimDeed
+  Speaks : (group : GroupId) → (number : ℕ) → ClaimDeed
+  Names : (group : GroupId) → (nodes : NodeSet) → (number : ℕ) → ClaimDeed
+  Says : (standing : Standing) → (number : ℕ) → ClaimDeed
+  LooksOn : ClaimDeed
+  Forgets : ClaimDeed
 
-abbrev pub after : PlainClaims → Deed → PlainClaims
+abbrev pub after : PlainClaims → ClaimDeed → PlainClaims
 after s (Claims group laterals) = after_claim s group (traces_of group.lead laterals)
 after s (Speaks group number) = after_spoke s group number
 after s (Names group nodes number) = after_named s group nodes number
@@ -31,12 +31,12 @@ after s LooksOn = advanced s
 after s Forgets = after_forget s
 
 -- the claims after these deeds
-abbrev pub claims_after : ℕ → List Deed → PlainClaims
+abbrev pub claims_after : ℕ → List ClaimDeed → PlainClaims
 claims_after most [] = no_claims most
 claims_after most (deed ∷ deeds) = after (claims_after most deeds) deed
 
 -- what was said last of a trace and a group behind a deed, where this was before it: nothing behind a new claim
-abbrev pub news_by : PlainClaims → GroupId → TraceId → Deed → Option Standing → Option Standing
+abbrev pub news_by : PlainClaims → GroupId → TraceId → ClaimDeed → Option Standing → Option Standing
 news_by s group trace (Claims other laterals) before = if same_group group other.id && not (is_known s other.id) then None else before
 news_by s group trace (Speaks other number) before = before
 news_by s group trace (Names other nodes number) before = before
@@ -45,12 +45,12 @@ news_by s group trace LooksOn before = before
 news_by s group trace Forgets before = before
 
 -- the latest standing of a trace and a group that was news and was said, since the group claimed
-abbrev pub latest_news : ℕ → GroupId → TraceId → List Deed → Option Standing
+abbrev pub latest_news : ℕ → GroupId → TraceId → List ClaimDeed → Option Standing
 latest_news most group trace [] = None
 latest_news most group trace (deed ∷ deeds) = news_by (claims_after most deeds) group trace deed (latest_news most group trace deeds)
 
 -- the nodes that messages named for a group behind a deed, where these were before it: none behind its new claim
-abbrev pub names_by : PlainClaims → GroupId → Deed → NodeSet → NodeSet
+abbrev pub names_by : PlainClaims → GroupId → ClaimDeed → NodeSet → NodeSet
 names_by s group (Claims other laterals) before = if same_group other.id group && not (is_known s other.id) then no_nodes else before
 names_by s group (Speaks other number) before = before
 names_by s group (Names other nodes number) before = if same_group other group then either before nodes else before
@@ -59,25 +59,25 @@ names_by s group LooksOn before = before
 names_by s group Forgets before = before
 
 -- the nodes that messages named for a group since it claimed
-abbrev pub named_since : ℕ → GroupId → List Deed → NodeSet
+abbrev pub named_since : ℕ → GroupId → List ClaimDeed → NodeSet
 named_since most group [] = no_nodes
 named_since most group (deed ∷ deeds) = names_by (claims_after most deeds) group deed (named_since most group deeds)
 
 -- whether two claims are of one group and trace
-abbrev pub same_claim : Claim → Claim → Bool
+abbrev pub same_claim : StatedClaim → StatedClaim → Bool
 same_claim a b = same_group a.group b.group && same_trace a.trace b.trace
 
 -- What holds of the claims after these deeds.
-pub record AreKept (most : ℕ) (deeds : List Deed) : Type 0 where
+pub record AreKept (most : ℕ) (deeds : List ClaimDeed) : Type 0 where
   -- what was said last of each is its latest news
-  pub said : (place : ℕ) (claim : Claim) → slice_get (claims_after most deeds).claims place ≡ Some claim → claim.said ≡ latest_news most claim.group claim.trace deeds
+  pub said : (place : ℕ) (claim : StatedClaim) → slice_get (claims_after most deeds).claims place ≡ Some claim → claim.said ≡ latest_news most claim.group claim.trace deeds
   -- a group claims a trace once
-  pub once : (place other : ℕ) (a b : Claim) → slice_get (claims_after most deeds).claims place ≡ Some a → slice_get (claims_after most deeds).claims other ≡ Some b → same_claim a b ≡ true → place ≡ other
+  pub once : (place other : ℕ) (a b : StatedClaim) → slice_get (claims_after most deeds).claims place ≡ Some a → slice_get (claims_after most deeds).claims other ≡ Some b → same_claim a b ≡ true → place ≡ other
   -- the group of each is known, so it is forgotten with its claims
-  pub known : (place : ℕ) (claim : Claim) → slice_get (claims_after most deeds).claims place ≡ Some claim → is_known (claims_after most deeds) claim.group ≡ true
+  pub known : (place : ℕ) (claim : StatedClaim) → slice_get (claims_after most deeds).claims place ≡ Some claim → is_known (claims_after most deeds) claim.group ≡ true
 
 -- What is kept of each group of what messages named is all that they named since it claimed.
-abbrev pub AreTold : ℕ → List Deed → Type 0
+abbrev pub AreTold : ℕ → List ClaimDeed → Type 0
 AreTold most deeds = (place : ℕ) (one : Claimant) → slice_get (claims_after most deeds).groups place ≡ Some one → one.told ≡ named_since most one.group.id deeds
 
 -- so many steps on
@@ -93,7 +93,7 @@ pub record ComesRound (s : PlainClaims) (place : ℕ) : Type 0 where
 
 -- ---- worked examples: group 7 claims trace 9
 
-abbrev life : List Deed
+abbrev life : List ClaimDeed
 life = Says (word WholeSince 6 1) 5 ∷ Says (word UnheardSince 2 0) 4 ∷ Says (word UnheardSince 0 0) 3 ∷ Claims (led 7 9) [] ∷ []
 
 -- the second word was no news
@@ -101,7 +101,7 @@ latest : (latest_news 4 (g 7) (t 9) life ≡ Some (word WholeSince 6 1)) × (lat
 latest = (refl, refl)
 
 -- messages named node 0 and node 2 for group 7, and none since it claimed anew
-abbrev names : List Deed
+abbrev names : List ClaimDeed
 names = Names (g 7) (record { 0 = 4 }) 7 ∷ Names (g 5) (record { 0 = 2 }) 6 ∷ Names (g 7) (record { 0 = 1 }) 5 ∷ Claims (led 7 9) [] ∷ []
 
 since_it_claimed : (named_since 4 (g 7) names ≡ record { 0 = 5 }) × (named_since 4 (g 7) (Claims (led 7 9) [] ∷ Forgets ∷ names) ≡ no_nodes) × (named_since 4 (g 7) (Claims (led 7 9) [] ∷ names) ≡ record { 0 = 5 })

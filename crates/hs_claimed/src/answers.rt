@@ -5,7 +5,7 @@ use hs_wire::Standing;
 
 /// A trace that a group claims, with the standing that was said of it last, if one was.
 #[derive(Clone, Copy, Debug, PartialEq, Eq)]
-pub struct Claim {
+pub struct StatedClaim {
     pub group: GroupId,
     pub trace: TraceId,
     pub said: Option<Standing>,
@@ -23,7 +23,7 @@ pub struct Claimant {
 
 /// What became of a group that claims traces.
 #[derive(Clone, Copy, Debug, PartialEq, Eq)]
-pub enum Claiming {
+pub enum ClaimOutcome {
     /// Each of its traces is claimed from now on.
     Claimed,
     /// It claims some already.

@@ -7,10 +7,10 @@ ghost use Rattle.std.specs.Option.{option_map_or};
 ghost use Rattle.std.specs.VecDeque.{deque_len, deque_capacity};
 ghost use Rattle.hs_base.specs.Ids.{same_trace};
 ghost use Rattle.hs_base.specs.declared.ids.TraceId.{TraceId};
-ghost use Rattle.hs_claimed.specs.declared.answers.Claim.{Claim};
+ghost use Rattle.hs_claimed.specs.declared.answers.StatedClaim.{StatedClaim};
 ghost use Rattle.hs_claimed.specs.Claims.{PlainClaims, no_claims, is_of, is_the, with_other, others, traces_of, claim_of, is_known, is_full_for, answer_to_claim, with_claims, after_claim, place_of, with_number, noted_at, after_spoke, with_name, named_at, after_named, told_by, with_told, told_in, told_for, current, is_about, is_news_of, is_news_in, with_said, after_said, advanced, oldest, is_above, claimant, without_oldest, after_forget};
 
-use crate::answers::{Claim, Claimant, Claiming};
+use crate::answers::{ClaimOutcome, Claimant, StatedClaim};
 use crate::news::is_news;
 use hs_base::{Group, GroupId, Laterals, Memory, NodeSet, TraceId};
 use hs_wire::Standing;
@@ -23,7 +23,7 @@ use std::marker::Model;
 #[derive(Drop)]
 pub struct ClaimedTraces {
     most: u32,
-    claims: VecDeque<Claim>,
+    claims: VecDeque<StatedClaim>,
     groups: VecDeque<Claimant>,
     place: usize,
     /// How many groups were forgotten, and for groups of one slot how many claimed before the latest of them. It is a hint: where it
@@ -81,7 +81,7 @@ fn others_of(lead: TraceId, laterals: &Laterals) -> Laterals
 }
 
 /// Adds a claim of each of these traces.
-fn push_claims(claims: &mut VecDeque<Claim>, group: GroupId, traces: &Laterals)
+fn push_claims(claims: &mut VecDeque<StatedClaim>, group: GroupId, traces: &Laterals)
     requires { deque_len claims.old + length traces.now ≤ deque_capacity claims.old }
     ensures items { claims.new.items ≡ claims.old.items ++ map (claim_of group) traces.now }
     ensures few { length claims.new.items ≤ length claims.old.items + length traces.now }
@@ -91,12 +91,12 @@ fn push_claims(claims: &mut VecDeque<Claim>, group: GroupId, traces: &Laterals)
         let Some(trace) = traces.get(place) else {
             break;
         };
-        claims.push_back_reserved(Claim::new(group, trace));
+        claims.push_back_reserved(StatedClaim::new(group, trace));
     }
 }
 
 /// Takes so many claims out in front, or all.
-fn pop_claims(claims: &mut VecDeque<Claim>, count: u32)
+fn pop_claims(claims: &mut VecDeque<StatedClaim>, count: u32)
     ensures items { claims.new.items ≡ drop count claims.old.items }
     ensures few { length claims.new.items ≤ length claims.old.items }
     ensures capacity { deque_capacity claims.new ≡ deque_capacity claims.old }
@@ -205,26 +205,26 @@ impl ClaimedTraces {
     {
         self.set_hint(group.id);
         self.claims
-            .push_back_reserved(Claim::new(group.id, group.lead));
+            .push_back_reserved(StatedClaim::new(group.id, group.lead));
         push_claims(&mut self.claims, group.id, others);
         self.groups
             .push_back_reserved(Claimant::new(group, others.len() + 1));
     }
 
     /// A group claims its lead and its laterals, each once. After `Known`, and after `Full`, nothing has changed.
-    pub fn claim(&mut self, group: Group, laterals: &Laterals) -> Claiming
+    pub fn claim(&mut self, group: Group, laterals: &Laterals) -> ClaimOutcome
         ensures answer { result ≡ answer_to_claim self.old group (traces_of group.lead laterals.now) }
         ensures after { self.new ≡ after_claim self.old group (traces_of group.lead laterals.now) }
     {
         if self.is_known(group.id) {
-            return Claiming::Known;
+            return ClaimOutcome::Known;
         }
         let others = others_of(group.lead, laterals);
         if self.is_full_for(&others) {
-            return Claiming::Full;
+            return ClaimOutcome::Full;
         }
         self.enter(group, &others);
-        Claiming::Claimed
+        ClaimOutcome::Claimed
     }
 
     /// Notes the number of a message that speaks of a group, and answers whether it is known. Otherwise nothing changes.
@@ -267,7 +267,7 @@ impl ClaimedTraces {
     }
 
     /// The nodes with those that messages named for a claim, where it is of the trace.
-    fn with_told(&self, trace: TraceId, nodes: NodeSet, claim: &Claim) -> NodeSet
+    fn with_told(&self, trace: TraceId, nodes: NodeSet, claim: &StatedClaim) -> NodeSet
         ensures { result ≡ with_told self.now trace nodes claim.now }
     {
         if trace == claim.trace {
@@ -289,7 +289,7 @@ impl ClaimedTraces {
     }
 
     /// The claim that is looked at, if there is one.
-    pub fn current(&self) -> Option<&Claim>
+    pub fn current(&self) -> Option<&StatedClaim>
         ensures { option_copied result ≡ current self.now }
     {
         self.claims.get(self.place)
@@ -355,12 +355,12 @@ impl ClaimedTraces {
     }
 }
 
-impl Claim {
+impl StatedClaim {
     /// A claim of which nothing was said.
-    fn new(group: GroupId, trace: TraceId) -> Claim
+    fn new(group: GroupId, trace: TraceId) -> StatedClaim
         ensures { result ≡ claim_of group trace }
     {
-        Claim {
+        StatedClaim {
             group,
             trace,
             said: None,

@@ -4,16 +4,16 @@ ghost use Rattle.std.specs.Prelude.{◌≡◌, ◌<◌, ℕ, List, length, true}
 ghost use Rattle.hs_wire.specs.declared.message.Standing.{Standing};
 ghost use Rattle.hs_claimed.specs.News.{same_word};
 ghost use Rattle.hs_claimed.specs.Claims.{PlainClaims};
-ghost use Rattle.hs_claimed.specs.Lives.{Deed, AreKept, AreTold, ComesRound};
+ghost use Rattle.hs_claimed.specs.Lives.{ClaimDeed, AreKept, AreTold, ComesRound};
 
 /// Whatever calls there were, in any order: what was said last of each claim is the latest standing of it that was news.
 pub fn what_was_said_last_is_the_latest_news()
-    ensures kept { (most : ℕ) (deeds : List Deed) → AreKept most deeds }
+    ensures kept { (most : ℕ) (deeds : List ClaimDeed) → AreKept most deeds }
 {}
 
 /// Whatever calls there were, in any order: what is kept of a group of the nodes that messages named is all that they named since it claimed.
 pub fn what_was_told_was_named()
-    ensures told { (most : ℕ) (deeds : List Deed) → AreTold most deeds }
+    ensures told { (most : ℕ) (deeds : List ClaimDeed) → AreTold most deeds }
 {}
 
 /// Each claim is looked at before a round is over.

@@ -6,7 +6,7 @@ mod claims;
 mod laws;
 mod news;
 
-pub use answers::{Claim, Claimant, Claiming};
+pub use answers::{ClaimOutcome, Claimant, StatedClaim};
 pub use claims::ClaimedTraces;
 pub use laws::{
     a_horizon_alone_is_no_news, each_claim_is_looked_at, what_was_said_last_is_the_latest_news,

@@ -15,10 +15,10 @@ use Rattle.clap.specs.declared.builder.action.ArgAction.TheVariants.{SetTrue}
 use Rattle.clap.proofs.OnLiterals.{clap_on_literals}
 use Rattle.hs_cli.specs.declared.command.Command.{Command}
 use Rattle.hs_cli.specs.declared.command.Command.TheVariants.{Replay, Run, Watch, Convert, Make, Drill, Check, Compare}
-use Rattle.hs_cli.specs.declared.command.Line as told
+use Rattle.hs_cli.specs.declared.command.CommandLine as told
 
 -- the words of a call, told apart
-pub record Line : Type 0 where
+pub record CommandLine : Type 0 where
   pub command : Text
   pub seed : Option Text
   pub size : Option Text
@@ -26,7 +26,7 @@ pub record Line : Type 0 where
   pub json : Bool
   pub watch : Bool
 
-abbrev pub line_in : told.Line → Line
+abbrev pub line_in : told.CommandLine → CommandLine
 line_in line = record { command = line.command.now; seed = option_map (λ word. word.now) line.seed; size = option_map (λ word. word.now) line.size; json = line.json; watch = line.watch }
 
 -- ---- the table, a row a command
@@ -44,36 +44,36 @@ abbrev pub size_of : Text → Option ℕ
 size_of word = number_within MAX_REQUESTS word
 
 -- whether the line has nothing but a command and the flag `--json`
-abbrev pub is_alone : Line → Bool
+abbrev pub is_alone : CommandLine → Bool
 is_alone line = not (is_some line.seed) && (not (is_some line.size) && not line.watch)
 
 -- the form of the output that the line asks for
-abbrev pub form_in : Line → Option Form
+abbrev pub form_in : CommandLine → Option Form
 form_in line = if is_alone line then Some (if line.json then Json else Lines) else None
 
 -- the seed and the size, if the line has these and no flag
-abbrev pub sizes_in : Line → Option (ℕ × ℕ)
+abbrev pub sizes_in : CommandLine → Option (ℕ × ℕ)
 sizes_in line =
     if line.json || line.watch then None else
     option_and_then (λ seed. option_map (λ size. (seed, size)) (option_and_then size_of line.size)) (option_and_then seed_of line.seed)
 
 -- one trace in so many, and the room of a ring, in the places of the seed and the size, if the line has these and no flag
-abbrev pub samplers_in : Line → Option (ℕ × ℕ)
+abbrev pub samplers_in : CommandLine → Option (ℕ × ℕ)
 samplers_in line =
     if line.json || line.watch then None else
     option_and_then (λ one_in. option_map (λ room. (one_in, room)) (option_and_then (number_within MAX_ROOM) line.size)) (option_and_then (number_within MAX_ONE_IN) line.seed)
 
 -- this command, where the line has nothing but its word
-abbrev pub alone : Line → Command → Option Command
+abbrev pub alone : CommandLine → Command → Option Command
 alone line command = if is_alone line && not line.json then Some command else None
 
 -- what the line asks of `run`: with the flag `--watch`, and then with nothing else, that it be watched, or else its output in a form
-abbrev pub run_in : Line → Option Command
+abbrev pub run_in : CommandLine → Option Command
 run_in line =
     if line.watch then (if not (is_some line.seed) && (not (is_some line.size) && not line.json) then Some Watch else None)
     else option_map Run (form_in line)
 
-abbrev pub command_of : Line → Option Command
+abbrev pub command_of : CommandLine → Option Command
 command_of line =
     if bytes_eq line.command (codes "replay") then option_map Replay (form_in line)
     else (if bytes_eq line.command (codes "run") then run_in line
@@ -132,7 +132,7 @@ abbrev pub is_set : Text → List Row → Bool
 is_set name rows = option_map_or (λ value. bytes_eq value (codes "true")) (first_of name rows) false
 
 -- the line that the rows give, where they name a command
-abbrev pub line_of : List Row → Option Line
+abbrev pub line_of : List Row → Option CommandLine
 line_of rows = option_map (λ command. record { command = command; seed = first_of (codes "SEED") rows; size = first_of (codes "SIZE") rows; json = is_set (codes "json") rows; watch = is_set (codes "watch") rows }) (first_of (codes "COMMAND") rows)
 
 -- the command of these rows, unless the words were refused

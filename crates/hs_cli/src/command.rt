@@ -2,7 +2,7 @@
 
 ghost use Rattle.std.specs.Prelude.{◌≡◌, ◌≤◌, false, Option, IfOk, IfSome, map, string_bytes, option_map};
 ghost use Rattle.hs_base.specs.declared.limits.TheConstants.{MAX_REQUESTS};
-ghost use Rattle.hs_cli.specs.Commands.{Line, command_of, command_in, unwatched_in, asks_to_watch, is_watched, line_in, line_of, is_set, named, parser, with_words, with_flags, needed, flag, seed_of, size_of, form_in, run_in, number_within, sizes_in, samplers_in, AreSamplers, is_alone, alone, IsSized};
+ghost use Rattle.hs_cli.specs.Commands.{CommandLine, command_of, command_in, unwatched_in, asks_to_watch, is_watched, line_in, line_of, is_set, named, parser, with_words, with_flags, needed, flag, seed_of, size_of, form_in, run_in, number_within, sizes_in, samplers_in, AreSamplers, is_alone, alone, IsSized};
 ghost use Rattle.clap.specs.Words.{app_of, rule_of, first_of, found_of, rows_of};
 
 use clap::error::ErrorKind;
@@ -47,7 +47,7 @@ impl Command {
 
 /// The words of a call, told apart.
 #[derive(Clone, Copy)]
-struct Line<'a> {
+struct CommandLine<'a> {
     command: &'a str,
     seed: Option<&'a str>,
     size: Option<&'a str>,
@@ -55,7 +55,7 @@ struct Line<'a> {
     watch: bool,
 }
 
-impl Line<'_> {
+impl CommandLine<'_> {
     /// Whether the line has nothing but a command and the flag `--json`.
     fn is_alone(self) -> bool
         ensures { result ≡ is_alone (line_in self.entry) }
@@ -244,10 +244,10 @@ fn is_set(matches: &ArgMatches<'_>, name: &str) -> bool
 }
 
 /// The words that a parse told apart, where a command is among them.
-fn line_in<'a>(matches: &ArgMatches<'a>) -> Option<Line<'a>>
+fn line_in<'a>(matches: &ArgMatches<'a>) -> Option<CommandLine<'a>>
     ensures { option_map line_in result ≡ line_of (rows_of (found_of matches.now)) }
 {
-    Some(Line {
+    Some(CommandLine {
         command: word(matches, "COMMAND")?,
         seed: word(matches, "SEED"),
         size: word(matches, "SIZE"),

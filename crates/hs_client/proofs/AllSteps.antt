@@ -9,7 +9,7 @@ use Rattle.hs_base.specs.declared.ids.ClientId.{ClientId}
 use Rattle.hs_records.specs.Records.{Segment, Piece}
 use Rattle.hs_records.specs.Pages.{PlainPage}
 use Rattle.hs_records.specs.declared.journal.Draw.{Draw}
-use Rattle.hs_client.specs.Core.{Core, Step, Began, Wrote, Needed, Supplied, Ended_, Refused, after_step, new_core, closed, handed, draw_of, number_after}
+use Rattle.hs_client.specs.Core.{Core, CoreStep, Began, Wrote, Needed, Supplied, Ended_, Refused, after_step, new_core, closed, handed, draw_of, number_after}
 use Rattle.hs_words.specs.Buffers.{Buffer}
 use Rattle.hs_client.specs.Calls.{after, AreSteps, next_number, segments_of_steps, open_trace, chunks_supplied, draws_supplied, handed_out, with_last, pages_of_steps, note_of, filled_chunks, IsBook, with_all}
 use Rattle.hs_client.proofs.Runs.{AreLongest}
@@ -26,7 +26,7 @@ module _ {L : Type 0} (longest : AreLongest) (client : ClientId) (size calls : �
   abbrev new : Core L
   new = new_core client size calls
 
-  record Holds (steps : List (Step L)) : Type 0 where
+  record Holds (steps : List (CoreStep L)) : Type 0 where
     pub client_is : (after new steps).client ≡ client
     pub size_is : (after new steps).size ≡ size
     pub trace_is : (after new steps).trace ≡ open_trace steps
@@ -40,12 +40,12 @@ module _ {L : Type 0} (longest : AreLongest) (client : ClientId) (size calls : �
       → KeepsNone client size (after_step core Ended_) segments supplied out
   at_end core segments supplied out is = record { none = refl; pages = is.pages; each = is.each; chunks = is.chunks; last = λ trace e. absurd cc }
 
-  ended : (steps : List (Step L)) → Holds steps → KeepsNone client size (closed (after new steps)) (segments_of_steps steps) (chunks_supplied steps) (handed_out new steps ++ option_to_list (handed (after new steps)))
+  ended : (steps : List (CoreStep L)) → Holds steps → KeepsNone client size (closed (after new steps)) (segments_of_steps steps) (chunks_supplied steps) (handed_out new steps ++ option_to_list (handed (after new steps)))
   ended steps is =
       ⊎_elim (needed_none longest client size (after new steps) (segments_of_steps steps) (chunks_supplied steps) (handed_out new steps))
       (needed longest client size (after new steps) (segments_of_steps steps) (chunks_supplied steps) (handed_out new steps)) is.keeps
 
-  holds : (steps : List (Step L)) → AreSteps new steps → Holds steps
+  holds : (steps : List (CoreStep L)) → AreSteps new steps → Holds steps
   holds [] are =
       record { client_is = refl; size_is = refl; trace_is = refl; number_is = refl; draws_are = refl; keeps = inl (record { none = refl; pages = refl; each = refl; chunks = refl; last = λ trace e. absurd cc }) }
   holds (Began trace ∷ earlier) are =
@@ -105,7 +105,7 @@ module _ {L : Type 0} (longest : AreLongest) (client : ClientId) (size calls : �
       record { client_is = is.client_is; size_is = is.size_is; trace_is = is.trace_is; number_is = is.number_is; draws_are = is.draws_are; keeps = is.keeps }
 
   -- there are as many draws as chunks and null pages
-  draws_counted : (steps : List (Step L)) → length (draws_supplied steps) ≡ length (chunks_supplied steps)
+  draws_counted : (steps : List (CoreStep L)) → length (draws_supplied steps) ≡ length (chunks_supplied steps)
   draws_counted [] = refl
   draws_counted (Supplied buffer stamp moment payload more ∷ earlier) =
       omega (arith, length-append (draws_supplied earlier) (draw_of buffer stamp ∷ []), length-append (chunks_supplied earlier) (buffer ∷ []), draws_counted earlier)
@@ -115,7 +115,7 @@ module _ {L : Type 0} (longest : AreLongest) (client : ClientId) (size calls : �
   draws_counted (Ended_ ∷ earlier) = draws_counted earlier
   draws_counted (Refused ∷ earlier) = draws_counted earlier
 
-  pub book : (steps : List (Step L)) → AreSteps new steps → IsBook new steps
+  pub book : (steps : List (CoreStep L)) → AreSteps new steps → IsBook new steps
   book steps are =
       let is = holds steps are in
       let whole = ended steps is in

@@ -14,11 +14,11 @@ use Rattle.hs_records.specs.declared.books.PageNote.{PageNote}
 use Rattle.hs_words.specs.Pages.{Sheet}
 use Rattle.hs_words.specs.Pages as page
 use Rattle.hs_words.specs.Chunks.{with_page, clear_chunk}
-use Rattle.hs_client.specs.Core.{Core, Step, Began, Wrote, Needed, Supplied, Ended_, Refused, after_step, new_core, handed, all_pages, draw_of, number_after, IsLeft, IsNarrow, Fits, NeedsPage, MaySupply, IsFresh}
+use Rattle.hs_client.specs.Core.{Core, CoreStep, Began, Wrote, Needed, Supplied, Ended_, Refused, after_step, new_core, handed, all_pages, draw_of, number_after, IsLeft, IsNarrow, Fits, NeedsPage, MaySupply, IsFresh}
 use Rattle.hs_words.specs.Buffers.{Buffer}
 
 -- A core as it is may do this step.
-abbrev pub May : {L : Type 0} → Core L → Step L → Type 0
+abbrev pub May : {L : Type 0} → Core L → CoreStep L → Type 0
 May core (Began trace) = IsLeft core × (core.trace ≡ None)
 May core (Wrote moment payload more) = IsLeft core × IsSome core.trace × IsNarrow core (length payload) × Fits core (length payload)
 May core (Needed len) = IsLeft core × IsSome core.trace × IsNarrow core len × NeedsPage core len
@@ -27,19 +27,19 @@ May core Ended_ = IsLeft core × IsSome core.trace
 May core Refused = Unit {0}
 
 -- the core after these steps
-abbrev pub after : {L : Type 0} → Core L → List (Step L) → Core L
+abbrev pub after : {L : Type 0} → Core L → List (CoreStep L) → Core L
 after new [] = new
 after new (step ∷ earlier) = after_step (after new earlier) step
 
 -- Each step may be done after those before it.
-abbrev pub AreSteps : {L : Type 0} → Core L → List (Step L) → Type 0
+abbrev pub AreSteps : {L : Type 0} → Core L → List (CoreStep L) → Type 0
 AreSteps new [] = Unit {0}
 AreSteps new (step ∷ earlier) = AreSteps new earlier × May (after new earlier) step
 
 -- ---- what the steps were
 
 -- how many records were finished
-abbrev pub next_number : {L : Type 0} → List (Step L) → ℕ
+abbrev pub next_number : {L : Type 0} → List (CoreStep L) → ℕ
 next_number [] = 0
 next_number (Wrote moment payload more ∷ earlier) = number_after more (next_number earlier)
 next_number (Supplied buffer stamp moment payload more ∷ earlier) = number_after more (next_number earlier)
@@ -59,7 +59,7 @@ with_all [] segments = segments
 with_all (piece ∷ pieces) segments = with_all pieces (with_last piece segments)
 
 -- the segments that were begun; the newest stands first
-abbrev pub segments_of_steps : {L : Type 0} → List (Step L) → List Segment
+abbrev pub segments_of_steps : {L : Type 0} → List (CoreStep L) → List Segment
 segments_of_steps [] = []
 segments_of_steps (Began trace ∷ earlier) = record { trace = trace; pieces = [] } ∷ segments_of_steps earlier
 segments_of_steps (Wrote moment payload more ∷ earlier) = with_last (record { number = next_number earlier; moment = moment; payload = payload }) (segments_of_steps earlier)
@@ -69,7 +69,7 @@ segments_of_steps (Ended_ ∷ earlier) = segments_of_steps earlier
 segments_of_steps (Refused ∷ earlier) = segments_of_steps earlier
 
 -- the trace that is open
-abbrev pub open_trace : {L : Type 0} → List (Step L) → Option TraceId
+abbrev pub open_trace : {L : Type 0} → List (CoreStep L) → Option TraceId
 open_trace [] = None
 open_trace (Began trace ∷ earlier) = Some trace
 open_trace (Ended_ ∷ earlier) = None
@@ -79,7 +79,7 @@ open_trace (Needed len ∷ earlier) = open_trace earlier
 open_trace (Refused ∷ earlier) = open_trace earlier
 
 -- what was supplied: the chunk, or none, and what is noted of the draw; in order
-abbrev pub chunks_supplied : {L : Type 0} → List (Step L) → List (Option (Buffer L))
+abbrev pub chunks_supplied : {L : Type 0} → List (CoreStep L) → List (Option (Buffer L))
 chunks_supplied [] = []
 chunks_supplied (Supplied buffer stamp moment payload more ∷ earlier) = chunks_supplied earlier ++ buffer ∷ []
 chunks_supplied (Began trace ∷ earlier) = chunks_supplied earlier
@@ -88,7 +88,7 @@ chunks_supplied (Needed len ∷ earlier) = chunks_supplied earlier
 chunks_supplied (Ended_ ∷ earlier) = chunks_supplied earlier
 chunks_supplied (Refused ∷ earlier) = chunks_supplied earlier
 
-abbrev pub draws_supplied : {L : Type 0} → List (Step L) → List Draw
+abbrev pub draws_supplied : {L : Type 0} → List (CoreStep L) → List Draw
 draws_supplied [] = []
 draws_supplied (Supplied buffer stamp moment payload more ∷ earlier) = draws_supplied earlier ++ draw_of buffer stamp ∷ []
 draws_supplied (Began trace ∷ earlier) = draws_supplied earlier
@@ -98,7 +98,7 @@ draws_supplied (Ended_ ∷ earlier) = draws_supplied earlier
 draws_supplied (Refused ∷ earlier) = draws_supplied earlier
 
 -- the chunks that the steps handed out, in order
-abbrev pub handed_out : {L : Type 0} → Core L → List (Step L) → List (Buffer L)
+abbrev pub handed_out : {L : Type 0} → Core L → List (CoreStep L) → List (Buffer L)
 handed_out new [] = []
 handed_out new (Needed len ∷ earlier) = handed_out new earlier ++ option_to_list (handed (after new earlier))
 handed_out new (Ended_ ∷ earlier) = handed_out new earlier ++ option_to_list (handed (after new earlier))
@@ -110,7 +110,7 @@ handed_out new (Refused ∷ earlier) = handed_out new earlier
 -- ---- what they should come to
 
 -- the pages of what was written and supplied, segment by segment in order
-abbrev pub pages_of_steps : {L : Type 0} → ℕ → List (Step L) → List PlainPage
+abbrev pub pages_of_steps : {L : Type 0} → ℕ → List (CoreStep L) → List PlainPage
 pages_of_steps size steps = flat_map (segment_pages size) (reverse (segments_of_steps steps))
 
 -- what is noted of a page
@@ -139,7 +139,7 @@ filled_chunks client number (p ∷ pages) (Some buffer ∷ chunks) = filled clie
 -- What a new core is after these steps. The pages that it noted are those of what was written and supplied, its draws
 -- are those that were supplied, one for each page, and the chunks that it handed out, with the one that it keeps, are
 -- those of the pages, each filled with its page.
-pub record IsBook {L : Type 0} (new : Core L) (steps : List (Step L)) : Type 0 where
+pub record IsBook {L : Type 0} (new : Core L) (steps : List (CoreStep L)) : Type 0 where
   pub trace : (after new steps).trace ≡ open_trace steps
   pub number : (after new steps).number ≡ next_number steps
   pub pages : all_pages (after new steps) ≡ map note_of (pages_of_steps new.size steps)
@@ -162,7 +162,7 @@ clear number = record { chunk = clear_chunk 64 number; lease = 7 }
 
 -- A record of 30 bytes, which fills a page, a record of one byte on a null page, which a last record joins; the last
 -- step stands first.
-abbrev three_records : List (Step ℕ)
+abbrev three_records : List (CoreStep ℕ)
 three_records =
     Ended_ ∷ Wrote 7 (8 ∷ []) false ∷ Supplied None 1 6 (9 ∷ []) false ∷ Needed 1 ∷ Supplied (Some (clear 0)) 0 5 (replicate 30 9) false ∷ Needed 30 ∷ Began t1 ∷ []
 
@@ -189,7 +189,7 @@ chunks_of_three : filled_chunks owner 0 (pages_of_steps 64 three_records) (chunk
 chunks_of_three = refl
 
 -- a record that goes on keeps its number over two pages, and a new trace starts a page
-abbrev two_traces : List (Step ℕ)
+abbrev two_traces : List (CoreStep ℕ)
 two_traces =
     Supplied None 2 8 [] false ∷ Needed 0 ∷ Began t2 ∷ Ended_ ∷ Supplied None 1 5 (9 ∷ []) false ∷ Needed 1 ∷ Supplied None 0 5 (replicate 30 9) true ∷ Needed 30 ∷ Began t1 ∷ []
 

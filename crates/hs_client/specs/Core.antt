@@ -63,13 +63,13 @@ renewed_core calls core = bare_after core.client core.size calls (core.renewed +
 
 -- A call that is accepted, or a page that ends because a piece of so many bytes needs the next one. `more` says that the
 -- piece's record goes on. A page that was drawn has a clear chunk or none.
-pub data Step (L : Type 0) : Type 0 where
-  Began : (trace : TraceId) → Step L
-  Wrote : (moment : ℕ) (payload : List ℕ) (more : Bool) → Step L
-  Needed : (len : ℕ) → Step L
-  Supplied : (buffer : Option (Buffer L)) (stamp moment : ℕ) (payload : List ℕ) (more : Bool) → Step L
-  Ended_ : Step L
-  Refused : Step L
+pub data CoreStep (L : Type 0) : Type 0 where
+  Began : (trace : TraceId) → CoreStep L
+  Wrote : (moment : ℕ) (payload : List ℕ) (more : Bool) → CoreStep L
+  Needed : (len : ℕ) → CoreStep L
+  Supplied : (buffer : Option (Buffer L)) (stamp moment : ℕ) (payload : List ℕ) (more : Bool) → CoreStep L
+  Ended_ : CoreStep L
+  Refused : CoreStep L
 
 abbrev pub piece : ℕ → List ℕ → Piece
 piece moment payload = record { moment = moment; payload = payload }
@@ -124,7 +124,7 @@ next_page core buffer p trace =
     record { note = record { trace = trace; first = core.number; count = 1 }; buffer = option_map (started (next_header core trace) p) buffer }
 
 -- the core after a step
-abbrev pub after_step : {L : Type 0} → Core L → Step L → Core L
+abbrev pub after_step : {L : Type 0} → Core L → CoreStep L → Core L
 after_step core (Began trace) = record core { counted = core.counted + 1; trace = Some trace; used = 0 }
 after_step core (Wrote moment payload more) =
     record core {
@@ -197,23 +197,23 @@ EndsBy core ended.NoTrace = IsLeft core × (core.trace ≡ None)
 
 -- ---- the step that an answer stands for
 
-abbrev pub began : {L : Type 0} → TraceId → Begun → Step L
+abbrev pub began : {L : Type 0} → TraceId → Begun → CoreStep L
 began trace begun.Began = Began trace
 began trace begun.Spent = Refused
 began trace begun.AlreadyOpen = Refused
 
-abbrev pub pointed_step : {L : Type 0} {g : _} → ℕ → List ℕ → Bool → Pointed L g → Step L
+abbrev pub pointed_step : {L : Type 0} {g : _} → ℕ → List ℕ → Bool → Pointed L g → CoreStep L
 pointed_step moment payload more pointed.Written = Wrote moment payload more
 pointed_step moment payload more pointed.Spent = Refused
 pointed_step moment payload more pointed.NoTrace = Refused
 pointed_step moment payload more pointed.TooWide = Refused
 pointed_step moment payload more (pointed.NeedPage held) = Needed (length payload)
 
-abbrev pub supplied : {L : Type 0} {g : _} → Drawn L g → ℕ → List ℕ → Bool → Step L
+abbrev pub supplied : {L : Type 0} {g : _} → Drawn L g → ℕ → List ℕ → Bool → CoreStep L
 supplied (drawn.Got held stamp) moment payload more = Supplied (Some (buffer_of held)) stamp moment payload more
 supplied (drawn.Empty stamp) moment payload more = Supplied None stamp moment payload more
 
-abbrev pub ended_step : {L : Type 0} {g : _} → Ended L g → Step L
+abbrev pub ended_step : {L : Type 0} {g : _} → Ended L g → CoreStep L
 ended_step (ended.Ended held) = Ended_
 ended_step ended.Spent = Refused
 ended_step ended.NoTrace = Refused

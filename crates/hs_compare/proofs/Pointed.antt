@@ -1,6 +1,6 @@
 -- One operation more.
 use Rattle.std.proofs.Common.{◌≡◌, ℕ, suc, ◌+◌, ◌≤◌, List, [], ◌∷◌, ◌++◌, length, map, Option, Some, None, option_map, refl, sym, ap, ap₂, ◌∙◌, arith, append_assoc, length-append}
-use Rattle.hs_compare.proofs.Prelude.{zip, flat_map, range_with_len, same_Some, append-nil, map-append, length_push, flat_map-append, length_map, range_append, ClientId, TraceId, Operation, Begin, Point, Crumb, End, Fire, Sample, Record, NumberedOperation, numbered_from, numbered_of, record_at, records_of, open_behind, OneMoreOperation, Sent, point_numbers, comings_of, sent_comings, coming_of, comes_at, points_by, HasGone, brought, Coming, Walk}
+use Rattle.hs_compare.proofs.Prelude.{zip, flat_map, range_with_len, same_Some, append-nil, map-append, length_push, flat_map-append, length_map, range_append, ClientId, TraceId, Operation, Begin, Point, Crumb, End, Fire, Sample, Record, NumberedOperation, numbered_from, numbered_of, record_at, records_of, open_behind, OneMoreOperation, Sent, point_numbers, comings_of, sent_comings, coming_of, comes_at, points_by, HasGone, brought, Coming, RecordWalk}
 use Rattle.std.specs.Option.{option_to_list}
 use Rattle.std.proofs.lemmas.List.FromFn.{length-range_with_len}
 use Rattle.hs_records.specs.Records.{record_in}
@@ -118,7 +118,7 @@ seen_none : (rs : List Record) → None ≡ record_seen rs → rs ≡ []
 seen_none [] h = refl
 seen_none (r ∷ rs) h = absurd (cc)
 
-pub gone_quiet : OneMoreOperation → (ops : List Operation) (op : Operation) (walk next : Walk) → HasGone ops walk → None ≡ record_seen (record_in walk.current op) → next.count ≡ walk.count
+pub gone_quiet : OneMoreOperation → (ops : List Operation) (op : Operation) (walk next : RecordWalk) → HasGone ops walk → None ≡ record_seen (record_in walk.current op) → next.count ≡ walk.count
     → next.current ≡ open_behind walk.current op → HasGone (ops ++ op ∷ []) next
 gone_quiet one ops op walk next gone none count current =
     let quiet : record_in (open_after None ops) op ≡ [] = ap (λ t. record_in t op) (sym gone.current) ∙ seen_none (record_in walk.current op) none in
@@ -138,7 +138,7 @@ seen_some (Some trace) End seen h = absurd (cc)
 seen_some (Some trace) (Fire trigger) seen h = absurd (cc)
 seen_some (Some trace) (Sample moment auto value) seen h = absurd (cc)
 
-pub gone_seen : OneMoreOperation → (ops : List Operation) (op : Operation) (walk next : Walk) (seen : Seen) → HasGone ops walk → Some seen ≡ record_seen (record_in walk.current op) → next.count ≡ walk.count + 1
+pub gone_seen : OneMoreOperation → (ops : List Operation) (op : Operation) (walk next : RecordWalk) (seen : Seen) → HasGone ops walk → Some seen ≡ record_seen (record_in walk.current op) → next.count ≡ walk.count + 1
     → next.current ≡ open_behind walk.current op → HasGone (ops ++ op ∷ []) next
 gone_seen one ops op walk next seen gone some count current =
     let found = seen_some walk.current op seen some in
@@ -149,7 +149,7 @@ gone_seen one ops op walk next seen gone some count current =
     }
 
 -- what the operation brings, by what is known before it
-pub brought_by : (ops : List Operation) (op : Operation) (walk : Walk) (found : Option Seen) → HasGone ops walk → found ≡ record_seen (record_in walk.current op)
+pub brought_by : (ops : List Operation) (op : Operation) (walk : RecordWalk) (found : Option Seen) → HasGone ops walk → found ≡ record_seen (record_in walk.current op)
     → option_map (coming_seen walk.client walk.count) found ≡ brought walk.client ops op
 brought_by ops op walk found gone is =
     ap (option_map (coming_seen walk.client walk.count)) is ∙ ap₂ (λ n t. option_map (coming_seen walk.client n) (record_seen (record_in t op))) gone.count gone.current

@@ -29,8 +29,8 @@ pub use Rattle.hs_compare.specs.declared.coming.Coming.{Coming}
 pub use Rattle.hs_compare.specs.declared.comparison.Comparison.{Comparison}
 pub use Rattle.hs_compare.specs.declared.happening.NumberedEvent.{NumberedEvent}
 pub use Rattle.hs_compare.specs.declared.lines.Line.{Line}
-pub use Rattle.hs_compare.specs.declared.points.Walk.{Walk}
-pub use Rattle.hs_compare.specs.declared.ring.Noted.{Noted}
+pub use Rattle.hs_compare.specs.declared.points.RecordWalk.{RecordWalk}
+pub use Rattle.hs_compare.specs.declared.ring.TracedRecord.{TracedRecord}
 pub use Rattle.hs_compare.specs.declared.script.Script.{Script}
 pub use Rattle.hs_law_agent.specs.Bringing.{ClaimsAreOfWhatIsBrought, ClaimsOnly}
 pub use Rattle.hs_law_agent.specs.State.{ClaimedTrace}

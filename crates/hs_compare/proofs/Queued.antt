@@ -1,6 +1,6 @@
 -- The queues after one of them changed.
 use Rattle.std.proofs.Common.{◌≡◌, cond, ◌==◌, Bool, true, false, List, [], ◌∷◌, ◌++◌, drop, map, filter, Option, Some, refl, sym, ap, ◌∙◌}
-use Rattle.hs_compare.proofs.Prelude.{unwrap_or, lookup, eqb-true, map-append, filter-append, TraceId, RecordId, Noted, is_noted_of, queued, ids_of, AreQueued}
+use Rattle.hs_compare.proofs.Prelude.{unwrap_or, lookup, eqb-true, map-append, filter-append, TraceId, RecordId, TracedRecord, is_noted_of, queued, ids_of, AreQueued}
 use Rattle.hs_compare.proofs.Firsts.{cond_both}
 
 abbrev pub Entries : Type 0
@@ -36,28 +36,28 @@ same_entries old new same t = ap (λ es. queued es t) same
 
 -- ---- with the records
 
-pub ids-append : (trace : TraceId) (xs ys : List Noted) → ids_of trace (xs ++ ys) ≡ ids_of trace xs ++ ids_of trace ys
-ids-append trace xs ys = ap (map (λ (n : Noted). n.id)) (filter-append (is_noted_of trace) xs ys) ∙ map-append (λ (n : Noted). n.id) (filter (is_noted_of trace) xs) (filter (is_noted_of trace) ys)
+pub ids-append : (trace : TraceId) (xs ys : List TracedRecord) → ids_of trace (xs ++ ys) ≡ ids_of trace xs ++ ids_of trace ys
+ids-append trace xs ys = ap (map (λ (n : TracedRecord). n.id)) (filter-append (is_noted_of trace) xs ys) ∙ map-append (λ (n : TracedRecord). n.id) (filter (is_noted_of trace) xs) (filter (is_noted_of trace) ys)
 
 -- a record more
-pub queued-more : (old new : Entries) (records : List Noted) (noted : Noted) → AreQueued old records
+pub queued-more : (old new : Entries) (records : List TracedRecord) (noted : TracedRecord) → AreQueued old records
     → ((t : TraceId) → queued new t ≡ cond (is_key noted.trace t) (queued old t ++ noted.id ∷ []) (queued old t)) → AreQueued new (records ++ noted ∷ [])
 queued-more old new records noted are more t =
     more t ∙ ap (λ q. cond (is_key noted.trace t) (q ++ noted.id ∷ []) q) (are t) ∙ by (is_key noted.trace t) refl ∙ sym (ids-append t records (noted ∷ []))
   where
     by : (b : Bool) → is_key noted.trace t ≡ b → cond b (ids_of t records ++ noted.id ∷ []) (ids_of t records) ≡ ids_of t records ++ ids_of t (noted ∷ [])
-    by true e = ap (λ c. ids_of t records ++ map (λ (n : Noted). n.id) (cond c (noted ∷ []) [])) (sym e)
-    by false e = sym (ap (λ c. ids_of t records ++ map (λ (n : Noted). n.id) (cond c (noted ∷ []) [])) e ∙ append-none (ids_of t records))
+    by true e = ap (λ c. ids_of t records ++ map (λ (n : TracedRecord). n.id) (cond c (noted ∷ []) [])) (sym e)
+    by false e = sym (ap (λ c. ids_of t records ++ map (λ (n : TracedRecord). n.id) (cond c (noted ∷ []) [])) e ∙ append-none (ids_of t records))
       where
         append-none : (xs : List RecordId) → xs ++ [] ≡ xs
         append-none [] = refl
         append-none (x ∷ xs) = ap (λ r. x ∷ r) (append-none xs)
 
 -- the first record goes
-pub queued-less : (old new : Entries) (noted : Noted) (records : List Noted) → AreQueued old (noted ∷ records)
+pub queued-less : (old new : Entries) (noted : TracedRecord) (records : List TracedRecord) → AreQueued old (noted ∷ records)
     → ((t : TraceId) → queued new t ≡ cond (is_key noted.trace t) (drop 1 (queued old t)) (queued old t)) → AreQueued new records
 queued-less old new noted records are less t = less t ∙ ap (λ q. cond (is_key noted.trace t) (drop 1 q) q) (are t) ∙ by (is_key noted.trace t)
   where
-    by : (b : Bool) → let ids = map (λ (n : Noted). n.id) (cond b (noted ∷ filter (is_noted_of t) records) (filter (is_noted_of t) records)) in cond b (drop 1 ids) ids ≡ ids_of t records
+    by : (b : Bool) → let ids = map (λ (n : TracedRecord). n.id) (cond b (noted ∷ filter (is_noted_of t) records) (filter (is_noted_of t) records)) in cond b (drop 1 ids) ids ≡ ids_of t records
     by true = refl
     by false = refl

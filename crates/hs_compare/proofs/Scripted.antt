@@ -1,6 +1,6 @@
 -- A script with one operation more.
 use Rattle.std.proofs.Common.{◌≡◌, ℕ, zero, suc, ◌+◌, ◌<◌, ◌≤◌, ◌==◌, cond, true, false, List, [], ◌∷◌, ◌++◌, length, get_or, Option, Some, None, refl, sym, ap, ap₂, ◌∙◌, subst, arith, eq-eqb}
-use Rattle.hs_compare.proofs.Prelude.{ne_eqb, append-nil, length_push, ClientId, Operation, records_of, OneMoreOperation, comes_at, points_by, HasGone, HasScript, IsScriptOf, brought, comes_in, AreOf, IsScript, events_in, events_of, events_from, Coming, NumberedEvent, Walk, Script}
+use Rattle.hs_compare.proofs.Prelude.{ne_eqb, append-nil, length_push, ClientId, Operation, records_of, OneMoreOperation, comes_at, points_by, HasGone, HasScript, IsScriptOf, brought, comes_in, AreOf, IsScript, events_in, events_of, events_from, Coming, NumberedEvent, RecordWalk, Script}
 use Rattle.hs_compare.proofs.Named.{events-both}
 use Rattle.hs_compare.proofs.Parts.{none_past}
 use Rattle.hs_compare.proofs.Pointed.{brought_none, brought_some, coming_by, more_points, same_points}
@@ -62,7 +62,7 @@ script_none client names script events ends =
     none : (n : ℕ) → n ≤ 0 → n ≡ 0
     none n low = omega arith
 
-module _ (one : OneMoreOperation) (names : List NumberedEvent) (ops : List Operation) (op : Operation) (walk next : Walk) (script after : Script) (has : HasScript names ops walk script) (client : next.client ≡ walk.client)
+module _ (one : OneMoreOperation) (names : List NumberedEvent) (ops : List Operation) (op : Operation) (walk next : RecordWalk) (script after : Script) (has : HasScript names ops walk script) (client : next.client ≡ walk.client)
     (gone : HasGone (ops ++ op ∷ []) next) (ends : after.ends.items ≡ script.ends.items ++ length after.events.items ∷ []) where
   abbrev points : List NumberedEvent
   points = points_by walk.client ops

@@ -12,7 +12,7 @@ use Rattle.hs_compare.specs.declared.happening.ScriptEvent.{ScriptEvent}
 use Rattle.hs_compare.specs.declared.happening.ScriptEvent.TheVariants.{Comes}
 use Rattle.hs_compare.specs.declared.happening.NumberedEvent.{NumberedEvent}
 use Rattle.hs_compare.specs.declared.points.Seen.{Seen}
-use Rattle.hs_compare.specs.declared.points.Walk.{Walk}
+use Rattle.hs_compare.specs.declared.points.RecordWalk.{RecordWalk}
 use Rattle.hs_compare.specs.declared.script.Script.{Script}
 
 abbrev pub Operations : Type 0
@@ -39,12 +39,12 @@ comes_in None = []
 comes_in (Some coming) = Comes coming.id coming.trace ∷ []
 
 -- These operations were walked through.
-pub record HasGone (ops : List Operation) (walk : Walk) : Type 0 where
+pub record HasGone (ops : List Operation) (walk : RecordWalk) : Type 0 where
   pub current : walk.current ≡ open_after None ops
   pub count : walk.count ≡ length (records_of ops)
 
 -- Their records joined these.
-pub record HasJoined (ops : List Operation) (first : List Coming) (walk : Walk) (all : List Coming) : Type 0 where
+pub record HasJoined (ops : List Operation) (first : List Coming) (walk : RecordWalk) (all : List Coming) : Type 0 where
   pub gone : HasGone ops walk
   pub joined : map coming_of all ≡ map coming_of first ++ comings_of walk.client ops
 
@@ -54,6 +54,6 @@ pub record IsScriptOf (client : ClientId) (names : List NumberedEvent) (ops : Li
   pub low : AreOf (length ops) (points_by client ops)
 
 -- They were walked through.
-pub record HasScript (names : List NumberedEvent) (ops : List Operation) (walk : Walk) (script : Script) : Type 0 where
+pub record HasScript (names : List NumberedEvent) (ops : List Operation) (walk : RecordWalk) (script : Script) : Type 0 where
   pub gone : HasGone ops walk
   pub holds : IsScriptOf walk.client names ops script

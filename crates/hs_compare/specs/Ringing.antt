@@ -5,24 +5,24 @@ pub use Rattle.hs_compare.specs.Samplers.{kept_by_rank}
 use Rattle.std.specs.Prelude.{ℕ, ◌-◌, ◌==◌, Bool, not, List, [], ◌∷◌, ◌++◌, length, map, filter, drop, if◌then◌else◌}
 use Rattle.hs_base.specs.declared.ids.TraceId.{TraceId}
 use Rattle.hs_base.specs.declared.ids.RecordId.{RecordId}
-use Rattle.hs_compare.specs.declared.ring.Noted.{Noted}
+use Rattle.hs_compare.specs.declared.ring.TracedRecord.{TracedRecord}
 
-abbrev pub is_noted_of : TraceId → Noted → Bool
+abbrev pub is_noted_of : TraceId → TracedRecord → Bool
 is_noted_of trace noted = noted.trace.0 == trace.0
 
-abbrev pub ids_in : List Noted → List RecordId
-ids_in records = map (λ (n : Noted). n.id) records
+abbrev pub ids_in : List TracedRecord → List RecordId
+ids_in records = map (λ (n : TracedRecord). n.id) records
 
-abbrev pub traces_in : List Noted → List TraceId
-traces_in records = map (λ (n : Noted). n.trace) records
+abbrev pub traces_in : List TracedRecord → List TraceId
+traces_in records = map (λ (n : TracedRecord). n.trace) records
 
 -- those whose trace is not named
-abbrev pub alive : List TraceId → List Noted → List Noted
-alive named records = filter (λ (n : Noted). not (is_among named n.trace)) records
+abbrev pub alive : List TraceId → List TracedRecord → List TracedRecord
+alive named records = filter (λ (n : TracedRecord). not (is_among named n.trace)) records
 
 pub record Ringing : Type 0 where
   pub room : ℕ
-  pub waiting : List Noted
+  pub waiting : List TracedRecord
   pub named : List TraceId
   -- the kept records, and the trace of each
   pub kept : List RecordId
@@ -32,10 +32,10 @@ abbrev pub new_ring : ℕ → Ringing
 new_ring room = record { room = room; waiting = []; named = []; kept = []; traces = [] }
 
 -- the last ones, as many as there is room for
-abbrev pub last_noted : ℕ → List Noted → List Noted
+abbrev pub last_noted : ℕ → List TracedRecord → List TracedRecord
 last_noted room records = drop (length records - room) records
 
-abbrev pub comes : Noted → Ringing → Ringing
+abbrev pub comes : TracedRecord → Ringing → Ringing
 comes noted ring =
     if is_among ring.named noted.trace then record ring { kept = ring.kept ++ noted.id ∷ []; traces = ring.traces ++ noted.trace ∷ [] } else
     record ring { waiting = last_noted ring.room (ring.waiting ++ noted ∷ []) }

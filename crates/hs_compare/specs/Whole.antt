@@ -2,11 +2,11 @@
 use Rattle.std.specs.Prelude.{ℕ, map}
 use Rattle.hs_compare.specs.Coming.{Coming}
 use Rattle.hs_compare.specs.Samplers.{SamplerRing}
-use Rattle.hs_compare.specs.declared.ring.Noted.{Noted}
+use Rattle.hs_compare.specs.declared.ring.TracedRecord.{TracedRecord}
 use Rattle.hs_compare.specs.Ringing.{Ringing}
 
 -- a record without its payload
-abbrev pub noted_of : Coming → Noted
+abbrev pub noted_of : Coming → TracedRecord
 noted_of c = record { id = c.id; trace = c.trace }
 
 abbrev pub ringing_by : ℕ → SamplerRing → Ringing

@@ -45,19 +45,19 @@ fn record_in(current: Option<TraceId>, operation: &Op) -> Option<Seen>
 
 /// A walk through a client's operations: the trace that is open, and how many records there were.
 #[derive(Clone, Copy)]
-pub(crate) struct Walk {
+pub(crate) struct RecordWalk {
     pub(crate) client: ClientId,
     pub(crate) current: Option<TraceId>,
     pub(crate) count: usize,
 }
 
-impl Walk {
+impl RecordWalk {
     /// The walk before the first operation.
-    pub(crate) fn make(client: ClientId) -> Walk
+    pub(crate) fn make(client: ClientId) -> RecordWalk
         ensures client { result.client ≡ client }
         ensures gone { HasGone [] result }
     {
-        Walk {
+        RecordWalk {
             client,
             current: None,
             count: 0,

@@ -11,7 +11,7 @@ ghost use Rattle.hs_compare.specs.Points.{Operations, Comings, HasJoined};
 
 use crate::coming::Coming;
 use crate::places::client_at;
-use crate::points::Walk;
+use crate::points::RecordWalk;
 use hs_base::limits::MAX_OPERATIONS;
 use hs_base::{ClientId, List, Memory};
 use hs_law_sends::laws::{one_operation_more, valid_clients_may_be_played};
@@ -19,7 +19,7 @@ use hs_records::{Op, Workload};
 use std::alloc::Global;
 
 /// Goes on by an operation. The record that it brings joins the others.
-fn add_record(all: &mut List<Coming>, walk: &mut Walk, operation: &Op) -> Result<(), Memory>
+fn add_record(all: &mut List<Coming>, walk: &mut RecordWalk, operation: &Op) -> Result<(), Memory>
     requires few { walk.old.count < MAX_OPERATIONS }
     ensures client { walk.new.client ≡ walk.old.client }
     ensures joined { (before : Operations) (first : Comings) → HasJoined before first walk.old all.old.items
@@ -37,7 +37,7 @@ fn add_records(all: &mut List<Coming>, client: ClientId, operations: &[Op]) -> R
     requires { length operations.now ≤ MAX_OPERATIONS }
     ensures { OnOk result (map coming_of all.new.items ≡ map coming_of all.old.items ++ comings_of client (map operation_of operations.now)) }
 {
-    let mut walk = Walk::make(client);
+    let mut walk = RecordWalk::make(client);
     for number in 0..operations.len() {
         add_record(all, &mut walk, &operations[number])?;
     }

@@ -4,22 +4,22 @@ ghost use Rattle.std.specs.Prelude.{◌≡◌, ◌≤◌, ◌<◌, ◌+◌, ◌-
 ghost use Rattle.std.specs.Option.{option_to_list};
 ghost use Rattle.hs_compare.specs.Ringing.{alive, is_among};
 ghost use Rattle.hs_compare.specs.Queues.{AreQueued};
-ghost use Rattle.hs_compare.specs.declared.ring.Noted.{Noted};
+ghost use Rattle.hs_compare.specs.declared.ring.TracedRecord.{TracedRecord};
 
-use crate::queue::{Queues, leave};
+use crate::record_queue::{Queues, leave};
 use circular_buffer::HeapCircularBuffer;
 use hs_base::{RecordId, TraceId};
 use indexmap::IndexSet;
 
 /// A record with its trace.
 #[derive(Clone, Copy)]
-pub struct Noted {
+pub struct TracedRecord {
     pub id: RecordId,
     pub trace: TraceId,
 }
 
 /// The ring, the oldest record first.
-pub type Records = HeapCircularBuffer<Noted>;
+pub type Records = HeapCircularBuffer<TracedRecord>;
 
 /// Whether a trace is among these. Where there is none, nothing is looked up.
 pub fn is_in(traces: &IndexSet<TraceId>, trace: TraceId) -> bool
@@ -44,7 +44,7 @@ pub fn make_way(
     requires room { (1 ≤ room) × (waiting ≤ room) }
     ensures alive { alive named.now.keys ring.new.items ≡ drop (waiting + 1 - room) (alive named.now.keys ring.old.items) }
     ensures waiting { result ≡ length (alive named.now.keys ring.new.items) }
-    ensures queued { (behind : List Noted) → AreQueued queues.old.entries (alive named.now.keys ring.old.items ++ behind)
+    ensures queued { (behind : List TracedRecord) → AreQueued queues.old.entries (alive named.now.keys ring.old.items ++ behind)
         → AreQueued queues.new.entries (alive named.now.keys ring.new.items ++ behind) }
     ensures capacity { ring.new.capacity ≡ ring.old.capacity }
     ensures shorter { length ring.new.items ≤ length ring.old.items }
@@ -59,7 +59,7 @@ pub fn make_way(
 /// Lets the first record that is alive go, if there is one.
 fn let_first_go(ring: &mut Records, queues: &mut Queues, named: &IndexSet<TraceId>)
     ensures alive { alive named.now.keys ring.new.items ≡ drop 1 (alive named.now.keys ring.old.items) }
-    ensures queued { (behind : List Noted) → AreQueued queues.old.entries (alive named.now.keys ring.old.items ++ behind)
+    ensures queued { (behind : List TracedRecord) → AreQueued queues.old.entries (alive named.now.keys ring.old.items ++ behind)
         → AreQueued queues.new.entries (alive named.now.keys ring.new.items ++ behind) }
     ensures capacity { ring.new.capacity ≡ ring.old.capacity }
     ensures shorter { length ring.new.items ≤ length ring.old.items }
@@ -70,7 +70,7 @@ fn let_first_go(ring: &mut Records, queues: &mut Queues, named: &IndexSet<TraceI
 }
 
 /// Adds a record that is alive at the end.
-pub fn join(ring: &mut Records, named: &IndexSet<TraceId>, noted: Noted)
+pub fn join(ring: &mut Records, named: &IndexSet<TraceId>, noted: TracedRecord)
     requires within { length ring.old.items ≤ ring.old.capacity }
     requires room { length (alive named.now.keys ring.old.items) < ring.old.capacity }
     requires alive { is_among named.now.keys noted.trace ≡ false }
@@ -96,7 +96,7 @@ fn make_place(ring: &mut Records, named: &IndexSet<TraceId>)
 }
 
 /// Takes out all up to the first record that is alive, and answers that record.
-fn first_alive(ring: &mut Records, named: &IndexSet<TraceId>) -> Option<Noted>
+fn first_alive(ring: &mut Records, named: &IndexSet<TraceId>) -> Option<TracedRecord>
     ensures none { IfNone result (alive named.now.keys ring.new.items ≡ []) }
     ensures alive { alive named.now.keys ring.old.items ≡ option_to_list result ++ alive named.now.keys ring.new.items }
     ensures capacity { ring.new.capacity ≡ ring.old.capacity }

@@ -4,8 +4,8 @@ ghost use Rattle.std.specs.Prelude.{◌≡◌, ◌≤◌, ◌<◌, ◌+◌, ◌+
 ghost use Rattle.hs_compare.specs.Ringing.{new_ring, comes, names, is_among};
 
 use crate::limits::MAX_ROOM;
-use crate::queue::{Queue, Queues, add, take};
-use crate::ring::{Noted, Records, is_in, join, make_way};
+use crate::record_queue::{Queues, RecordQueue, add, take};
+use crate::ring::{Records, TracedRecord, is_in, join, make_way};
 use hs_base::{List, Memory, RecordId, TraceId};
 use indexmap::{IndexMap, IndexSet};
 use std::alloc::Global;
@@ -79,7 +79,7 @@ impl RingTail {
             self.room,
         );
         self.waiting = waiting + 1;
-        join(&mut self.ring, &self.named, Noted { id, trace });
+        join(&mut self.ring, &self.named, TracedRecord { id, trace });
         Ok(())
     }
 
@@ -154,7 +154,12 @@ fn keep(kept: &mut List<RecordId>, traces: &mut List<TraceId>, id: RecordId, tra
 }
 
 /// Keeps the records of a trace. There is room for them.
-fn keep_all(kept: &mut List<RecordId>, traces: &mut List<TraceId>, mut queue: Queue, trace: TraceId)
+fn keep_all(
+    kept: &mut List<RecordId>,
+    traces: &mut List<TraceId>,
+    mut queue: RecordQueue,
+    trace: TraceId,
+)
     requires kept { length kept.old.items + length queue ≤ kept.old.room }
     requires traces { length traces.old.items + length queue ≤ traces.old.room }
     ensures kept { kept.new.items ≡ kept.old.items ++ queue }

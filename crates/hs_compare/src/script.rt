@@ -7,7 +7,7 @@ ghost use Rattle.hs_compare.specs.Points.{Operations, HasGone, HasScript, IsScri
 ghost use Rattle.hs_compare.specs.Walking.{AreInTurn, AreLeft, events_in, run_of, rest_of, rings_after};
 
 use crate::happening::{NumberedEvent, ScriptEvent};
-use crate::points::Walk;
+use crate::points::RecordWalk;
 use crate::ring_tail::RingTail;
 use hs_base::limits::MAX_OPERATIONS;
 use hs_base::{ClientId, List, Memory};
@@ -44,7 +44,7 @@ fn take_at(
 /// Goes on by an operation. The record that it brings comes next.
 fn note_record(
     events: &mut List<ScriptEvent>,
-    walk: &mut Walk,
+    walk: &mut RecordWalk,
     operation: &Op,
 ) -> Result<(), Memory>
     requires few { walk.old.count < MAX_OPERATIONS }
@@ -66,7 +66,7 @@ fn note_record(
 /// Answers how many of these were taken then.
 fn take_operation(
     script: &mut Script,
-    walk: &mut Walk,
+    walk: &mut RecordWalk,
     names: &[NumberedEvent],
     taken: usize,
     number: usize,
@@ -102,7 +102,7 @@ pub(crate) fn script_of(
         ends: List::new(alloc),
     };
     script.ends.append(0)?;
-    let mut walk = Walk::make(client);
+    let mut walk = RecordWalk::make(client);
     let mut taken = 0;
     for number in 0..operations.len() {
         let operation = &operations[number];

@@ -9,15 +9,15 @@ use Rattle.hs_traces.specs.declared.key.PageKey.{PageKey}
 use Rattle.hs_traces.specs.Parts.{Pages, page_with, next_page}
 use Rattle.hs_cursor.specs.Rows.{plain_row, first_row, rows_from, page_rows, rows_behind, rows_of}
 use Rattle.hs_cursor.specs.Reading.{first_of}
-use Rattle.hs_cursor.specs.Walking.{Place, start, end_at, behind, inside, entered, or_found, step_inside, step_on, step, and_then, walked, AreInOrder, AreSheets}
+use Rattle.hs_cursor.specs.Walking.{PlainCursor, start, end_at, behind, inside, entered, or_found, step_inside, step_on, step, and_then, walked, AreInOrder, AreSheets}
 use Rattle.hs_cursor.proofs.Fronts.{piece-there, piece-behind, piece-none, first-of, pieces-of}
 use Rattle.hs_cursor.proofs.Finds.{bytes-found, next-found}
 
-abbrev at_page : PageKey → (at number : ℕ) → Place
+abbrev at_page : PageKey → (at number : ℕ) → PlainCursor
 at_page key at number = record { page = Some key; at = at; number = number }
 
 -- the first row of a page behind
-entering : (place : Place) (key : PageKey) (bytes : List ℕ) (sheet : Sheet) (p : Piece) (ps : List Piece) → Spells sheet bytes → sheet.pieces ≡ p ∷ ps
+entering : (place : PlainCursor) (key : PageKey) (bytes : List ℕ) (sheet : Sheet) (p : Piece) (ps : List Piece) → Spells sheet bytes → sheet.pieces ≡ p ∷ ps
     → entered place key bytes ≡ Some (first_row (end_at place) key sheet.header.first p, behind key 32 sheet.header.first p)
 entering place key bytes sheet p ps spells pieces =
     let stands : drop 32 bytes ≡ pieces_bytes (p ∷ ps) = pieces-of sheet bytes spells ∙ ap pieces_bytes pieces in
@@ -32,7 +32,7 @@ module _ (pages : Pages) (sorted : AreInOrder pages) where
       → walked pages steps (at_page key at number) ≡ take steps (rows_from key number pieces ++ rows_behind (Some (key, number + length pieces)) sheets)
 
   -- the next page is entered
-  enters : (steps : ℕ) (place : Place) (key : PageKey) (bytes : List ℕ) (sheet : Sheet) (sheets : List (PageKey × Sheet)) (pieces : List Piece) → sheet.pieces ≡ pieces → Spells sheet bytes
+  enters : (steps : ℕ) (place : PlainCursor) (key : PageKey) (bytes : List ℕ) (sheet : Sheet) (sheets : List (PageKey × Sheet)) (pieces : List Piece) → sheet.pieces ≡ pieces → Spells sheet bytes
       → step_inside pages place ≡ None → next_page place.page pages ≡ Some (key, bytes) → Left steps key bytes sheets
       → walked pages (suc steps) place ≡ take (suc steps) (rows_behind (end_at place) ((key, sheet) ∷ sheets))
   enters steps place key bytes sheet sheets [] pieces spells none next left = absurd (omega (arith, spells.valid.some, ap length pieces))

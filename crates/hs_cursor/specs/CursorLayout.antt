@@ -3,7 +3,7 @@ use Rattle.std.specs.Prelude.{◌+◌, ◌≤◌, ◌^◌}
 use Rattle.hs_cursor.specs.declared.cursor.Row.{Row}
 use Rattle.hs_cursor.specs.declared.cursor.Cursor.TheInside.{Inside}
 use Rattle.hs_cursor.specs.Rows.{PlainRow}
-use Rattle.hs_cursor.specs.Walking.{Place}
+use Rattle.hs_cursor.specs.Walking.{PlainCursor}
 
 abbrev pub plain : Row → PlainRow
 plain row = record {
@@ -16,7 +16,7 @@ plain row = record {
   missing_records = row.missing_records;
 }
 
-abbrev pub place_in : Inside → Place
+abbrev pub place_in : Inside → PlainCursor
 place_in a = record { page = a.page; at = a.at; number = a.number }
 
 -- each record before it took bytes of the page

@@ -38,10 +38,10 @@ pub struct Cursor {
 }
 
 impl Model for Cursor {
-    ghost use Rattle.hs_cursor.specs.Walking.{Place};
+    ghost use Rattle.hs_cursor.specs.Walking.{PlainCursor};
     ghost use Rattle.hs_cursor.specs.CursorLayout.{place_in, IsSmall};
 
-    ghost Value = { Place };
+    ghost Value = { PlainCursor };
 
     ghost view = { place_in };
 

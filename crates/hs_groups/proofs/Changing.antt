@@ -2,16 +2,16 @@
 use Rattle.std.proofs.Common.{◌≡◌, ℕ, zero, suc, ◌<◌, List, [], ◌∷◌, ◌++◌, length, take, drop, map, Option, Some, None, refl, ◌∙◌, arith}
 use Rattle.std.specs.Prelude.{slice_get, slice_set}
 use Rattle.std.specs.Option.{option_map_or}
-use Rattle.hs_groups.specs.declared.followed.Followed.{Followed}
+use Rattle.hs_groups.specs.declared.followed_group.FollowedGroup.{FollowedGroup}
 use Rattle.hs_groups.specs.Groups.{changed_at}
 
-behind_head : (f : Followed → Followed) (x : Followed) (ys : List Followed) (i : ℕ) (o : Option Followed)
+behind_head : (f : FollowedGroup → FollowedGroup) (x : FollowedGroup) (ys : List FollowedGroup) (i : ℕ) (o : Option FollowedGroup)
     → option_map_or (λ y. slice_set (x ∷ ys) (suc i) (f y)) o (x ∷ ys) ≡ x ∷ option_map_or (λ y. slice_set ys i (f y)) o ys
 behind_head f x ys i None = refl
 behind_head f x ys i (Some y) = refl
 
 -- the first so many are changed, and then the next one
-pub one_more : (f : Followed → Followed) (xs : List Followed) (i : ℕ) → i < length xs → changed_at f (map f (take i xs) ++ drop i xs) i ≡ map f (take (suc i) xs) ++ drop (suc i) xs
+pub one_more : (f : FollowedGroup → FollowedGroup) (xs : List FollowedGroup) (i : ℕ) → i < length xs → changed_at f (map f (take i xs) ++ drop i xs) i ≡ map f (take (suc i) xs) ++ drop (suc i) xs
 one_more f [] i within = absurd (omega (arith, within))
 one_more f (x ∷ xs) zero within = refl
 one_more f (x ∷ xs) (suc i) within =

@@ -12,7 +12,7 @@ use Rattle.hs_base.specs.declared.told.Why.TheVariants.{Fired, Answer, Late}
 use Rattle.hs_base.specs.declared.node_set.NodeSet.{NodeSet}
 use Rattle.hs_base.specs.declared.limits.TheConstants.{MOST_NODES}
 use Rattle.hs_base.specs.NodeSets.{has_node, nodes_of, either, without, one_node, no_nodes, with_node}
-use Rattle.hs_groups.specs.declared.followed.Followed.{Followed}
+use Rattle.hs_groups.specs.declared.followed_group.FollowedGroup.{FollowedGroup}
 
 -- whether two ids name one group
 abbrev pub same_group : GroupId → GroupId → Bool
@@ -28,7 +28,7 @@ abbrev pub answer_of : Why → ℕ → ℕ → NodeId → NodeSet
 answer_of why latest epoch node = if is_answer why && nat_le latest epoch then one_node node else no_nodes
 
 -- a group whose first message a node is about to tell
-abbrev pub begun : NodeId → Told → Followed
+abbrev pub begun : NodeId → Told → FollowedGroup
 begun node told = record {
   ask = record { group = told.group; laterals = told.laterals };
   asked = one_node node;
@@ -39,15 +39,15 @@ begun node told = record {
 }
 
 -- the nodes that a message's crumbs reach first
-abbrev pub fresh_nodes : Followed → Told → NodeSet
+abbrev pub fresh_nodes : FollowedGroup → Told → NodeSet
 fresh_nodes followed told = without told.crumbs followed.asked
 
 -- tries are counted anew where a node is reached that was not asked before
-abbrev pub tries_after : Followed → Told → ℕ
+abbrev pub tries_after : FollowedGroup → Told → ℕ
 tries_after followed told = if (fresh_nodes followed told).0 == 0 then followed.tries else 0
 
 -- a group after a message that answers the asks of these nodes
-abbrev pub taken : Followed → NodeSet → Told → Followed
+abbrev pub taken : FollowedGroup → NodeSet → Told → FollowedGroup
 taken followed answered told = record followed {
   asked = either followed.asked told.crumbs;
   waiting = either (without followed.waiting answered) (fresh_nodes followed told);
@@ -56,40 +56,40 @@ taken followed answered told = record followed {
 }
 
 -- whether the ask of a node has no answer
-abbrev pub waits_for : Followed → NodeId → Bool
+abbrev pub waits_for : FollowedGroup → NodeId → Bool
 waits_for followed node = nat_lt node.0 MOST_NODES && has_node followed.waiting node.0
 
 -- whether each ask was answered, or those that were not were asked again as often as may be
-abbrev pub is_settled : Followed → ℕ → Bool
+abbrev pub is_settled : FollowedGroup → ℕ → Bool
 is_settled followed tries = followed.waiting.0 == 0 || nat_le tries followed.tries
 
 -- a newer life of a node is heard, and tries are counted anew
-abbrev pub renewed : NodeId → Followed → Followed
+abbrev pub renewed : NodeId → FollowedGroup → FollowedGroup
 renewed node followed = if waits_for followed node then record followed { unsent = with_node followed.unsent node; tries = 0 } else followed
 
 -- ---- asks are sent
 
-abbrev pub has_unsent : Followed → Bool
+abbrev pub has_unsent : FollowedGroup → Bool
 has_unsent followed = not (followed.unsent.0 == 0)
 
 -- the first node whose ask is to be sent
-abbrev pub first_unsent : Followed → Option NodeId
+abbrev pub first_unsent : FollowedGroup → Option NodeId
 first_unsent followed = option_map (λ node. record { 0 = node }) (slice_get (nodes_of followed.unsent) 0)
 
 -- the ask that is to be sent first, with its node
-abbrev pub ask_of : Followed → Option (NodeId × Ask)
+abbrev pub ask_of : FollowedGroup → Option (NodeId × Ask)
 ask_of followed = option_map (λ node. (node, followed.ask)) (first_unsent followed)
 
 -- the ask of a node was sent in this pass
-abbrev pub sent_to : NodeId → ℕ → Followed → Followed
+abbrev pub sent_to : NodeId → ℕ → FollowedGroup → FollowedGroup
 sent_to node now followed = if nat_lt node.0 MOST_NODES then record followed { unsent = without followed.unsent (one_node node); since = now } else followed
 
 -- whether those that have not answered are to be asked again: each ask was sent, the last one so many passes ago, and the group is not
 -- settled
-abbrev pub is_due : (now wait tries : ℕ) → Followed → Bool
+abbrev pub is_due : (now wait tries : ℕ) → FollowedGroup → Bool
 is_due now wait tries followed = not (has_unsent followed) && (not (is_settled followed tries) && nat_le wait (now - followed.since))
 
-abbrev pub asked_again : (now wait tries : ℕ) → Followed → Followed
+abbrev pub asked_again : (now wait tries : ℕ) → FollowedGroup → FollowedGroup
 asked_again now wait tries followed = if is_due now wait tries followed then record followed { unsent = followed.waiting; tries = followed.tries + 1; since = now } else followed
 
 -- ---- worked examples: node 0 tells of its group 7
@@ -106,7 +106,7 @@ abbrev pub n : ℕ → NodeId
 n node = record { 0 = node }
 
 -- its crumb leads to node 1, whose ask is to be sent, and waits
-abbrev first : Followed
+abbrev first : FollowedGroup
 first = taken (begun (n 0) (told_of 7 2 Fired)) no_nodes (told_of 7 2 Fired)
 
 node_1_waits : (first.asked ≡ record { 0 = 3 }) × (first.waiting ≡ record { 0 = 2 }) × (first.unsent ≡ record { 0 = 2 })
@@ -128,7 +128,7 @@ answered : is_settled (taken first (answer_of Answer 5 5 (n 1)) (told_of 7 0 Ans
 answered = refl
 
 -- the ask is sent in pass 10, and nothing is to be sent then, until a newer life of node 1 is heard
-abbrev sent_in_10 : Followed
+abbrev sent_in_10 : FollowedGroup
 sent_in_10 = sent_to (n 1) 10 first
 
 once_for_a_life : (has_unsent sent_in_10 ≡ false) × (has_unsent (renewed (n 1) sent_in_10) ≡ true) × (has_unsent (renewed (n 2) sent_in_10) ≡ false)

@@ -11,18 +11,18 @@ use Rattle.hs_base.specs.declared.node_set.NodeSet.{NodeSet}
 use Rattle.hs_base.specs.declared.limits.TheConstants.{MOST_NODES}
 use Rattle.hs_base.specs.NodeSets.{nodes_of, without}
 use Rattle.hs_groups.specs.declared.answers.GroupLimits.{GroupLimits}
-use Rattle.hs_groups.specs.declared.answers.Taken as answers
-use Rattle.hs_groups.specs.declared.answers.Taken.TheVariants.{Taken, Refused, Full}
-use Rattle.hs_groups.specs.declared.answers.Heard.{Heard}
-use Rattle.hs_groups.specs.declared.answers.Heard.TheVariants as hearing
-use Rattle.hs_groups.specs.declared.followed.Followed.{Followed}
+use Rattle.hs_groups.specs.declared.answers.ToldOutcome as answers
+use Rattle.hs_groups.specs.declared.answers.ToldOutcome.TheVariants.{Taken, Refused, Full}
+use Rattle.hs_groups.specs.declared.answers.LifeHeard.{LifeHeard}
+use Rattle.hs_groups.specs.declared.answers.LifeHeard.TheVariants as hearing
+use Rattle.hs_groups.specs.declared.followed_group.FollowedGroup.{FollowedGroup}
 use Rattle.hs_groups.specs.Following.{same_group, answer_of, begun, taken, is_settled, renewed, has_unsent, ask_of, sent_to, asked_again, told_of, n}
 
 -- the groups, the oldest one first, and the latest epoch of each node, 0 where none was heard
 pub record PlainGroups : Type 0 where
   pub limits : GroupLimits
   pub epochs : List ℕ
-  pub groups : List Followed
+  pub groups : List FollowedGroup
 
 -- a limit is out of its range
 abbrev pub AreOut : GroupLimits → Type 0
@@ -49,7 +49,7 @@ is_known s node crumbs = nat_lt node.0 s.limits.nodes && are_known s crumbs
 abbrev pub latest_of : PlainGroups → NodeId → ℕ
 latest_of s node = slice_index s.epochs node.0
 
-abbrev pub answer_of_hear : PlainGroups → NodeId → ℕ → Heard
+abbrev pub answer_of_hear : PlainGroups → NodeId → ℕ → LifeHeard
 answer_of_hear s node epoch =
     if nat_le s.limits.nodes node.0 then hearing.Refused
     else if nat_lt (latest_of s node) epoch then hearing.Newer
@@ -64,10 +64,10 @@ heard s node epoch =
 
 -- ---- a node tells of a group
 
-abbrev pub is_of : GroupId → Followed → Bool
+abbrev pub is_of : GroupId → FollowedGroup → Bool
 is_of group followed = same_group group followed.ask.group.id
 
-abbrev pub group_of : PlainGroups → GroupId → Option Followed
+abbrev pub group_of : PlainGroups → GroupId → Option FollowedGroup
 group_of s group = find (is_of group) s.groups
 
 -- whether the oldest group is not settled
@@ -79,11 +79,11 @@ abbrev pub is_full : PlainGroups → GroupId → Bool
 is_full s group = not (is_some (group_of s group)) && (nat_le s.limits.groups (length s.groups) && is_oldest_open s)
 
 -- these groups with the one at this place changed so
-abbrev pub changed_at : (Followed → Followed) → List Followed → ℕ → List Followed
+abbrev pub changed_at : (FollowedGroup → FollowedGroup) → List FollowedGroup → ℕ → List FollowedGroup
 changed_at change groups place = option_map_or (λ followed. slice_set groups place (change followed)) (slice_get groups place) groups
 
 -- where as many groups are followed as may be, the oldest goes
-abbrev pub with_room : PlainGroups → List Followed
+abbrev pub with_room : PlainGroups → List FollowedGroup
 with_room s = if nat_le s.limits.groups (length s.groups) then drop 1 s.groups else s.groups
 
 -- a message that answers the asks of these nodes begins its group
@@ -96,7 +96,7 @@ followed_by s node answered told =
     option_map_or (λ place. record s { groups = changed_at (λ followed. taken followed answered told) s.groups place }) (position (is_of told.group.id) s.groups)
     (begins s node answered told)
 
-abbrev pub answer_to : PlainGroups → NodeId → ℕ → Told → answers.Taken
+abbrev pub answer_to : PlainGroups → NodeId → ℕ → Told → answers.ToldOutcome
 answer_to s node epoch told =
     if is_known s node told.crumbs then (if is_full s told.group.id then Full else Taken (answer_of_hear s node epoch))
     else Refused

@@ -26,7 +26,7 @@ pub enum MakeFault {
 
 /// What is known of a life of a node.
 #[derive(Clone, Copy, Debug, PartialEq, Eq)]
-pub enum Heard {
+pub enum LifeHeard {
     /// It is the latest, or an earlier one.
     Known,
     /// It is later than all that were heard, so that the node is asked again for what it has not answered.
@@ -37,9 +37,9 @@ pub enum Heard {
 
 /// What became of a message of a group.
 #[derive(Clone, Copy, Debug, PartialEq, Eq)]
-pub enum Taken {
+pub enum ToldOutcome {
     /// It was taken, and its life was heard so.
-    Taken(Heard),
+    Taken(LifeHeard),
     /// It names a node that is not there.
     Refused,
     /// It begins a group, as many are followed as may be, and the oldest is not settled.

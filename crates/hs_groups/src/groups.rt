@@ -7,8 +7,8 @@ ghost use Rattle.std.specs.NonZero.{non_zero_usize_get};
 ghost use Rattle.hs_groups.specs.Following.{answer_of, taken, has_unsent, sent_to, renewed, asked_again};
 ghost use Rattle.hs_groups.specs.Groups.{PlainGroups, AreOut, no_groups, first_nodes, latest_of, is_known, is_of, group_of, answer_of_hear, heard, answer_to, followed_by, changed_at, begins, after_told, is_full, next_ask, after_sent, after_pass};
 
-use crate::answers::{GroupLimits, Heard, MakeFault, Taken};
-use crate::followed::Followed;
+use crate::answers::{GroupLimits, LifeHeard, MakeFault, ToldOutcome};
+use crate::followed_group::FollowedGroup;
 use hs_base::limits::MOST_NODES;
 use hs_base::{Ask, GroupId, Memory, NodeId, NodeSet, Told, Why};
 use std::alloc::Global;
@@ -34,7 +34,7 @@ pub struct Groups {
     limits: GroupLimits,
     all: NodeSet,
     epochs: Vec<u64>,
-    groups: VecDeque<Followed>,
+    groups: VecDeque<FollowedGroup>,
 }
 
 impl Model for Groups {
@@ -87,39 +87,39 @@ impl Groups {
 
     /// Hears an epoch of a node, and answers whether it is later than all that were heard of it. If so, each ask of it that has no
     /// answer is to be sent again. Takes no memory.
-    pub fn hear(&mut self, node: NodeId, epoch: u64) -> Heard
+    pub fn hear(&mut self, node: NodeId, epoch: u64) -> LifeHeard
         ensures answer { result ≡ answer_of_hear self.old node epoch }
         ensures heard { self.new ≡ heard self.old node epoch }
     {
         if node.0 >= self.limits.nodes {
-            return Heard::Refused;
+            return LifeHeard::Refused;
         }
         if epoch > self.epochs[node.0 as usize] {
             self.epochs[node.0 as usize] = epoch;
             renew_each(&mut self.groups, node);
-            return Heard::Newer;
+            return LifeHeard::Newer;
         }
-        Heard::Known
+        LifeHeard::Known
     }
 
     /// Takes a message in which a node tells of a group, in the life of this epoch: the group is followed from then on, a node
     /// that a crumb names for the first time is to be asked, and an `Answer` of the latest life answers the node's ask
-    /// (`docs/RULES.md`, "The hub"). `Taken` has what `hear` answers of the epoch. `Refused` comes where a node is named that is
+    /// (`docs/RULES.md`, "The hub"). `ToldOutcome` has what `hear` answers of the epoch. `Refused` comes where a node is named that is
     /// not there, and `Full` where it would begin one group too many while the oldest is not settled; after both all is as it
     /// was. Takes no memory.
-    pub fn told(&mut self, node: NodeId, epoch: u64, told: &Told) -> Taken
+    pub fn told(&mut self, node: NodeId, epoch: u64, told: &Told) -> ToldOutcome
         ensures answer { result ≡ answer_to self.old node epoch told.now }
         ensures after { self.new ≡ after_told self.old node epoch told.now }
     {
         if !self.is_known(node, told.crumbs) {
-            return Taken::Refused;
+            return ToldOutcome::Refused;
         }
         if self.is_full(told.group.id) {
-            return Taken::Full;
+            return ToldOutcome::Full;
         }
         let answered = self.answered(node, epoch, told.why);
         self.follow(node, answered, told);
-        Taken::Taken(self.hear(node, epoch))
+        ToldOutcome::Taken(self.hear(node, epoch))
     }
 
     /// The nodes whose ask a message answers: its node, where it is an answer of the latest life.
@@ -173,7 +173,7 @@ impl Groups {
         requires node { node.0 < MOST_NODES }
         ensures { self.new ≡ begins self.old node answered told.now }
     {
-        let mut followed = Followed::begin(node, told);
+        let mut followed = FollowedGroup::begin(node, told);
         followed.take(answered, told);
         if self.groups.len() >= self.limits.groups as usize {
             self.groups.pop_front();
@@ -209,7 +209,7 @@ impl Groups {
     }
 
     /// What is followed of a group, or `None` where it is not.
-    pub fn group(&self, group: GroupId) -> Option<&Followed>
+    pub fn group(&self, group: GroupId) -> Option<&FollowedGroup>
         ensures { option_copied result ≡ group_of self.now group }
     {
         self.groups
@@ -228,7 +228,7 @@ impl Groups {
     }
 
     /// The groups that are followed, the oldest one first: those of the first slice, and then those of the other.
-    pub fn as_slices(&self) -> (&[Followed], &[Followed])
+    pub fn as_slices(&self) -> (&[FollowedGroup], &[FollowedGroup])
         ensures { result.0.now ++ result.1.now ≡ self.now.groups }
     {
         self.groups.as_slices()
@@ -244,7 +244,7 @@ impl Groups {
 }
 
 /// Takes a message into the group at this place.
-fn take_at(groups: &mut VecDeque<Followed>, place: usize, answered: NodeSet, told: &Told)
+fn take_at(groups: &mut VecDeque<FollowedGroup>, place: usize, answered: NodeSet, told: &Told)
     requires { place < length groups.old.items }
     ensures items { groups.new.items ≡ changed_at (λ followed. taken followed answered told.now) groups.old.items place }
     ensures capacity { deque_capacity groups.new ≡ deque_capacity groups.old }
@@ -256,7 +256,7 @@ fn take_at(groups: &mut VecDeque<Followed>, place: usize, answered: NodeSet, tol
 }
 
 /// Notes that an ask of the group at this place was sent.
-fn send_at(groups: &mut VecDeque<Followed>, place: usize, node: NodeId, now: u64)
+fn send_at(groups: &mut VecDeque<FollowedGroup>, place: usize, node: NodeId, now: u64)
     requires { place < length groups.old.items }
     ensures items { groups.new.items ≡ changed_at (sent_to node now) groups.old.items place }
     ensures capacity { deque_capacity groups.new ≡ deque_capacity groups.old }
@@ -268,7 +268,7 @@ fn send_at(groups: &mut VecDeque<Followed>, place: usize, node: NodeId, now: u64
 }
 
 /// Has the ask of a node sent once more in the group at this place, where it has no answer.
-fn renew_at(groups: &mut VecDeque<Followed>, place: usize, node: NodeId)
+fn renew_at(groups: &mut VecDeque<FollowedGroup>, place: usize, node: NodeId)
     requires { place < length groups.old.items }
     ensures items { groups.new.items ≡ changed_at (renewed node) groups.old.items place }
     ensures len { length groups.new.items ≡ length groups.old.items }
@@ -281,7 +281,7 @@ fn renew_at(groups: &mut VecDeque<Followed>, place: usize, node: NodeId)
 }
 
 /// Has the ask of a node sent once more in each group where it has no answer.
-fn renew_each(groups: &mut VecDeque<Followed>, node: NodeId)
+fn renew_each(groups: &mut VecDeque<FollowedGroup>, node: NodeId)
     ensures items { groups.new.items ≡ map (renewed node) groups.old.items }
     ensures capacity { deque_capacity groups.new ≡ deque_capacity groups.old }
 {
@@ -291,7 +291,7 @@ fn renew_each(groups: &mut VecDeque<Followed>, node: NodeId)
 }
 
 /// Has the group at this place asked again, where it is due in this pass.
-fn ask_at(groups: &mut VecDeque<Followed>, place: usize, now: u64, wait: u64, tries: u32)
+fn ask_at(groups: &mut VecDeque<FollowedGroup>, place: usize, now: u64, wait: u64, tries: u32)
     requires { place < length groups.old.items }
     ensures items { groups.new.items ≡ changed_at (asked_again now wait tries) groups.old.items place }
     ensures len { length groups.new.items ≡ length groups.old.items }
@@ -304,7 +304,7 @@ fn ask_at(groups: &mut VecDeque<Followed>, place: usize, now: u64, wait: u64, tr
 }
 
 /// Has each group that is due in this pass asked again.
-fn ask_each(groups: &mut VecDeque<Followed>, now: u64, wait: u64, tries: u32)
+fn ask_each(groups: &mut VecDeque<FollowedGroup>, now: u64, wait: u64, tries: u32)
     ensures items { groups.new.items ≡ map (asked_again now wait tries) groups.old.items }
     ensures capacity { deque_capacity groups.new ≡ deque_capacity groups.old }
 {
@@ -314,7 +314,7 @@ fn ask_each(groups: &mut VecDeque<Followed>, now: u64, wait: u64, tries: u32)
 }
 
 /// The first group that has an ask to be sent.
-fn first_unsent(groups: &VecDeque<Followed>) -> Option<&Followed>
+fn first_unsent(groups: &VecDeque<FollowedGroup>) -> Option<&FollowedGroup>
     ensures { option_copied result ≡ find has_unsent groups.now.items }
 {
     groups.iter().find(|followed| followed.has_unsent())

@@ -2,9 +2,9 @@
 #![tactic(auto)]
 
 mod answers;
-mod followed;
+mod followed_group;
 mod groups;
 
-pub use answers::{GroupLimits, Heard, MakeFault, Taken};
-pub use followed::Followed;
+pub use answers::{GroupLimits, LifeHeard, MakeFault, ToldOutcome};
+pub use followed_group::FollowedGroup;
 pub use groups::Groups;

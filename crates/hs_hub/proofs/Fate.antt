@@ -16,11 +16,11 @@ use Rattle.hs_base.specs.declared.told.Ask.{Ask}
 use Rattle.hs_base.specs.declared.told.Told.{Told}
 use Rattle.hs_base.specs.Ids.{same_trace}
 use Rattle.hs_wire.specs.declared.message.Standing.{Standing}
-use Rattle.hs_groups.specs.declared.answers.Taken as group_answers
-use Rattle.hs_groups.specs.declared.answers.Taken.TheVariants as of_group
+use Rattle.hs_groups.specs.declared.answers.ToldOutcome as group_answers
+use Rattle.hs_groups.specs.declared.answers.ToldOutcome.TheVariants as of_group
 use Rattle.hs_groups.specs.Groups as groups
-use Rattle.hs_standings.specs.declared.answers.Noted as standing_answers
-use Rattle.hs_standings.specs.declared.answers.Noted.TheVariants as of_standing
+use Rattle.hs_standings.specs.declared.answers.StandingOutcome as standing_answers
+use Rattle.hs_standings.specs.declared.answers.StandingOutcome.TheVariants as of_standing
 use Rattle.hs_standings.specs.Standing as standings
 use Rattle.hs_traces.specs.declared.answers.Added as page_answers
 use Rattle.hs_traces.specs.declared.answers.Added.TheVariants as of_page
@@ -35,10 +35,10 @@ use Rattle.hs_receipts.specs.declared.answers.Waiting.{Waiting}
 use Rattle.hs_receipts.specs.Receipts as receipts
 use Rattle.hs_receipts.specs.Receipts.{PlainReceipts, kept, is_message, is_for, waits_for, is_noted, is_known, messages_for, after_wait, after_join, after_offer}
 use Rattle.hs_hub.specs.declared.answers.Delivered.TheVariants.{Held, Refused, Full}
-use Rattle.hs_hub.specs.declared.answers.Given.{Given}
+use Rattle.hs_hub.specs.declared.answers.OutReason.{OutReason}
 use Rattle.hs_hub.specs.declared.answers.HubLimits.{HubLimits}
 use Rattle.hs_hub.specs.Hub.{PlainHub, no_hub, room, node_of, life_of, waits_at, noted, all_noted, after_answer_to_told, delivered_of_page, answer_to_page, repeated, after_added, after_page, after_noted, after_ask, may_go, given, after_given, after_saved_of}
-use Rattle.hs_hub.specs.Life.{Act, Hears, Tells, Reports, Says, Asks, Passes, Gives, LetsGo, Names, after, life}
+use Rattle.hs_hub.specs.Life.{HubAct, Hears, Tells, Reports, Says, Asks, Passes, Gives, LetsGo, Names, after, life}
 use Rattle.hs_hub.specs.Kept.{Waits, Served}
 use Rattle.hs_hub.specs.Fate.{SaysThis, SayThis, IsHeldBy, WasSaved}
 use Rattle.hs_hub.proofs.Kept as kept_proofs
@@ -304,7 +304,7 @@ module _ (message : MessageId) (trace : TraceId) (key : PageKey) where
   ties_if true h new ties then = ties
   ties_if false h new ties then = then
 
-  tells : (h : PlainHub) (x : MessageId) (told : Told) (a : group_answers.Taken) → is_message message x ≡ false → Ties h → Ties (after_answer_to_told h x told a)
+  tells : (h : PlainHub) (x : MessageId) (told : Told) (a : group_answers.ToldOutcome) → is_message message x ≡ false → Ties h → Ties (after_answer_to_told h x told a)
   tells h x told (of_group.Taken heard) n ties = all_tied h.traces h.passes x h.receipts told n ties
   tells h x told of_group.Refused n ties = ties
   tells h x told of_group.Full n ties = ties
@@ -322,7 +322,7 @@ module _ (message : MessageId) (trace : TraceId) (key : PageKey) where
   reports h x t k bytes of_page.Foreign is shelf this ties = ties
   reports h x t k bytes of_page.Full is shelf this ties = ties
 
-  says : (h : PlainHub) (x : MessageId) (standing : Standing) (a : standing_answers.Noted) → is_message message x ≡ false → Ties h → Ties (after_noted h x standing a)
+  says : (h : PlainHub) (x : MessageId) (standing : Standing) (a : standing_answers.StandingOutcome) → is_message message x ≡ false → Ties h → Ties (after_noted h x standing a)
   says h x standing of_standing.Noted n ties = tied_noted h.traces h.passes x h.receipts standing.trace n ties
   says h x standing of_standing.Older n ties = tied_noted h.traces h.passes x h.receipts standing.trace n ties
   says h x standing of_standing.Full n ties = ties
@@ -334,7 +334,7 @@ module _ (message : MessageId) (trace : TraceId) (key : PageKey) where
   now_out : (r : PlainReceipts) (t : TraceId) → r.out ≡ None → after_offer r t ≡ given_out r t
   now_out r t is = ap (λ (o : Option TraceId). cond (is_none o) (given_out r t) r) is
 
-  gives : (h : PlainHub) (out : Option TraceId) (go : Option (TraceId × Given)) → h.receipts.out ≡ out → h.traces.limits.outs ≡ 1 → AreApart h.traces.waiting → IsShelf h.receipts.out h.traces.out → Ties h
+  gives : (h : PlainHub) (out : Option TraceId) (go : Option (TraceId × OutReason)) → h.receipts.out ≡ out → h.traces.limits.outs ≡ 1 → AreApart h.traces.waiting → IsShelf h.receipts.out h.traces.out → Ties h
       → Ties (after_given h (cond (is_some out) None go))
   gives h (Some t) go is outs apart shelf ties = ties
   gives h None None is outs apart shelf ties = ties
@@ -346,7 +346,7 @@ module _ (message : MessageId) (trace : TraceId) (key : PageKey) where
   lets_go h None ties = record { waiting = ties.waiting; served = tt }
   lets_go h (Some t) ties = record { waiting = ties.waiting; served = tt }
 
-  ties_on : (all : List Act) (h : PlainHub) (act : Act) → SaysThis message trace key act → Holds all h → Ties h → Ties (after h act)
+  ties_on : (all : List HubAct) (h : PlainHub) (act : HubAct) → SaysThis message trace key act → Holds all h → Ties h → Ties (after h act)
   ties_on all h (Hears node epoch) this holds ties = ties
   ties_on all h (Tells x told) this holds ties =
       let answer = groups.answer_to h.groups (node_of x) x.epoch told in
@@ -369,14 +369,14 @@ module _ (message : MessageId) (trace : TraceId) (key : PageKey) where
   abbrev pub IsIn : PlainHub → Type 0
   IsIn h = IsWith h.traces h.receipts
 
-  abbrev pub IsSavedBy : PlainHub → Act → Type 0
+  abbrev pub IsSavedBy : PlainHub → HubAct → Type 0
   IsSavedBy h act = (act ≡ LetsGo) × (h.receipts.out ≡ Some trace) × (has_page_in h.traces.out trace key ≡ true)
 
   in_if : (b : Bool) (h new : PlainHub) → IsIn h → IsIn new → IsIn (cond b h new)
   in_if true h new is then = is
   in_if false h new is then = then
 
-  in_tells : (h : PlainHub) (x : MessageId) (told : Told) (a : group_answers.Taken) → IsIn h → IsIn (after_answer_to_told h x told a)
+  in_tells : (h : PlainHub) (x : MessageId) (told : Told) (a : group_answers.ToldOutcome) → IsIn h → IsIn (after_answer_to_told h x told a)
   in_tells h x told (of_group.Taken heard) is = kept_more h.traces h.receipts (all_noted h.passes x h.receipts told) (all_noted_more h.passes x h.receipts told) is
   in_tells h x told of_group.Refused is = is
   in_tells h x told of_group.Full is = is
@@ -390,7 +390,7 @@ module _ (message : MessageId) (trace : TraceId) (key : PageKey) where
   in_reports h x t k bytes of_page.Foreign is = is
   in_reports h x t k bytes of_page.Full is = is
 
-  in_says : (h : PlainHub) (x : MessageId) (standing : Standing) (a : standing_answers.Noted) → IsIn h → IsIn (after_noted h x standing a)
+  in_says : (h : PlainHub) (x : MessageId) (standing : Standing) (a : standing_answers.StandingOutcome) → IsIn h → IsIn (after_noted h x standing a)
   in_says h x standing of_standing.Noted is = kept_more h.traces h.receipts (noted h.passes x h.receipts standing.trace) (noted_more h.passes x h.receipts standing.trace) is
   in_says h x standing of_standing.Older is = kept_more h.traces h.receipts (noted h.passes x h.receipts standing.trace) (noted_more h.passes x h.receipts standing.trace) is
   in_says h x standing of_standing.Full is = is
@@ -399,7 +399,7 @@ module _ (message : MessageId) (trace : TraceId) (key : PageKey) where
   in_asks h None is = is
   in_asks h (Some ask) is = is
 
-  in_gives : (h : PlainHub) (out : Option TraceId) (go : Option (TraceId × Given)) → h.receipts.out ≡ out → h.traces.limits.outs ≡ 1 → AreApart h.traces.waiting → IsShelf h.receipts.out h.traces.out → IsIn h
+  in_gives : (h : PlainHub) (out : Option TraceId) (go : Option (TraceId × OutReason)) → h.receipts.out ≡ out → h.traces.limits.outs ≡ 1 → AreApart h.traces.waiting → IsShelf h.receipts.out h.traces.out → IsIn h
       → IsIn (after_given h (cond (is_some out) None go))
   in_gives h (Some t) go is outs apart shelf within = within
   in_gives h None None is outs apart shelf within = within
@@ -415,7 +415,7 @@ module _ (message : MessageId) (trace : TraceId) (key : PageKey) where
   in_lets_go h (inl is) = inl (waits_on h h.receipts.out is)
   in_lets_go h (inr (page, served)) = inr (refl, served.0, page)
 
-  pub in_on : (all : List Act) (h : PlainHub) (act : Act) → Holds all h → IsIn h → IsIn (after h act) ⊎ IsSavedBy h act
+  pub in_on : (all : List HubAct) (h : PlainHub) (act : HubAct) → Holds all h → IsIn h → IsIn (after h act) ⊎ IsSavedBy h act
   in_on all h (Hears node epoch) holds is = inl is
   in_on all h (Tells x told) holds is =
       let answer = groups.answer_to h.groups (node_of x) x.epoch told in
@@ -503,18 +503,18 @@ module _ (message : MessageId) (trace : TraceId) (key : PageKey) where
 
   -- ---- all calls
 
-  pub record Stands (all : List Act) (h : PlainHub) : Type 0 where
+  pub record Stands (all : List HubAct) (h : PlainHub) : Type 0 where
     pub holds : Holds all h
     pub ties : Ties h
 
-  pub stand_on : (all : List Act) (h : PlainHub) (acts : List Act) → AreAmong acts all → SayThis message trace key acts → Stands all h → Stands all (life h acts)
+  pub stand_on : (all : List HubAct) (h : PlainHub) (acts : List HubAct) → AreAmong acts all → SayThis message trace key acts → Stands all h → Stands all (life h acts)
   stand_on all h [] among this stands = stands
   stand_on all h (act ∷ acts) among this stands =
       let there = among 0 act refl in
       stand_on all (after h act) acts (λ place other e. among (suc place) other e) this.1
       (record { holds = kept_proofs.one_call all h act there.0 there.1 stands.holds; ties = ties_on all h act this.0 stands.holds stands.ties })
 
-  in_or_saved : (all : List Act) (h : PlainHub) (acts : List Act) → AreAmong acts all → Holds all h → IsIn h → IsHeldBy (life h acts) message trace key ⊎ WasSaved h acts trace key
+  in_or_saved : (all : List HubAct) (h : PlainHub) (acts : List HubAct) → AreAmong acts all → Holds all h → IsIn h → IsHeldBy (life h acts) message trace key ⊎ WasSaved h acts trace key
   in_or_saved all h [] among holds is = inl is
   in_or_saved all h (act ∷ acts) among holds is =
       let there = among 0 act refl in
@@ -523,28 +523,28 @@ module _ (message : MessageId) (trace : TraceId) (key : PageKey) where
       later : IsHeldBy (life (after h act) acts) message trace key ⊎ WasSaved (after h act) acts trace key → IsHeldBy (life (after h act) acts) message trace key ⊎ WasSaved h (act ∷ acts) trace key
       later (inl held) = inl held
       later (inr saved) =
-          inr (record { before = act ∷ saved.before; later = saved.later; split = ap (λ (xs : List Act). act ∷ xs) saved.split; is_out = saved.is_out; has_page = saved.has_page })
+          inr (record { before = act ∷ saved.before; later = saved.later; split = ap (λ (xs : List HubAct). act ∷ xs) saved.split; is_out = saved.is_out; has_page = saved.has_page })
 
       by : IsIn (after h act) ⊎ IsSavedBy h act → (IsIn (after h act) → IsHeldBy (life (after h act) acts) message trace key ⊎ WasSaved (after h act) acts trace key)
           → IsHeldBy (life (after h act) acts) message trace key ⊎ WasSaved h (act ∷ acts) trace key
       by (inl still) rest = later (rest still)
-      by (inr (same, out, page)) rest = inr (record { before = []; later = acts; split = ap (λ (x : Act). x ∷ acts) same; is_out = out; has_page = page })
+      by (inr (same, out, page)) rest = inr (record { before = []; later = acts; split = ap (λ (x : HubAct). x ∷ acts) same; is_out = out; has_page = page })
 
 -- ---- calls among more
 
-pub among_first : (xs ys : List Act) → AreAmong xs (xs ++ ys)
+pub among_first : (xs ys : List HubAct) → AreAmong xs (xs ++ ys)
 among_first [] ys place act e = let never : None ≡ Some act = e in absurd cc
 among_first (x ∷ xs) ys zero act e = (0, e)
 among_first (x ∷ xs) ys (suc place) act e = let there = among_first xs ys place act e in (suc there.0, there.1)
 
-pub among_second : (xs ys : List Act) → AreAmong ys (xs ++ ys)
+pub among_second : (xs ys : List HubAct) → AreAmong ys (xs ++ ys)
 among_second [] ys place act e = (place, e)
 among_second (x ∷ xs) ys place act e = let there = among_second xs ys place act e in (suc there.0, there.1)
 
-pub starts : (message : MessageId) (trace : TraceId) (key : PageKey) (all : List Act) (epoch : ℕ) (is_fresh : Bool) (limits : HubLimits) → Stands message trace key all (no_hub epoch is_fresh limits)
+pub starts : (message : MessageId) (trace : TraceId) (key : PageKey) (all : List HubAct) (epoch : ℕ) (is_fresh : Bool) (limits : HubLimits) → Stands message trace key all (no_hub epoch is_fresh limits)
 starts message trace key all epoch is_fresh limits = record { holds = at_start all epoch is_fresh limits; ties = record { waiting = tt; served = tt } }
 
-pub held_or_saved : (epoch : ℕ) (is_fresh : Bool) (limits : HubLimits) (before later : List Act) (message : MessageId) (trace : TraceId) (key : PageKey) (bytes : List ℕ)
+pub held_or_saved : (epoch : ℕ) (is_fresh : Bool) (limits : HubLimits) (before later : List HubAct) (message : MessageId) (trace : TraceId) (key : PageKey) (bytes : List ℕ)
     → SayThis message trace key before → answer_to_page (life (no_hub epoch is_fresh limits) before) message trace key bytes ≡ Held
     → IsHeldBy (life (after_page (life (no_hub epoch is_fresh limits) before) message trace key bytes) later) message trace key ⊎ WasSaved (after_page (life (no_hub epoch is_fresh limits) before) message trace key bytes) later trace key
 held_or_saved epoch is_fresh limits before later message trace key bytes this held =

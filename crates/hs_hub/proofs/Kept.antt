@@ -20,11 +20,11 @@ use Rattle.hs_base.specs.declared.told.Ask.{Ask}
 use Rattle.hs_base.specs.declared.told.Told.{Told}
 use Rattle.hs_base.specs.Ids.{same_trace}
 use Rattle.hs_wire.specs.declared.message.Standing.{Standing}
-use Rattle.hs_groups.specs.declared.answers.Taken as group_answers
-use Rattle.hs_groups.specs.declared.answers.Taken.TheVariants as of_group
+use Rattle.hs_groups.specs.declared.answers.ToldOutcome as group_answers
+use Rattle.hs_groups.specs.declared.answers.ToldOutcome.TheVariants as of_group
 use Rattle.hs_groups.specs.Groups as groups
-use Rattle.hs_standings.specs.declared.answers.Noted as standing_answers
-use Rattle.hs_standings.specs.declared.answers.Noted.TheVariants as of_standing
+use Rattle.hs_standings.specs.declared.answers.StandingOutcome as standing_answers
+use Rattle.hs_standings.specs.declared.answers.StandingOutcome.TheVariants as of_standing
 use Rattle.hs_standings.specs.Standing as standings
 use Rattle.hs_traces.specs.declared.answers.Added as page_answers
 use Rattle.hs_traces.specs.declared.answers.Added.TheVariants as of_page
@@ -38,10 +38,10 @@ use Rattle.hs_receipts.specs.declared.answers.MessageId.{MessageId}
 use Rattle.hs_receipts.specs.declared.answers.Waiting.{Waiting}
 use Rattle.hs_receipts.specs.Receipts as receipts
 use Rattle.hs_receipts.specs.Receipts.{PlainReceipts, kept, is_message, is_for, waits_for, is_noted, is_known, messages_for, after_wait, after_join, after_offer}
-use Rattle.hs_hub.specs.declared.answers.Given.{Given}
+use Rattle.hs_hub.specs.declared.answers.OutReason.{OutReason}
 use Rattle.hs_hub.specs.declared.answers.HubLimits.{HubLimits}
 use Rattle.hs_hub.specs.Hub.{PlainHub, no_hub, room, node_of, life_of, waits_at, noted, all_noted, after_answer_to_told, repeated, after_added, after_noted, after_ask, may_go, given, after_given, after_saved_of}
-use Rattle.hs_hub.specs.Life.{Act, Hears, Tells, Reports, Says, Asks, Passes, Gives, LetsGo, Names, after, life}
+use Rattle.hs_hub.specs.Life.{HubAct, Hears, Tells, Reports, Says, Asks, Passes, Gives, LetsGo, Names, after, life}
 use Rattle.hs_hub.specs.Kept.{IsReportedIn, page_in, Waits, Served, AreKept}
 
 -- ---- a page joins its part
@@ -189,26 +189,26 @@ abbrev pub IsShelf : Option TraceId → Parts → Type 0
 IsShelf None parts = parts ≡ []
 IsShelf (Some trace) parts = (parts ≡ []) ⊎ ((pages : Pages) × (parts ≡ (trace, pages) ∷ []))
 
-abbrev pub ByWaiting : List Act → PlainReceipts → TraceId → PageKey → List ℕ → Type 0
+abbrev pub ByWaiting : List HubAct → PlainReceipts → TraceId → PageKey → List ℕ → Type 0
 ByWaiting acts r trace key bytes = (message : MessageId) × IsReportedIn acts message trace key bytes × Waits r trace message
 
-abbrev pub ByServed : List Act → PlainReceipts → TraceId → PageKey → List ℕ → Type 0
+abbrev pub ByServed : List HubAct → PlainReceipts → TraceId → PageKey → List ℕ → Type 0
 ByServed acts r trace key bytes = (message : MessageId) × IsReportedIn acts message trace key bytes × Served r trace message
 
-pub record Keeps (acts : List Act) (s : PlainTraces) (r : PlainReceipts) : Type 0 where
+pub record Keeps (acts : List HubAct) (s : PlainTraces) (r : PlainReceipts) : Type 0 where
   pub outs : s.limits.outs ≡ 1
   pub apart : AreApart s.waiting
   pub shelf : IsShelf r.out s.out
   pub waiting : (trace : TraceId) (key : PageKey) (bytes : List ℕ) → page_in s.waiting trace key ≡ Some bytes → ByWaiting acts r trace key bytes
   pub out : (trace : TraceId) (key : PageKey) (bytes : List ℕ) → page_in s.out trace key ≡ Some bytes → ByServed acts r trace key bytes
 
-waiting_more : (acts : List Act) (r then : PlainReceipts) (trace : TraceId) (key : PageKey) (bytes : List ℕ) → More r then → ByWaiting acts r trace key bytes → ByWaiting acts then trace key bytes
+waiting_more : (acts : List HubAct) (r then : PlainReceipts) (trace : TraceId) (key : PageKey) (bytes : List ℕ) → More r then → ByWaiting acts r trace key bytes → ByWaiting acts then trace key bytes
 waiting_more acts r then trace key bytes more (message, reported, waits) = (message, reported, more.waiting (waits_for trace message) waits)
 
-out_more : (acts : List Act) (r then : PlainReceipts) (trace : TraceId) (key : PageKey) (bytes : List ℕ) → More r then → ByServed acts r trace key bytes → ByServed acts then trace key bytes
+out_more : (acts : List HubAct) (r then : PlainReceipts) (trace : TraceId) (key : PageKey) (bytes : List ℕ) → More r then → ByServed acts r trace key bytes → ByServed acts then trace key bytes
 out_more acts r then trace key bytes more (message, reported, served) = (message, reported, (more.out ∙ served.0, more.served (is_message message) served.1))
 
-keeps_more : (acts : List Act) (s : PlainTraces) (r then : PlainReceipts) → More r then → Keeps acts s r → Keeps acts s then
+keeps_more : (acts : List HubAct) (s : PlainTraces) (r then : PlainReceipts) → More r then → Keeps acts s r → Keeps acts s then
 keeps_more acts s r then more keeps = record {
   outs = keeps.outs;
   apart = keeps.apart;
@@ -233,7 +233,7 @@ waits_itself r now message trace room =
         (and_from (eqb message.node message.node) (eqb message.epoch message.epoch && eqb message.number message.number) (same message.node)
         (and_from (eqb message.epoch message.epoch) (eqb message.number message.number) (same message.epoch) (same message.number)))
 
-page_added : (acts : List Act) (s : PlainTraces) (r : PlainReceipts) (now : ℕ) (message : MessageId) (trace : TraceId) (key : PageKey) (bytes : List ℕ)
+page_added : (acts : List HubAct) (s : PlainTraces) (r : PlainReceipts) (now : ℕ) (message : MessageId) (trace : TraceId) (key : PageKey) (bytes : List ℕ)
     → IsReportedIn acts message trace key bytes → nat_le r.most (kept r) ≡ false → Keeps acts s r → Keeps acts (with_page_of s trace key bytes) (after_wait r (waits_at now message trace))
 page_added acts s r now message trace key bytes reported room keeps = record {
   outs = keeps.outs;
@@ -288,7 +288,7 @@ abbrev pub given_out : PlainReceipts → TraceId → PlainReceipts
 given_out r trace = record r { waiting = filter (λ (waits : Waiting). not (is_for trace waits)) r.waiting; out = Some trace; served = r.served ++ messages_for trace r.waiting }
 
 -- what waited of the trace is out, or nothing did
-part_given : (acts : List Act) (s : PlainTraces) (r : PlainReceipts) (trace : TraceId) → s.out ≡ [] → Keeps acts s r → Keeps acts (offered s trace) (given_out r trace)
+part_given : (acts : List HubAct) (s : PlainTraces) (r : PlainReceipts) (trace : TraceId) → s.out ≡ [] → Keeps acts s r → Keeps acts (offered s trace) (given_out r trace)
 part_given acts s r trace none keeps = record {
   outs = keeps.outs;
   apart = removed_apart (same_trace trace) s.waiting keeps.apart;
@@ -316,7 +316,7 @@ part_given acts s r trace none keeps = record {
     is_out other q b true y e = subst (λ (x : TraceId). ByServed acts (given_out r trace) x q b) (sym (same_trace-true other trace y)) (serves q b (keeps.waiting trace q b e))
     is_out other q b false n e = let never : None ≡ Some b = e in absurd cc
 
-nothing_given : (acts : List Act) (s : PlainTraces) (r : PlainReceipts) (trace : TraceId) → s.out ≡ [] → is_some (part_of s.waiting trace) ≡ false → Keeps acts s r → Keeps acts s (given_out r trace)
+nothing_given : (acts : List HubAct) (s : PlainTraces) (r : PlainReceipts) (trace : TraceId) → s.out ≡ [] → is_some (part_of s.waiting trace) ≡ false → Keeps acts s r → Keeps acts s (given_out r trace)
 nothing_given acts s r trace none waits_not keeps = record {
   outs = keeps.outs;
   apart = keeps.apart;
@@ -342,7 +342,7 @@ given_is s trace none outs = ap (λ (b : Bool). cond b s (offered s trace)) test
         ap (λ (parts : Parts). is_some (part_of parts trace) || (nat_le s.limits.outs (length parts) || not (traces.is_waiting s trace))) none
         ∙ ap (λ (n : ℕ). nat_le n 0 || not (traces.is_waiting s trace)) outs
 
-gives_one : (acts : List Act) (s : PlainTraces) (r : PlainReceipts) (trace : TraceId) → s.out ≡ [] → Keeps acts s r → Keeps acts (given s trace) (given_out r trace)
+gives_one : (acts : List HubAct) (s : PlainTraces) (r : PlainReceipts) (trace : TraceId) → s.out ≡ [] → Keeps acts s r → Keeps acts (given s trace) (given_out r trace)
 gives_one acts s r trace none keeps = subst (λ (after : PlainTraces). Keeps acts after (given_out r trace)) (sym (given_is s trace none keeps.outs)) (at (traces.is_waiting s trace) refl)
   where
     at : (b : Bool) → traces.is_waiting s trace ≡ b → Keeps acts (cond (not b) s (offered s trace)) (given_out r trace)
@@ -354,7 +354,7 @@ gives_one acts s r trace none keeps = subst (λ (after : PlainTraces). Keeps act
 abbrev let_go : PlainReceipts → List MessageId → PlainReceipts
 let_go r done = record r { out = None; served = []; done = done }
 
-gone : (acts : List Act) (s : PlainTraces) (r : PlainReceipts) (parts : Parts) (done : List MessageId) → parts ≡ [] → Keeps acts s r → Keeps acts (record s { out = parts }) (let_go r done)
+gone : (acts : List HubAct) (s : PlainTraces) (r : PlainReceipts) (parts : Parts) (done : List MessageId) → parts ≡ [] → Keeps acts s r → Keeps acts (record s { out = parts }) (let_go r done)
 gone acts s r parts done none keeps = record {
   outs = keeps.outs;
   apart = keeps.apart;
@@ -370,14 +370,14 @@ emptied trace parts (inr (pages, one)) =
 
 -- ---- one call
 
-abbrev pub Holds : List Act → PlainHub → Type 0
+abbrev pub Holds : List HubAct → PlainHub → Type 0
 Holds acts h = Keeps acts h.traces h.receipts
 
-holds_if : (acts : List Act) (b : Bool) (h new : PlainHub) → Holds acts h → (b ≡ false → Holds acts new) → Holds acts (cond b h new)
+holds_if : (acts : List HubAct) (b : Bool) (h new : PlainHub) → Holds acts h → (b ≡ false → Holds acts new) → Holds acts (cond b h new)
 holds_if acts true h new holds then = holds
 holds_if acts false h new holds then = then refl
 
-tells : (acts : List Act) (h : PlainHub) (message : MessageId) (told : Told) (a : group_answers.Taken) → Holds acts h → Holds acts (after_answer_to_told h message told a)
+tells : (acts : List HubAct) (h : PlainHub) (message : MessageId) (told : Told) (a : group_answers.ToldOutcome) → Holds acts h → Holds acts (after_answer_to_told h message told a)
 tells acts h message told (of_group.Taken heard) holds = keeps_more acts h.traces h.receipts (all_noted h.passes message h.receipts told) (all_noted_more h.passes message h.receipts told) holds
 tells acts h message told of_group.Refused holds = holds
 tells acts h message told of_group.Full holds = holds
@@ -401,7 +401,7 @@ has_room most kept e = lt-leb most kept (within (eqb-false (most - kept) 0 e))
         by_cases (inl less) = less
         by_cases (inr not_less) = absurd (not_none (omega (arith, not_less)))
 
-reports : (acts : List Act) (h : PlainHub) (message : MessageId) (trace : TraceId) (key : PageKey) (bytes : List ℕ) → IsReportedIn acts message trace key bytes → eqb (room h) 0 ≡ false
+reports : (acts : List HubAct) (h : PlainHub) (message : MessageId) (trace : TraceId) (key : PageKey) (bytes : List ℕ) → IsReportedIn acts message trace key bytes → eqb (room h) 0 ≡ false
     → (a : page_answers.Added) → Holds acts h → Holds acts (after_added h message trace key bytes a)
 reports acts h message trace key bytes reported free of_page.Added holds = page_added acts h.traces h.receipts h.passes message trace key bytes reported (has_room h.receipts.most (kept h.receipts) free) holds
 reports acts h message trace key bytes reported free of_page.Repeated holds = keeps_more acts h.traces h.receipts (repeated h message trace key) (repeats_more h message trace key) holds
@@ -409,17 +409,17 @@ reports acts h message trace key bytes reported free of_page.NoPage holds = hold
 reports acts h message trace key bytes reported free of_page.Foreign holds = holds
 reports acts h message trace key bytes reported free of_page.Full holds = holds
 
-says : (acts : List Act) (h : PlainHub) (message : MessageId) (standing : Standing) (a : standing_answers.Noted) → Holds acts h → Holds acts (after_noted h message standing a)
+says : (acts : List HubAct) (h : PlainHub) (message : MessageId) (standing : Standing) (a : standing_answers.StandingOutcome) → Holds acts h → Holds acts (after_noted h message standing a)
 says acts h message standing of_standing.Noted holds = keeps_more acts h.traces h.receipts (noted h.passes message h.receipts standing.trace) (noted_more h.passes message h.receipts standing.trace) holds
 says acts h message standing of_standing.Older holds = keeps_more acts h.traces h.receipts (noted h.passes message h.receipts standing.trace) (noted_more h.passes message h.receipts standing.trace) holds
 says acts h message standing of_standing.Full holds = holds
 
-asks : (acts : List Act) (h : PlainHub) (ask : Option (NodeId × Ask)) → Holds acts h → Holds acts (after_ask h ask)
+asks : (acts : List HubAct) (h : PlainHub) (ask : Option (NodeId × Ask)) → Holds acts h → Holds acts (after_ask h ask)
 asks acts h None holds = holds
 asks acts h (Some ask) holds = holds
 
 -- no other trace is given out while one is out
-gives : (acts : List Act) (h : PlainHub) (out : Option TraceId) (go : Option (TraceId × Given)) → h.receipts.out ≡ out → Holds acts h → Holds acts (after_given h (cond (is_some out) None go))
+gives : (acts : List HubAct) (h : PlainHub) (out : Option TraceId) (go : Option (TraceId × OutReason)) → h.receipts.out ≡ out → Holds acts h → Holds acts (after_given h (cond (is_some out) None go))
 gives acts h (Some trace) go is holds = holds
 gives acts h None None is holds = holds
 gives acts h None (Some (trace, why)) is holds =
@@ -429,13 +429,13 @@ gives acts h None (Some (trace, why)) is holds =
     now_out : after_offer h.receipts trace ≡ given_out h.receipts trace
     now_out = ap (λ (o : Option TraceId). cond (is_none o) (given_out h.receipts trace) h.receipts) is
 
-lets_go : (acts : List Act) (h : PlainHub) (out : Option TraceId) → h.receipts.out ≡ out → Holds acts h → Holds acts (after_saved_of h out)
+lets_go : (acts : List HubAct) (h : PlainHub) (out : Option TraceId) → h.receipts.out ≡ out → Holds acts h → Holds acts (after_saved_of h out)
 lets_go acts h None is holds = gone acts h.traces h.receipts h.traces.out (receipts.after_saved h.receipts).done (subst (λ (o : Option TraceId). IsShelf o h.traces.out) is holds.shelf) holds
 lets_go acts h (Some trace) is holds =
     gone acts h.traces h.receipts (remove_entry (same_trace trace) h.traces.out) (receipts.after_saved h.receipts).done
     (emptied trace h.traces.out (subst (λ (o : Option TraceId). IsShelf o h.traces.out) is holds.shelf)) holds
 
-pub one_call : (acts : List Act) (h : PlainHub) (act : Act) (place : ℕ) → slice_get acts place ≡ Some act → Holds acts h → Holds acts (after h act)
+pub one_call : (acts : List HubAct) (h : PlainHub) (act : HubAct) (place : ℕ) → slice_get acts place ≡ Some act → Holds acts h → Holds acts (after h act)
 one_call acts h (Hears node epoch) place there holds = holds
 one_call acts h (Tells message told) place there holds =
     let answer = groups.answer_to h.groups (node_of message) message.epoch told in
@@ -459,16 +459,16 @@ one_call acts h Names place there holds =
 -- ---- all calls
 
 -- these calls are among all of them
-abbrev pub AreAmong : List Act → List Act → Type 0
-AreAmong some all = (place : ℕ) (act : Act) → slice_get some place ≡ Some act → (there : ℕ) × (slice_get all there ≡ Some act)
+abbrev pub AreAmong : List HubAct → List HubAct → Type 0
+AreAmong some all = (place : ℕ) (act : HubAct) → slice_get some place ≡ Some act → (there : ℕ) × (slice_get all there ≡ Some act)
 
-pub all_calls : (all : List Act) (h : PlainHub) (acts : List Act) → AreAmong acts all → Holds all h → Holds all (life h acts)
+pub all_calls : (all : List HubAct) (h : PlainHub) (acts : List HubAct) → AreAmong acts all → Holds all h → Holds all (life h acts)
 all_calls all h [] among holds = holds
 all_calls all h (act ∷ acts) among holds =
     let first = among 0 act refl in
     all_calls all (after h act) acts (λ place other e. among (suc place) other e) (one_call all h act first.0 first.1 holds)
 
-pub at_start : (acts : List Act) (epoch : ℕ) (is_fresh : Bool) (limits : HubLimits) → Holds acts (no_hub epoch is_fresh limits)
+pub at_start : (acts : List HubAct) (epoch : ℕ) (is_fresh : Bool) (limits : HubLimits) → Holds acts (no_hub epoch is_fresh limits)
 unfolding IsDistinct
 at_start acts epoch is_fresh limits = record {
   outs = refl;
@@ -478,7 +478,7 @@ at_start acts epoch is_fresh limits = record {
   out = λ trace key bytes e. let never : None ≡ Some bytes = e in absurd cc;
 }
 
-pub are_kept : (epoch : ℕ) (is_fresh : Bool) (limits : HubLimits) (acts : List Act) → AreKept (life (no_hub epoch is_fresh limits) acts) acts
+pub are_kept : (epoch : ℕ) (is_fresh : Bool) (limits : HubLimits) (acts : List HubAct) → AreKept (life (no_hub epoch is_fresh limits) acts) acts
 are_kept epoch is_fresh limits acts =
     let holds = all_calls acts (no_hub epoch is_fresh limits) acts (λ place act e. (place, e)) (at_start acts epoch is_fresh limits) in
     record { waiting = holds.waiting; out = holds.out }

@@ -12,11 +12,11 @@ use Rattle.hs_base.specs.declared.ids.TraceId.{TraceId}
 use Rattle.hs_base.specs.declared.told.Ask.{Ask}
 use Rattle.hs_base.specs.declared.told.Told.{Told}
 use Rattle.hs_wire.specs.declared.message.Standing.{Standing}
-use Rattle.hs_groups.specs.declared.answers.Taken as group_answers
-use Rattle.hs_groups.specs.declared.answers.Taken.TheVariants as of_group
+use Rattle.hs_groups.specs.declared.answers.ToldOutcome as group_answers
+use Rattle.hs_groups.specs.declared.answers.ToldOutcome.TheVariants as of_group
 use Rattle.hs_groups.specs.Groups as groups
-use Rattle.hs_standings.specs.declared.answers.Noted as standing_answers
-use Rattle.hs_standings.specs.declared.answers.Noted.TheVariants as of_standing
+use Rattle.hs_standings.specs.declared.answers.StandingOutcome as standing_answers
+use Rattle.hs_standings.specs.declared.answers.StandingOutcome.TheVariants as of_standing
 use Rattle.hs_standings.specs.Standing as standings
 use Rattle.hs_traces.specs.declared.answers.Added as page_answers
 use Rattle.hs_traces.specs.declared.answers.Added.TheVariants as of_page
@@ -26,10 +26,10 @@ use Rattle.hs_receipts.specs.declared.answers.MessageId.{MessageId}
 use Rattle.hs_receipts.specs.declared.answers.Waiting.{Waiting}
 use Rattle.hs_receipts.specs.Receipts as receipts
 use Rattle.hs_receipts.specs.Receipts.{PlainReceipts, kept, is_message, is_for, waits_elsewhere, is_noted, is_known, messages_for, after_wait, after_join}
-use Rattle.hs_hub.specs.declared.answers.Given.{Given}
+use Rattle.hs_hub.specs.declared.answers.OutReason.{OutReason}
 use Rattle.hs_hub.specs.declared.answers.HubLimits.{HubLimits}
 use Rattle.hs_hub.specs.Hub.{PlainHub, no_hub, room, node_of, life_of, waits_at, noted, all_noted, after_answer_to_told, repeated, after_added, after_noted, after_ask, goes, after_given, after_saved_of}
-use Rattle.hs_hub.specs.Life.{Act, Hears, Tells, Reports, Says, Asks, Passes, Gives, LetsGo, Names, after, life}
+use Rattle.hs_hub.specs.Life.{HubAct, Hears, Tells, Reports, Says, Asks, Passes, Gives, LetsGo, Names, after, life}
 use Rattle.hs_hub.specs.Named.{message_of, named_by, all_named, NoneAgain, AreNotNamed}
 
 same_message : (a b : MessageId) → is_message a b ≡ true → a ≡ b
@@ -218,7 +218,7 @@ holds_if : (named : List MessageId) (b : Bool) (h new : PlainHub) → Holds name
 holds_if named true h new holds then = holds
 holds_if named false h new holds then = then
 
-tells : (named : List MessageId) (h : PlainHub) (message : MessageId) (told : Told) (a : group_answers.Taken) → list_any (is_message message) (named ++ h.receipts.done) ≡ false → Holds named h
+tells : (named : List MessageId) (h : PlainHub) (message : MessageId) (told : Told) (a : group_answers.ToldOutcome) → list_any (is_message message) (named ++ h.receipts.done) ≡ false → Holds named h
     → Holds named (after_answer_to_told h message told a)
 tells named h message told (of_group.Taken heard) new holds =
     free_if_comes named message h.receipts (all_noted h.passes message h.receipts told) (all_noted_comes h.passes message h.receipts told) new holds
@@ -234,7 +234,7 @@ reports named h message trace key bytes of_page.NoPage new holds = holds
 reports named h message trace key bytes of_page.Foreign new holds = holds
 reports named h message trace key bytes of_page.Full new holds = holds
 
-says : (named : List MessageId) (h : PlainHub) (message : MessageId) (standing : Standing) (a : standing_answers.Noted) → list_any (is_message message) (named ++ h.receipts.done) ≡ false → Holds named h
+says : (named : List MessageId) (h : PlainHub) (message : MessageId) (standing : Standing) (a : standing_answers.StandingOutcome) → list_any (is_message message) (named ++ h.receipts.done) ≡ false → Holds named h
     → Holds named (after_noted h message standing a)
 says named h message standing of_standing.Noted new holds =
     free_if_comes named message h.receipts (noted h.passes message h.receipts standing.trace) (noted_comes h.passes message h.receipts standing.trace) new holds
@@ -246,7 +246,7 @@ asks : (named : List MessageId) (h : PlainHub) (ask : Option (NodeId × Ask)) �
 asks named h None holds = holds
 asks named h (Some ask) holds = holds
 
-gives : (named : List MessageId) (h : PlainHub) (go : Option (TraceId × Given)) → Holds named h → Holds named (after_given h go)
+gives : (named : List MessageId) (h : PlainHub) (go : Option (TraceId × OutReason)) → Holds named h → Holds named (after_given h go)
 gives named h None holds = holds
 gives named h (Some (trace, why)) holds = offer_keeps named h.receipts trace holds
 
@@ -262,7 +262,7 @@ pub names : (named done : List MessageId) → (named ++ take 1 done) ++ drop 1 d
 names named [] = append-nil (named ++ [])
 names named (x ∷ done) = append_assoc named (x ∷ []) done
 
-one_call : (named : List MessageId) (h : PlainHub) (act : Act) → IfSome (message_of act) (λ message. list_any (is_message message) (named ++ h.receipts.done) ≡ false) → Holds named h
+one_call : (named : List MessageId) (h : PlainHub) (act : HubAct) → IfSome (message_of act) (λ message. list_any (is_message message) (named ++ h.receipts.done) ≡ false) → Holds named h
     → Holds (named ++ named_by h act) (after h act)
 one_call named h (Hears node epoch) new holds = nothing_named named h.receipts holds
 one_call named h (Tells message told) new holds =
@@ -287,11 +287,11 @@ one_call named h Names new holds = λ x e. ap (list_any (is_message x)) (names n
 
 -- ---- all calls
 
-all_calls : (named : List MessageId) (h : PlainHub) (acts : List Act) → NoneAgain h named acts → Holds named h → Holds (named ++ all_named h acts) (life h acts)
+all_calls : (named : List MessageId) (h : PlainHub) (acts : List HubAct) → NoneAgain h named acts → Holds named h → Holds (named ++ all_named h acts) (life h acts)
 all_calls named h [] none holds = nothing_named named h.receipts holds
 all_calls named h (act ∷ acts) none holds =
     subst (λ (names : List MessageId). AreFree names (life (after h act) acts).receipts) (append_assoc named (named_by h act) (all_named (after h act) acts))
     (all_calls (named ++ named_by h act) (after h act) acts none.1 (one_call named h act none.0 holds))
 
-pub are_not_named : (epoch : ℕ) (is_fresh : Bool) (limits : HubLimits) (acts : List Act) → NoneAgain (no_hub epoch is_fresh limits) [] acts → AreNotNamed (no_hub epoch is_fresh limits) acts
+pub are_not_named : (epoch : ℕ) (is_fresh : Bool) (limits : HubLimits) (acts : List HubAct) → NoneAgain (no_hub epoch is_fresh limits) [] acts → AreNotNamed (no_hub epoch is_fresh limits) acts
 are_not_named epoch is_fresh limits acts none = all_calls [] (no_hub epoch is_fresh limits) acts none (λ x e. let never : false ≡ true = e in absurd cc)

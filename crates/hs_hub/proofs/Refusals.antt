@@ -2,8 +2,8 @@
 use Rattle.std.proofs.Common.{◌≡◌, ℕ, Bool, true, false, not, cond, ◌&&◌, length, nat_le, refl, sym, ap, ◌∙◌}
 use Rattle.hs_base.specs.declared.ids.NodeId.{NodeId}
 use Rattle.hs_base.specs.declared.told.Told.{Told}
-use Rattle.hs_groups.specs.declared.answers.Taken.{Taken}
-use Rattle.hs_groups.specs.declared.answers.Taken.TheVariants as of_group
+use Rattle.hs_groups.specs.declared.answers.ToldOutcome.{ToldOutcome}
+use Rattle.hs_groups.specs.declared.answers.ToldOutcome.TheVariants as of_group
 use Rattle.hs_groups.specs.Following.{answer_of}
 use Rattle.hs_groups.specs.Groups as groups
 use Rattle.hs_groups.specs.Groups.{PlainGroups, latest_of, answer_of_hear, heard, is_known, is_full, followed_by}
@@ -27,5 +27,5 @@ nothing_changes h message told new fits refused is =
     let answer = groups.answer_to h.groups n message.epoch told in
     let same : record h { groups = new } ≡ h = ap (λ (g : PlainGroups). record h { groups = g }) (is ∙ groups_stay h.groups n message.epoch told refused) in
     let there : after_told h message told ≡ h =
-    ap (λ (b : Bool). cond b h (after_answer_to_told h message told answer)) fits ∙ sym (ap (λ (a : Taken). after_answer_to_told h message told a) refused) in
+    ap (λ (b : Bool). cond b h (after_answer_to_told h message told answer)) fits ∙ sym (ap (λ (a : ToldOutcome). after_answer_to_told h message told a) refused) in
     same ∙ sym there

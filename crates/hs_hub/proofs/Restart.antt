@@ -12,7 +12,7 @@ use Rattle.hs_receipts.specs.declared.answers.Waiting.{Waiting}
 use Rattle.hs_receipts.specs.Receipts.{is_message, is_for, waits_for, waits_elsewhere}
 use Rattle.hs_hub.specs.declared.answers.HubLimits.{HubLimits}
 use Rattle.hs_hub.specs.Hub.{PlainHub, no_hub}
-use Rattle.hs_hub.specs.Life.{Act, life, all_deeds}
+use Rattle.hs_hub.specs.Life.{HubAct, life, all_deeds}
 use Rattle.hs_hub.specs.Kept.{IsReportedIn, page_in, Waits, Served, AreKept}
 use Rattle.hs_hub.specs.Restart.{IsHeld, HearsAgain, HoldsAgain}
 use Rattle.hs_hub.proofs.Kept.{are_kept}
@@ -27,7 +27,7 @@ waits_somewhere trace message (w ∷ ws) e = at (is_for trace w) (is_message mes
     at true false e rest = rest e
     at false false e rest = rest e
 
-module _ (trace : TraceId) (h : PlainHub) (acts : List Act) (new : PlainHub) (others : List Act) (kept : AreKept h acts) (hears : HearsAgain trace h acts new others) where
+module _ (trace : TraceId) (h : PlainHub) (acts : List HubAct) (new : PlainHub) (others : List HubAct) (kept : AreKept h acts) (hears : HearsAgain trace h acts new others) where
   -- a page that was held came by a message that is kept, and comes again
   comes_again : (key : PageKey) (bytes : List ℕ) → IsHeld h trace key bytes → Brings (pages_of trace (all_deeds new others)) key bytes
   comes_again key bytes (inl waits) = by_waiting (kept.waiting trace key bytes waits)
@@ -47,6 +47,6 @@ module _ (trace : TraceId) (h : PlainHub) (acts : List Act) (new : PlainHub) (ot
       ap (λ (s : PlainTraces). page_in s.waiting trace key) (all_calls new others)
       ∙ what_comes_waits trace new.traces (all_deeds new others) hears.nothing hears.heard key bytes brought (λ other comes. hears.alike key other bytes comes brought)
 
-pub hold_again : (epoch : ℕ) (is_fresh : Bool) (limits : HubLimits) (acts : List Act) (trace : TraceId) (new : PlainHub) (others : List Act)
+pub hold_again : (epoch : ℕ) (is_fresh : Bool) (limits : HubLimits) (acts : List HubAct) (trace : TraceId) (new : PlainHub) (others : List HubAct)
     → HearsAgain trace (life (no_hub epoch is_fresh limits) acts) acts new others → HoldsAgain trace (life (no_hub epoch is_fresh limits) acts) (life new others)
 hold_again epoch is_fresh limits acts trace new others hears = holds_again trace (life (no_hub epoch is_fresh limits) acts) acts new others (are_kept epoch is_fresh limits acts) hears

@@ -23,13 +23,13 @@ use Rattle.hs_traces.specs.Parts.{Pages, with_page}
 use Rattle.hs_traces.specs.Traces as traces
 use Rattle.hs_traces.specs.Traces.{PlainTraces, part_of, with_page_in, with_page_of, offered}
 use Rattle.hs_traces.specs.History as history
-use Rattle.hs_traces.specs.History.{Deed, Coming, Comes, Offers, Saves, after_all, after_answer, after_offer}
+use Rattle.hs_traces.specs.History.{TraceDeed, Coming, Comes, Offers, Saves, after_all, after_answer, after_offer}
 use Rattle.hs_traces.proofs.Pages.{sorted_nil, sorted-insert}
 use Rattle.hs_cursor.specs.Walking.{AreInOrder, AreSheets}
 use Rattle.hs_cursor.proofs.Walks.{walks}
 use Rattle.hs_hub.specs.declared.answers.HubLimits.{HubLimits}
 use Rattle.hs_hub.specs.Hub.{PlainHub, no_hub, room, pages_out, answer_to_take}
-use Rattle.hs_hub.specs.Life.{Act, Hears, Tells, Reports, Says, Asks, Passes, Gives, LetsGo, Names, after, life, deeds_of, offers, saves}
+use Rattle.hs_hub.specs.Life.{HubAct, Hears, Tells, Reports, Says, Asks, Passes, Gives, LetsGo, Names, after, life, deeds_of, offers, saves}
 use Rattle.hs_hub.specs.RowsOut.{BringsPages, AllBringPages, GivesRows}
 use Rattle.hs_hub.proofs.Lives.{one_call}
 
@@ -107,12 +107,12 @@ joined_good s page spelled good = record { waiting = at (part_of s.waiting page.
 
 -- ---- one deed, and more
 
-abbrev IsPageDeed : Deed → Type 0
+abbrev IsPageDeed : TraceDeed → Type 0
 IsPageDeed (Comes page) = (sheet : Sheet) × Spells sheet page.bytes
 IsPageDeed (Offers trace) = Unit {0}
 IsPageDeed (Saves trace) = Unit {0}
 
-one_deed : (s : PlainTraces) (deed : Deed) → IsPageDeed deed → AreGood s → AreGood (history.after s deed)
+one_deed : (s : PlainTraces) (deed : TraceDeed) → IsPageDeed deed → AreGood s → AreGood (history.after s deed)
 one_deed s (Comes page) spelled good = at (traces.answer_to s page.trace page.key (length page.bytes))
   where
     at : (a : page_answers.Added) → AreGood (after_answer s page a)
@@ -133,7 +133,7 @@ one_deed s (Offers trace) is good = at (traces.answer_of_offer s trace)
     at of_offer.Busy = good
 one_deed s (Saves trace) is good = record { waiting = good.waiting; out = removed_good trace s.out good.out }
 
-all_deeds_good : (s : PlainTraces) (deeds : List Deed) → AllByRecursion IsPageDeed deeds → AreGood s → AreGood (after_all s deeds)
+all_deeds_good : (s : PlainTraces) (deeds : List TraceDeed) → AllByRecursion IsPageDeed deeds → AreGood s → AreGood (after_all s deeds)
 all_deeds_good s [] are good = good
 all_deeds_good s (deed ∷ deeds) are good = all_deeds_good (history.after s deed) deeds are.1 (one_deed s deed are.0 good)
 
@@ -151,7 +151,7 @@ saves_once : (trace : Option TraceId) → AllByRecursion IsPageDeed (saves trace
 saves_once None = tt
 saves_once (Some trace) = (tt, tt)
 
-brought : (h : PlainHub) (act : Act) → BringsPages act → AllByRecursion IsPageDeed (deeds_of h act)
+brought : (h : PlainHub) (act : HubAct) → BringsPages act → AllByRecursion IsPageDeed (deeds_of h act)
 brought h (Hears node epoch) is = tt
 brought h (Tells message told) is = tt
 brought h (Reports message trace key bytes) is = comes_once (nat_le h.limits.nodes message.node || eqb (room h) 0) (record { trace = trace; key = key; bytes = bytes }) is
@@ -162,7 +162,7 @@ brought h Gives is = offers_once (answer_to_take h)
 brought h LetsGo is = saves_once h.receipts.out
 brought h Names is = tt
 
-life_good : (h : PlainHub) (acts : List Act) → AllBringPages acts → AreGood h.traces → AreGood (life h acts).traces
+life_good : (h : PlainHub) (acts : List HubAct) → AllBringPages acts → AreGood h.traces → AreGood (life h acts).traces
 life_good h [] are good = good
 life_good h (act ∷ acts) are good = life_good (after h act) acts are.1 (subst AreGood (sym (one_call h act)) (all_deeds_good h.traces (deeds_of h act) (brought h act are.0) good))
 
@@ -173,7 +173,7 @@ out_good h good = at h.receipts.out
     at None = none_good
     at (Some trace) = found_good trace h.traces.out good.out
 
-pub gives_rows : (epoch : ℕ) (is_fresh : Bool) (limits : HubLimits) (acts : List Act) → AllBringPages acts → GivesRows (life (no_hub epoch is_fresh limits) acts)
+pub gives_rows : (epoch : ℕ) (is_fresh : Bool) (limits : HubLimits) (acts : List HubAct) → AllBringPages acts → GivesRows (life (no_hub epoch is_fresh limits) acts)
 gives_rows epoch is_fresh limits acts are =
     let h = life (no_hub epoch is_fresh limits) acts in
     let good = out_good h (life_good (no_hub epoch is_fresh limits) acts are (record { waiting = tt; out = tt })) in

@@ -8,11 +8,11 @@ use Rattle.hs_base.specs.declared.ids.TraceId.{TraceId}
 use Rattle.hs_base.specs.declared.told.Ask.{Ask}
 use Rattle.hs_base.specs.declared.told.Told.{Told}
 use Rattle.hs_wire.specs.declared.message.Standing.{Standing}
-use Rattle.hs_groups.specs.declared.answers.Taken as group_answers
-use Rattle.hs_groups.specs.declared.answers.Taken.TheVariants as of_group
+use Rattle.hs_groups.specs.declared.answers.ToldOutcome as group_answers
+use Rattle.hs_groups.specs.declared.answers.ToldOutcome.TheVariants as of_group
 use Rattle.hs_groups.specs.Groups as groups
-use Rattle.hs_standings.specs.declared.answers.Noted as standing_answers
-use Rattle.hs_standings.specs.declared.answers.Noted.TheVariants as of_standing
+use Rattle.hs_standings.specs.declared.answers.StandingOutcome as standing_answers
+use Rattle.hs_standings.specs.declared.answers.StandingOutcome.TheVariants as of_standing
 use Rattle.hs_standings.specs.Standing as standings
 use Rattle.hs_traces.specs.declared.answers.Added as page_answers
 use Rattle.hs_traces.specs.declared.answers.Added.TheVariants as of_page
@@ -23,10 +23,10 @@ use Rattle.hs_receipts.specs.declared.answers.MessageId.{MessageId}
 use Rattle.hs_receipts.specs.Receipts as receipts
 use Rattle.hs_receipts.specs.Receipts.{PlainReceipts, is_message}
 use Rattle.hs_hub.specs.declared.answers.Delivered.TheVariants.{Held}
-use Rattle.hs_hub.specs.declared.answers.Given.{Given}
+use Rattle.hs_hub.specs.declared.answers.OutReason.{OutReason}
 use Rattle.hs_hub.specs.declared.answers.HubLimits.{HubLimits}
 use Rattle.hs_hub.specs.Hub.{PlainHub, no_hub, room, node_of, life_of, after_answer_to_told, answer_to_page, after_added, after_page, after_noted, after_ask, goes, after_given, after_saved_of}
-use Rattle.hs_hub.specs.Life.{Act, Hears, Tells, Reports, Says, Asks, Passes, Gives, LetsGo, Names, after, life}
+use Rattle.hs_hub.specs.Life.{HubAct, Hears, Tells, Reports, Says, Asks, Passes, Gives, LetsGo, Names, after, life}
 use Rattle.hs_hub.specs.Named.{named_by, all_named}
 use Rattle.hs_hub.specs.Fate.{SayThis, WasSaved}
 use Rattle.hs_hub.proofs.Kept as kept_proofs
@@ -44,7 +44,7 @@ same_if : (b : Bool) (h new : PlainHub) → AreSame h new → AreSame h (cond b 
 same_if true h new same = refl
 same_if false h new same = same
 
-tells : (h : PlainHub) (x : MessageId) (told : Told) (a : group_answers.Taken) → AreSame h (after_answer_to_told h x told a)
+tells : (h : PlainHub) (x : MessageId) (told : Told) (a : group_answers.ToldOutcome) → AreSame h (after_answer_to_told h x told a)
 tells h x told (of_group.Taken heard) = (all_noted_comes h.passes x h.receipts told).done
 tells h x told of_group.Refused = refl
 tells h x told of_group.Full = refl
@@ -56,7 +56,7 @@ reports h x t k bytes of_page.NoPage = refl
 reports h x t k bytes of_page.Foreign = refl
 reports h x t k bytes of_page.Full = refl
 
-says : (h : PlainHub) (x : MessageId) (standing : Standing) (a : standing_answers.Noted) → AreSame h (after_noted h x standing a)
+says : (h : PlainHub) (x : MessageId) (standing : Standing) (a : standing_answers.StandingOutcome) → AreSame h (after_noted h x standing a)
 says h x standing of_standing.Noted = (noted_comes h.passes x h.receipts standing.trace).done
 says h x standing of_standing.Older = (noted_comes h.passes x h.receipts standing.trace).done
 says h x standing of_standing.Full = refl
@@ -65,7 +65,7 @@ asks : (h : PlainHub) (ask : Option (NodeId × Ask)) → AreSame h (after_ask h 
 asks h None = refl
 asks h (Some ask) = refl
 
-gives : (h : PlainHub) (go : Option (TraceId × Given)) → AreSame h (after_given h go)
+gives : (h : PlainHub) (go : Option (TraceId × OutReason)) → AreSame h (after_given h go)
 gives h None = refl
 gives h (Some (t, why)) = by (is_none h.receipts.out)
   where
@@ -89,10 +89,10 @@ module _ (message : MessageId) (trace : TraceId) (key : PageKey) where
   free_still named h new same free =
       ap (λ (all : List MessageId). list_any (is_message message) (all ++ new.receipts.done)) (append-nil named) ∙ ap (λ (done : List MessageId). list_any (is_message message) (named ++ done)) same ∙ free
 
-  abbrev Goes : List MessageId → PlainHub → Act → Type 0
+  abbrev Goes : List MessageId → PlainHub → HubAct → Type 0
   Goes named h act = (IsIn message trace key (after h act) × IsFree (named ++ named_by h act) (after h act)) ⊎ IsSavedBy message trace key h act
 
-  with_free : (named : List MessageId) (h : PlainHub) (act : Act) → IsFree (named ++ named_by h act) (after h act) → IsIn message trace key (after h act) ⊎ IsSavedBy message trace key h act → Goes named h act
+  with_free : (named : List MessageId) (h : PlainHub) (act : HubAct) → IsFree (named ++ named_by h act) (after h act) → IsIn message trace key (after h act) ⊎ IsSavedBy message trace key h act → Goes named h act
   with_free named h act free (inl is) = inl (is, free)
   with_free named h act free (inr saved) = inr saved
 
@@ -110,7 +110,7 @@ module _ (message : MessageId) (trace : TraceId) (key : PageKey) where
       )
   lets_go named h free (inr (page, served)) = inr (refl, served.0, page)
 
-  one_call : (all : List Act) (named : List MessageId) (h : PlainHub) (act : Act) → Holds all h → IsFree named h → IsIn message trace key h → Goes named h act
+  one_call : (all : List HubAct) (named : List MessageId) (h : PlainHub) (act : HubAct) → Holds all h → IsFree named h → IsIn message trace key h → Goes named h act
   one_call all named h (Hears node epoch) holds free is = with_free named h (Hears node epoch) (free_still named h h refl free) (in_on message trace key all h (Hears node epoch) holds is)
   one_call all named h (Tells x told) holds free is =
       let answer = groups.answer_to h.groups (node_of x) x.epoch told in
@@ -131,7 +131,7 @@ module _ (message : MessageId) (trace : TraceId) (key : PageKey) where
   one_call all named h LetsGo holds free is = lets_go named h free is
   one_call all named h Names holds free is = with_free named h Names (ap (list_any (is_message message)) (names named h.receipts.done) ∙ free) (in_on message trace key all h Names holds is)
 
-  all_calls : (all : List Act) (named : List MessageId) (h : PlainHub) (acts : List Act) → AreAmong acts all → Holds all h → IsFree named h → IsIn message trace key h
+  all_calls : (all : List HubAct) (named : List MessageId) (h : PlainHub) (acts : List HubAct) → AreAmong acts all → Holds all h → IsFree named h → IsIn message trace key h
       → IsFree (named ++ all_named h acts) (life h acts) ⊎ WasSaved h acts trace key
   all_calls all named h [] among holds free is = inl (free_still named h h refl free)
   all_calls all named h (act ∷ acts) among holds free is =
@@ -145,13 +145,13 @@ module _ (message : MessageId) (trace : TraceId) (key : PageKey) where
       later (inl free) =
           inl (sym (ap (λ (all : List MessageId). list_any (is_message message) (all ++ (life (after h act) acts).receipts.done)) (append_assoc named (named_by h act) (all_named (after h act) acts))) ∙ free)
       later (inr saved) =
-          inr (record { before = act ∷ saved.before; later = saved.later; split = ap (λ (xs : List Act). act ∷ xs) saved.split; is_out = saved.is_out; has_page = saved.has_page })
+          inr (record { before = act ∷ saved.before; later = saved.later; split = ap (λ (xs : List HubAct). act ∷ xs) saved.split; is_out = saved.is_out; has_page = saved.has_page })
 
       by : Goes named h act → (IsFree (named ++ named_by h act) (after h act) → IsIn message trace key (after h act) → Rest) → IsFree (named ++ all_named h (act ∷ acts)) (life h (act ∷ acts)) ⊎ WasSaved h (act ∷ acts) trace key
       by (inl (still, free)) rest = later (rest free still)
-      by (inr (same, out, page)) rest = inr (record { before = []; later = acts; split = ap (λ (x : Act). x ∷ acts) same; is_out = out; has_page = page })
+      by (inr (same, out, page)) rest = inr (record { before = []; later = acts; split = ap (λ (x : HubAct). x ∷ acts) same; is_out = out; has_page = page })
 
-pub saved_first : (epoch : ℕ) (is_fresh : Bool) (limits : HubLimits) (before later : List Act) (message : MessageId) (trace : TraceId) (key : PageKey) (bytes : List ℕ)
+pub saved_first : (epoch : ℕ) (is_fresh : Bool) (limits : HubLimits) (before later : List HubAct) (message : MessageId) (trace : TraceId) (key : PageKey) (bytes : List ℕ)
     → SayThis message trace key before → answer_to_page (life (no_hub epoch is_fresh limits) before) message trace key bytes ≡ Held
     → list_any (is_message message) (life (no_hub epoch is_fresh limits) before).receipts.done ≡ false
     → list_any (is_message message) (all_named (after_page (life (no_hub epoch is_fresh limits) before) message trace key bytes) later) ≡ true

@@ -13,13 +13,13 @@ use Rattle.hs_base.specs.declared.told.Ask.{Ask}
 use Rattle.hs_base.specs.declared.told.Told.{Told}
 use Rattle.hs_base.specs.NodeSets.{nodes_of}
 use Rattle.hs_wire.specs.declared.message.Standing.{Standing}
-use Rattle.hs_groups.specs.declared.answers.Heard.TheVariants as hearing
-use Rattle.hs_groups.specs.declared.answers.Taken.TheVariants as of_group
+use Rattle.hs_groups.specs.declared.answers.LifeHeard.TheVariants as hearing
+use Rattle.hs_groups.specs.declared.answers.ToldOutcome.TheVariants as of_group
 use Rattle.hs_groups.specs.Following.{answer_of, taken, renewed, sent_to}
 use Rattle.hs_groups.specs.Groups as groups
 use Rattle.hs_groups.specs.Groups.{PlainGroups, latest_of, answer_of_hear, heard, is_known, is_full, is_of, changed_at, begins, followed_by}
-use Rattle.hs_standings.specs.declared.answers.Noted as standing_answers
-use Rattle.hs_standings.specs.declared.answers.Noted.TheVariants as of_standing
+use Rattle.hs_standings.specs.declared.answers.StandingOutcome as standing_answers
+use Rattle.hs_standings.specs.declared.answers.StandingOutcome.TheVariants as of_standing
 use Rattle.hs_standings.specs.Standing as standings
 use Rattle.hs_traces.specs.declared.answers.Added as page_answers
 use Rattle.hs_traces.specs.declared.answers.Added.TheVariants as of_page
@@ -29,11 +29,11 @@ use Rattle.hs_traces.specs.Traces.{keys_in}
 use Rattle.hs_receipts.specs.declared.answers.MessageId.{MessageId}
 use Rattle.hs_saved.specs.Saved.{parts_of}
 use Rattle.hs_verdict.specs.Verdict.{claims, is_whole}
-use Rattle.hs_hub.specs.declared.answers.Given.{Given}
+use Rattle.hs_hub.specs.declared.answers.OutReason.{OutReason}
 use Rattle.hs_hub.specs.declared.answers.HubLimits.{HubLimits}
 use Rattle.hs_hub.specs.Births.{with_birth, is_sure, are_nodes_sure, is_group_sure, are_sure}
 use Rattle.hs_hub.specs.Hub.{PlainHub, no_hub, room, birth_of, node_of, life_of, after_answer_to_told, after_added, after_noted, after_ask, after_given, goes, after_saved_of, is_sure_of, is_whole_out}
-use Rattle.hs_hub.specs.Life.{Act, Hears, Tells, Reports, Says, Asks, Passes, Gives, LetsGo, Names, after, life}
+use Rattle.hs_hub.specs.Life.{HubAct, Hears, Tells, Reports, Says, Asks, Passes, Gives, LetsGo, Names, after, life}
 use Rattle.hs_hub.specs.SureLives.{latest_at, IsHeard, IsUnheard, IsOfSureLives}
 
 -- ---- a list with one element set
@@ -153,7 +153,7 @@ reports h message trace key bytes size false false of_page.Foreign = stay h.grou
 reports h message trace key bytes size false false of_page.Full = stay h.groups h.births (birth_of h) size
 
 says : (h : PlainHub) (message : MessageId) (standing : Standing) → length h.births ≡ length h.groups.epochs
-    → (unknown full : Bool) (a : standing_answers.Noted) → Step h (cond unknown h (cond full h (after_noted h message standing a)))
+    → (unknown full : Bool) (a : standing_answers.StandingOutcome) → Step h (cond unknown h (cond full h (after_noted h message standing a)))
 says h message standing size true full a = stay h.groups h.births (birth_of h) size
 says h message standing size false true a = stay h.groups h.births (birth_of h) size
 says h message standing size false false of_standing.Noted = heard_steps h.groups h.births (node_of message) message.epoch (birth_of h) size
@@ -171,7 +171,7 @@ asks : (h : PlainHub) (ask : Option (NodeId × Ask)) → length h.births ≡ len
 asks h None size = stay h.groups h.births (birth_of h) size
 asks h (Some ask) size = sent h ask size (position (is_of ask.1.group.id) h.groups.groups)
 
-gives : (h : PlainHub) (trace : Option (TraceId × Given)) → length h.births ≡ length h.groups.epochs → Step h (after_given h trace)
+gives : (h : PlainHub) (trace : Option (TraceId × OutReason)) → length h.births ≡ length h.groups.epochs → Step h (after_given h trace)
 gives h None size = stay h.groups h.births (birth_of h) size
 gives h (Some trace) size = stay h.groups h.births (birth_of h) size
 
@@ -179,7 +179,7 @@ lets_go : (h : PlainHub) (trace : Option TraceId) → length h.births ≡ length
 lets_go h None size = stay h.groups h.births (birth_of h) size
 lets_go h (Some trace) size = stay h.groups h.births (birth_of h) size
 
-one_call : (h : PlainHub) → length h.births ≡ length h.groups.epochs → (act : Act) → Step h (after h act)
+one_call : (h : PlainHub) → length h.births ≡ length h.groups.epochs → (act : HubAct) → Step h (after h act)
 one_call h size (Hears node epoch) = heard_steps h.groups h.births node epoch (birth_of h) size
 one_call h size (Tells message told) =
     tells h message told size (nat_le (room h) (length told.laterals)) (is_known h.groups (node_of message) told.crumbs) (is_full h.groups told.group.id) refl refl
@@ -195,7 +195,7 @@ one_call h size Names = stay h.groups h.births (birth_of h) size
 
 -- ---- all calls
 
-all_calls : (h : PlainHub) (acts : List Act) → length h.births ≡ length h.groups.epochs → (node b : ℕ) → slice_get (life h acts).births node ≡ Some b
+all_calls : (h : PlainHub) (acts : List HubAct) → length h.births ≡ length h.groups.epochs → (node b : ℕ) → slice_get (life h acts).births node ≡ Some b
     → IsHeard h acts node b ⊎ IsUnheard h acts node b
 all_calls h [] size node b e = inr (record { latest = refl; sure = e })
 all_calls h (act ∷ acts) size node b e = by (all_calls (after h act) acts step.size node b e)
@@ -209,7 +209,7 @@ all_calls h (act ∷ acts) size node b e = by (all_calls (after h act) acts step
 
     by : IsHeard (after h act) acts node b ⊎ IsUnheard (after h act) acts node b → IsHeard h (act ∷ acts) node b ⊎ IsUnheard h (act ∷ acts) node b
     by (inl later) =
-        inl (record { before = act ∷ later.before; act = later.act; later = later.later; split = ap (λ (xs : List Act). act ∷ xs) later.split; newer = later.newer; latest = later.latest; sure = later.sure })
+        inl (record { before = act ∷ later.before; act = later.act; later = later.later; split = ap (λ (xs : List HubAct). act ∷ xs) later.split; newer = later.newer; latest = later.latest; sure = later.sure })
     by (inr none) = first none.latest (step.at node b none.sure)
 
 -- ---- what is called whole
@@ -230,7 +230,7 @@ sure_at : (since : ℕ) (o : Option ℕ) → option_map_or (λ birth. nat_le bir
 sure_at since (Some birth) e = (birth, refl, leb-true birth since e)
 sure_at since None e = let never : false ≡ true = e in absurd cc
 
-said : (h : PlainHub) (acts : List Act) (trace : TraceId) → length h.births ≡ length h.groups.epochs → is_sure_of (life h acts) trace ≡ true → IsOfSureLives h acts trace
+said : (h : PlainHub) (acts : List HubAct) (trace : TraceId) → length h.births ≡ length h.groups.epochs → is_sure_of (life h acts) trace ≡ true → IsOfSureLives h acts trace
 said h acts trace size e =
     let k = life h acts in
     let parts = eqb (parts_of k.saved trace) 0 in
@@ -244,7 +244,7 @@ said h acts trace size e =
           (birth, within, all_calls h acts size node birth is);
     }
 
-pub sure_said : (epoch : ℕ) (is_fresh : Bool) (limits : HubLimits) (acts : List Act) (trace : TraceId)
+pub sure_said : (epoch : ℕ) (is_fresh : Bool) (limits : HubLimits) (acts : List HubAct) (trace : TraceId)
     → (life (no_hub epoch is_fresh limits) acts).receipts.out ≡ Some trace → is_whole_out (life (no_hub epoch is_fresh limits) acts) ≡ true → IsOfSureLives (no_hub epoch is_fresh limits) acts trace
 sure_said epoch is_fresh limits acts trace out e =
     let h = no_hub epoch is_fresh limits in

@@ -7,9 +7,9 @@ use Rattle.hs_base.specs.declared.ids.NodeId.{NodeId}
 use Rattle.hs_base.specs.declared.ids.TraceId.{TraceId}
 use Rattle.hs_base.specs.declared.node_set.NodeSet.{NodeSet}
 use Rattle.hs_base.specs.NodeSets.{nodes_of}
-use Rattle.hs_groups.specs.declared.answers.Heard.{Heard}
-use Rattle.hs_groups.specs.declared.answers.Heard.TheVariants as hearing
-use Rattle.hs_groups.specs.declared.followed.Followed.{Followed}
+use Rattle.hs_groups.specs.declared.answers.LifeHeard.{LifeHeard}
+use Rattle.hs_groups.specs.declared.answers.LifeHeard.TheVariants as hearing
+use Rattle.hs_groups.specs.declared.followed_group.FollowedGroup.{FollowedGroup}
 use Rattle.hs_verdict.specs.Verdict.{claims}
 
 -- the pass that never comes
@@ -21,7 +21,7 @@ abbrev pub no_births : (nodes : ℕ) → Bool → List ℕ
 no_births nodes is_fresh = replicate nodes (if is_fresh then 0 else never)
 
 -- a life that is newer than all that were heard of its node is sure from this pass on
-abbrev pub with_birth : Heard → NodeId → ℕ → List ℕ → List ℕ
+abbrev pub with_birth : LifeHeard → NodeId → ℕ → List ℕ → List ℕ
 with_birth hearing.Newer node birth births = slice_set births node.0 birth
 with_birth hearing.Known node birth births = births
 with_birth hearing.Refused node birth births = births
@@ -34,10 +34,10 @@ abbrev pub are_nodes_sure : List ℕ → ℕ → NodeSet → Bool
 are_nodes_sure births since nodes = list_all (is_sure births since) (nodes_of nodes)
 
 -- whether a group does not claim the trace, or each node that it reached was sure
-abbrev pub is_group_sure : List ℕ → ℕ → TraceId → Followed → Bool
+abbrev pub is_group_sure : List ℕ → ℕ → TraceId → FollowedGroup → Bool
 is_group_sure births since trace followed = not (claims trace followed) || are_nodes_sure births since followed.asked
 
-abbrev pub are_sure : List ℕ → ℕ → TraceId → List Followed → Bool
+abbrev pub are_sure : List ℕ → ℕ → TraceId → List FollowedGroup → Bool
 are_sure births since trace groups = list_all (is_group_sure births since trace) groups
 
 -- ---- worked examples: node 0 is sure from the start, node 1 from pass 30 on, and there is no node 2

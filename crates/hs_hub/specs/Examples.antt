@@ -12,7 +12,7 @@ use Rattle.hs_traces.specs.Keys.{key_at}
 use Rattle.hs_traces.specs.Traces.{held_bytes}
 use Rattle.hs_receipts.specs.declared.answers.MessageId.{MessageId}
 use Rattle.hs_hub.specs.declared.answers.HubLimits.{HubLimits}
-use Rattle.hs_hub.specs.declared.answers.Given.TheVariants.{Complete, Aged, CutShort}
+use Rattle.hs_hub.specs.declared.answers.OutReason.TheVariants.{Complete, Aged, CutShort}
 use Rattle.hs_hub.specs.declared.answers.Delivered.TheVariants.{Held, Refused, Full}
 use Rattle.hs_hub.specs.Hub.{PlainHub, no_hub, after_hear, answer_to_told, after_told, answer_to_page, after_page, after_standing, answer_to_take, after_take, after_saved, after_pass, why_out, part_out, is_whole_out}
 

@@ -13,23 +13,23 @@ use Rattle.hs_words.specs.Reading.{Spells}
 use Rattle.hs_wire.specs.declared.message.Head.{Head}
 use Rattle.hs_wire.specs.declared.message.Standing.{Standing}
 use Rattle.hs_wire.specs.Messages.{PlainMessage, message_bytes, Said, SaysHello, SaysTold, SaysAsk, SaysReported, SaysStanding}
-use Rattle.hs_groups.specs.declared.answers.Heard.{Heard}
-use Rattle.hs_groups.specs.declared.answers.Heard.TheVariants as hearing
-use Rattle.hs_groups.specs.declared.answers.Taken as group_answers
-use Rattle.hs_groups.specs.declared.answers.Taken.TheVariants as of_group
-use Rattle.hs_groups.specs.declared.followed.Followed.{Followed}
+use Rattle.hs_groups.specs.declared.answers.LifeHeard.{LifeHeard}
+use Rattle.hs_groups.specs.declared.answers.LifeHeard.TheVariants as hearing
+use Rattle.hs_groups.specs.declared.answers.ToldOutcome as group_answers
+use Rattle.hs_groups.specs.declared.answers.ToldOutcome.TheVariants as of_group
+use Rattle.hs_groups.specs.declared.followed_group.FollowedGroup.{FollowedGroup}
 use Rattle.hs_groups.specs.Groups as groups
 use Rattle.hs_groups.specs.Groups.{PlainGroups}
 use Rattle.hs_standings.specs.declared.answers.Life.{Life}
-use Rattle.hs_standings.specs.declared.answers.Noted as standing_answers
-use Rattle.hs_standings.specs.declared.answers.Noted.TheVariants as of_standing
+use Rattle.hs_standings.specs.declared.answers.StandingOutcome as standing_answers
+use Rattle.hs_standings.specs.declared.answers.StandingOutcome.TheVariants as of_standing
 use Rattle.hs_standings.specs.Standing as standings
 use Rattle.hs_standings.specs.Standing.{PlainStandings, latest_at}
 use Rattle.hs_traces.specs.declared.answers.Added as page_answers
 use Rattle.hs_traces.specs.declared.answers.Added.TheVariants as of_page
 use Rattle.hs_traces.specs.declared.answers.TheConstants.{LEAST_BYTES}
 use Rattle.hs_traces.specs.declared.key.PageKey.{PageKey}
-use Rattle.hs_traces.specs.declared.key.Sender.{Sender}
+use Rattle.hs_traces.specs.declared.key.CoreId.{CoreId}
 use Rattle.hs_traces.specs.Keys.{is_own, key_of}
 use Rattle.hs_traces.specs.Parts.{Pages}
 use Rattle.hs_traces.specs.Traces as traces
@@ -38,14 +38,14 @@ use Rattle.hs_receipts.specs.declared.answers.MessageId.{MessageId}
 use Rattle.hs_receipts.specs.declared.answers.Waiting.{Waiting}
 use Rattle.hs_receipts.specs.Receipts as receipts
 use Rattle.hs_receipts.specs.Receipts.{PlainReceipts, kept, is_noted, is_known, is_for, since_of}
-use Rattle.hs_cursor.specs.Walking.{Place, Found, step}
+use Rattle.hs_cursor.specs.Walking.{PlainCursor, Found, step}
 use Rattle.hs_saved.specs.Saved as saved
 use Rattle.hs_saved.specs.Saved.{PlainSaved, no_saved, parts_of}
 use Rattle.hs_verdict.specs.Verdict.{is_whole, claim_at, life_at}
 use Rattle.hs_hub.specs.declared.answers.HubLimits.{HubLimits}
 use Rattle.hs_hub.specs.declared.answers.HubCounts.{HubCounts}
-use Rattle.hs_hub.specs.declared.answers.Given.{Given}
-use Rattle.hs_hub.specs.declared.answers.Given.TheVariants.{Complete, Aged, CutShort}
+use Rattle.hs_hub.specs.declared.answers.OutReason.{OutReason}
+use Rattle.hs_hub.specs.declared.answers.OutReason.TheVariants.{Complete, Aged, CutShort}
 use Rattle.hs_hub.specs.declared.answers.Delivered.{Delivered}
 use Rattle.hs_hub.specs.declared.answers.Delivered.TheVariants.{Held, Done, Refused, Full}
 use Rattle.hs_hub.specs.Births.{no_births, with_birth, are_sure}
@@ -69,7 +69,7 @@ pub record PlainHub : Type 0 where
   -- of the traces that were saved last, how many parts of each
   pub saved : PlainSaved
   -- why the last trace was given out, and when the first message came that waited for it
-  pub why : Given
+  pub why : OutReason
   pub out_since : ℕ
 
 -- whether a limit is out of its range
@@ -121,7 +121,7 @@ birth_of h node = if h.is_fresh && groups.latest_of h.groups node == 0 then 0 el
 abbrev pub births_after : PlainHub → NodeId → ℕ → List ℕ
 births_after h node epoch = with_birth (groups.answer_of_hear h.groups node epoch) node (birth_of h node) h.births
 
-abbrev pub delivered_of_heard : Heard → Delivered
+abbrev pub delivered_of_heard : LifeHeard → Delivered
 delivered_of_heard hearing.Known = Done
 delivered_of_heard hearing.Newer = Done
 delivered_of_heard hearing.Refused = Refused
@@ -135,7 +135,7 @@ after_hear h node epoch = record h { groups = groups.heard h.groups node epoch; 
 abbrev pub node_of : MessageId → NodeId
 node_of message = record { 0 = message.node }
 
-abbrev pub delivered_of_told : group_answers.Taken → Delivered
+abbrev pub delivered_of_told : group_answers.ToldOutcome → Delivered
 delivered_of_told (of_group.Taken heard) = Held
 delivered_of_told of_group.Refused = Refused
 delivered_of_told of_group.Full = Full
@@ -145,7 +145,7 @@ answer_to_told h message told =
     if nat_le (room h) (length told.laterals) then Full else delivered_of_told (groups.answer_to h.groups (node_of message) message.epoch told)
 
 -- the message waits for the lead and each lateral
-abbrev pub after_answer_to_told : PlainHub → MessageId → Told → group_answers.Taken → PlainHub
+abbrev pub after_answer_to_told : PlainHub → MessageId → Told → group_answers.ToldOutcome → PlainHub
 after_answer_to_told h message told (of_group.Taken heard) = record h {
   groups = groups.after_told h.groups (node_of message) message.epoch told;
   births = with_birth heard (node_of message) (birth_of h (node_of message)) h.births;
@@ -202,7 +202,7 @@ after_page h message trace key bytes =
     else if room h == 0 then h
     else after_added h message trace key bytes (traces.answer_to h.traces trace key (length bytes))
 
-abbrev pub sender_of : MessageId → (client core : ℕ) → Sender
+abbrev pub sender_of : MessageId → (client core : ℕ) → CoreId
 sender_of message client core = record { node = message.node; epoch = message.epoch; client = client; core = core }
 
 -- what becomes of bytes that a client's core wrote: they are a page of its own, or nothing changes
@@ -218,7 +218,7 @@ pub record IsReported (h : PlainHub) (message : MessageId) (client core : ℕ) (
 abbrev pub life_of : MessageId → Life
 life_of message = record { node = message.node; epoch = message.epoch }
 
-abbrev pub delivered_of_standing : standing_answers.Noted → Delivered
+abbrev pub delivered_of_standing : standing_answers.StandingOutcome → Delivered
 delivered_of_standing of_standing.Noted = Held
 delivered_of_standing of_standing.Older = Held
 delivered_of_standing of_standing.Full = Full
@@ -229,7 +229,7 @@ answer_to_standing h message standing =
     else if room h == 0 then Full
     else delivered_of_standing (standings.answer_to h.standings standing.trace (life_of message) message.number)
 
-abbrev pub after_noted : PlainHub → MessageId → Standing → standing_answers.Noted → PlainHub
+abbrev pub after_noted : PlainHub → MessageId → Standing → standing_answers.StandingOutcome → PlainHub
 after_noted h message standing of_standing.Noted = record h {
   groups = groups.heard h.groups (node_of message) message.epoch;
   births = births_after h (node_of message) message.epoch;
@@ -308,35 +308,35 @@ is_pressed h =
     || (nat_lt (h.limits.bytes - held_bytes h.traces) LEAST_BYTES || (nat_le h.limits.standings (standings.count_of h.standings) || nat_le (room h) 32))
 
 -- the trace of the message that waits longest, by age or at a limit
-abbrev pub aged_of : PlainHub → Waiting → Option (TraceId × Given)
+abbrev pub aged_of : PlainHub → Waiting → Option (TraceId × OutReason)
 aged_of h waits =
     if nat_le h.limits.age (h.passes - waits.since) then Some (waits.trace, Aged)
     else if is_pressed h then Some (waits.trace, CutShort)
     else None
 
-abbrev pub aged : PlainHub → Option (TraceId × Given)
+abbrev pub aged : PlainHub → Option (TraceId × OutReason)
 aged h = option_and_then (aged_of h) (slice_get h.receipts.waiting 0)
 
 -- the trace that may be given out, and why
-abbrev pub or_aged : PlainHub → Option TraceId → Option (TraceId × Given)
+abbrev pub or_aged : PlainHub → Option TraceId → Option (TraceId × OutReason)
 or_aged h (Some trace) = Some (trace, Complete)
 or_aged h None = aged h
 
-abbrev pub may_go : PlainHub → Option (TraceId × Given)
+abbrev pub may_go : PlainHub → Option (TraceId × OutReason)
 may_go h = or_aged h (first_ready h.groups h.standings h.traces h.groups.groups)
 
 -- none while one is out
-abbrev pub goes : PlainHub → Option (TraceId × Given)
+abbrev pub goes : PlainHub → Option (TraceId × OutReason)
 goes h = if is_some h.receipts.out then None else may_go h
 
 abbrev pub answer_to_take : PlainHub → Option TraceId
-answer_to_take h = option_map (λ (given : TraceId × Given). given.0) (goes h)
+answer_to_take h = option_map (λ (given : TraceId × OutReason). given.0) (goes h)
 
 -- what waits of a trace is out, if something does
 abbrev pub given : PlainTraces → TraceId → PlainTraces
 given s trace = if traces.is_out s trace || (nat_le s.limits.outs (length s.out) || not (traces.is_waiting s trace)) then s else traces.offered s trace
 
-abbrev pub after_given : PlainHub → Option (TraceId × Given) → PlainHub
+abbrev pub after_given : PlainHub → Option (TraceId × OutReason) → PlainHub
 after_given h (Some trace) = record h {
   traces = given h.traces trace.0;
   receipts = receipts.after_offer h.receipts trace.0;
@@ -356,11 +356,11 @@ abbrev pub pages_out : PlainHub → Pages
 pages_out h = unwrap_or (option_and_then (traces.part_of h.traces.out) h.receipts.out) []
 
 -- their next row behind a cursor
-abbrev pub next_row : PlainHub → Place → Found
+abbrev pub next_row : PlainHub → PlainCursor → Found
 next_row h place = step (pages_out h) place
 
 -- why it was given out
-abbrev pub why_out : PlainHub → Option Given
+abbrev pub why_out : PlainHub → Option OutReason
 why_out h = option_map (λ _. h.why) h.receipts.out
 
 -- which part of it is out: how many were saved before
@@ -368,7 +368,7 @@ abbrev pub part_out : PlainHub → Option ℕ
 part_out h = option_map (parts_of h.saved) h.receipts.out
 
 -- of the groups that claim it, the oldest one first, and of the lives that spoke of it, those at this place
-abbrev pub claim_out : PlainHub → ℕ → Option Followed
+abbrev pub claim_out : PlainHub → ℕ → Option FollowedGroup
 claim_out h place = option_and_then (λ trace. claim_at h.groups trace place) h.receipts.out
 
 abbrev pub life_out : PlainHub → ℕ → Option Life

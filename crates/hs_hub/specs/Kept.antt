@@ -12,11 +12,11 @@ use Rattle.hs_traces.specs.Traces.{Parts, part_of}
 use Rattle.hs_receipts.specs.declared.answers.MessageId.{MessageId}
 use Rattle.hs_receipts.specs.Receipts.{PlainReceipts, waits_for, is_message}
 use Rattle.hs_hub.specs.Hub.{PlainHub, no_hub}
-use Rattle.hs_hub.specs.Life.{Act, Reports, Passes, Gives, LetsGo, life}
+use Rattle.hs_hub.specs.Life.{HubAct, Reports, Passes, Gives, LetsGo, life}
 use Rattle.hs_hub.specs.Examples.{few, m, page}
 
 -- one of these calls reports this page of the trace, in this message
-abbrev pub IsReportedIn : List Act → MessageId → TraceId → PageKey → List ℕ → Type 0
+abbrev pub IsReportedIn : List HubAct → MessageId → TraceId → PageKey → List ℕ → Type 0
 IsReportedIn acts message trace key bytes = (place : ℕ) × (slice_get acts place ≡ Some (Reports message trace key bytes))
 
 -- the page with this key of a trace, among these parts
@@ -32,7 +32,7 @@ abbrev pub Served : PlainReceipts → TraceId → MessageId → Type 0
 Served r trace message = (r.out ≡ Some trace) × (list_any (is_message message) r.served ≡ true)
 
 -- a hub after these calls keeps a message for each page that it holds
-pub record AreKept (h : PlainHub) (acts : List Act) : Type 0 where
+pub record AreKept (h : PlainHub) (acts : List HubAct) : Type 0 where
   -- a page that waits came by a message that waits for its trace
   pub waiting : (trace : TraceId) (key : PageKey) (bytes : List ℕ) → page_in h.traces.waiting trace key ≡ Some bytes
       → (message : MessageId) × IsReportedIn acts message trace key bytes × Waits h.receipts trace message
@@ -42,10 +42,10 @@ pub record AreKept (h : PlainHub) (acts : List Act) : Type 0 where
 
 -- ---- worked examples: a page comes, is given out after a pass, and is saved
 
-abbrev pub comes : Act
+abbrev pub comes : HubAct
 comes = Reports (m 0 2) (t 107) (key_at 0 5 0 0 0) page
 
-abbrev pub after_acts : List Act → PlainHub
+abbrev pub after_acts : List HubAct → PlainHub
 after_acts acts = life (no_hub 3 true few) acts
 
 -- it waits, and its message waits for its trace
@@ -53,7 +53,7 @@ it_waits : (page_in (after_acts (comes ∷ [])).traces.waiting (t 107) (key_at 0
 it_waits = (refl, (0, refl), refl)
 
 -- it is out, its trace was served by its message, and nothing may be acknowledged
-abbrev pub until_out : List Act
+abbrev pub until_out : List HubAct
 until_out = comes ∷ Passes ∷ Gives ∷ []
 
 it_is_out : (page_in (after_acts until_out).traces.out (t 107) (key_at 0 5 0 0 0) ≡ Some page) × Served (after_acts until_out).receipts (t 107) (m 0 2) × ((after_acts until_out).receipts.done ≡ [])
@@ -61,7 +61,7 @@ unfolding nodes_of
 it_is_out = (refl, (refl, refl), refl)
 
 -- it is saved: the page is held no more, and its message may be acknowledged
-abbrev pub until_saved : List Act
+abbrev pub until_saved : List HubAct
 until_saved = comes ∷ Passes ∷ Gives ∷ LetsGo ∷ []
 
 it_is_saved : (page_in (after_acts until_saved).traces.out (t 107) (key_at 0 5 0 0 0) ≡ None) × ((after_acts until_saved).receipts.served ≡ []) × ((after_acts until_saved).receipts.done ≡ m 0 2 ∷ [])

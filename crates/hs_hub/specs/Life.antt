@@ -6,22 +6,22 @@ use Rattle.hs_base.specs.declared.ids.TraceId.{TraceId}
 use Rattle.hs_base.specs.declared.told.Told.{Told}
 use Rattle.hs_wire.specs.declared.message.Standing.{Standing}
 use Rattle.hs_traces.specs.declared.key.PageKey.{PageKey}
-use Rattle.hs_traces.specs.History.{Deed, Comes, Offers, Saves}
+use Rattle.hs_traces.specs.History.{TraceDeed, Comes, Offers, Saves}
 use Rattle.hs_receipts.specs.declared.answers.MessageId.{MessageId}
 use Rattle.hs_hub.specs.Hub.{PlainHub, room, after_hear, after_told, after_page, after_standing, after_next, after_pass, answer_to_take, after_take, after_saved, after_named}
 
-pub data Act : Type 0 where
-  Hears : (node : NodeId) (epoch : ℕ) → Act
-  Tells : (message : MessageId) (told : Told) → Act
-  Reports : (message : MessageId) (trace : TraceId) (key : PageKey) (bytes : List ℕ) → Act
-  Says : (message : MessageId) (standing : Standing) → Act
-  Asks : Act
-  Passes : Act
-  Gives : Act
-  LetsGo : Act
-  Names : Act
+pub data HubAct : Type 0 where
+  Hears : (node : NodeId) (epoch : ℕ) → HubAct
+  Tells : (message : MessageId) (told : Told) → HubAct
+  Reports : (message : MessageId) (trace : TraceId) (key : PageKey) (bytes : List ℕ) → HubAct
+  Says : (message : MessageId) (standing : Standing) → HubAct
+  Asks : HubAct
+  Passes : HubAct
+  Gives : HubAct
+  LetsGo : HubAct
+  Names : HubAct
 
-abbrev pub after : PlainHub → Act → PlainHub
+abbrev pub after : PlainHub → HubAct → PlainHub
 after h (Hears node epoch) = after_hear h node epoch
 after h (Tells message told) = after_told h message told
 after h (Reports message trace key bytes) = after_page h message trace key bytes
@@ -32,22 +32,22 @@ after h Gives = after_take h
 after h LetsGo = after_saved h
 after h Names = after_named h
 
-abbrev pub life : PlainHub → List Act → PlainHub
+abbrev pub life : PlainHub → List HubAct → PlainHub
 life h [] = h
 life h (act ∷ acts) = life (after h act) acts
 
 -- ---- what a call means for the pages
 
-abbrev pub offers : Option TraceId → List Deed
+abbrev pub offers : Option TraceId → List TraceDeed
 offers None = []
 offers (Some trace) = Offers trace ∷ []
 
-abbrev pub saves : Option TraceId → List Deed
+abbrev pub saves : Option TraceId → List TraceDeed
 saves None = []
 saves (Some trace) = Saves trace ∷ []
 
 -- a page comes where its node is there and its message may be kept
-abbrev pub deeds_of : PlainHub → Act → List Deed
+abbrev pub deeds_of : PlainHub → HubAct → List TraceDeed
 deeds_of h (Hears node epoch) = []
 deeds_of h (Tells message told) = []
 deeds_of h (Reports message trace key bytes) = if nat_le h.limits.nodes message.node || room h == 0 then [] else Comes (record { trace = trace; key = key; bytes = bytes }) ∷ []
@@ -58,6 +58,6 @@ deeds_of h Gives = offers (answer_to_take h)
 deeds_of h LetsGo = saves h.receipts.out
 deeds_of h Names = []
 
-abbrev pub all_deeds : PlainHub → List Act → List Deed
+abbrev pub all_deeds : PlainHub → List HubAct → List TraceDeed
 all_deeds h [] = []
 all_deeds h (act ∷ acts) = deeds_of h act ++ all_deeds (after h act) acts

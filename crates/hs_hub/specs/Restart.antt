@@ -10,7 +10,7 @@ use Rattle.hs_traces.specs.History.{HoldsNothing, HearsAll, Brings, pages_of}
 use Rattle.hs_receipts.specs.declared.answers.MessageId.{MessageId}
 use Rattle.hs_receipts.specs.Receipts.{is_known}
 use Rattle.hs_hub.specs.Hub.{PlainHub, no_hub}
-use Rattle.hs_hub.specs.Life.{Act, life, all_deeds}
+use Rattle.hs_hub.specs.Life.{HubAct, life, all_deeds}
 use Rattle.hs_hub.specs.Examples.{few, page}
 use Rattle.hs_hub.specs.Kept.{IsReportedIn, page_in, comes, after_acts, until_out}
 
@@ -19,7 +19,7 @@ abbrev pub IsHeld : PlainHub → TraceId → PageKey → List ℕ → Type 0
 IsHeld h trace key bytes = (page_in h.traces.waiting trace key ≡ Some bytes) ⊎ (page_in h.traces.out trace key ≡ Some bytes)
 
 -- a hub had these calls; in the others a new one hears again of the trace what the first keeps
-pub record HearsAgain (trace : TraceId) (h : PlainHub) (acts : List Act) (new : PlainHub) (others : List Act) : Type 0 where
+pub record HearsAgain (trace : TraceId) (h : PlainHub) (acts : List HubAct) (new : PlainHub) (others : List HubAct) : Type 0 where
   -- the new one holds nothing of the trace before, gives nothing of it out, and finds no page of it too much
   pub nothing : HoldsNothing trace new.traces
   pub heard : HearsAll trace new.traces (all_deeds new others)

@@ -8,10 +8,10 @@ use Rattle.hs_traces.specs.declared.key.PageKey.{PageKey}
 use Rattle.hs_cursor.specs.Rows.{rows_of}
 use Rattle.hs_cursor.specs.Walking.{start, walked, AreSheets}
 use Rattle.hs_hub.specs.Hub.{PlainHub, pages_out}
-use Rattle.hs_hub.specs.Life.{Act, Hears, Tells, Reports, Says, Asks, Passes, Gives, LetsGo, Names}
+use Rattle.hs_hub.specs.Life.{HubAct, Hears, Tells, Reports, Says, Asks, Passes, Gives, LetsGo, Names}
 
 -- what a call brings as a page is one
-abbrev pub BringsPages : Act → Type 0
+abbrev pub BringsPages : HubAct → Type 0
 BringsPages (Hears node epoch) = Unit {0}
 BringsPages (Tells message told) = Unit {0}
 BringsPages (Reports message trace key bytes) = (sheet : Sheet) × Spells sheet bytes
@@ -22,7 +22,7 @@ BringsPages Gives = Unit {0}
 BringsPages LetsGo = Unit {0}
 BringsPages Names = Unit {0}
 
-abbrev pub AllBringPages : List Act → Type 0
+abbrev pub AllBringPages : List HubAct → Type 0
 AllBringPages acts = AllByRecursion BringsPages acts
 
 -- the bytes that are out are those of these pages, and any number of steps of a cursor answers as many of their rows from the front

@@ -51,7 +51,7 @@ pub enum Delivered {
 
 /// Why a trace is given out.
 #[derive(Clone, Copy, Debug, PartialEq, Eq)]
-pub enum Given {
+pub enum OutReason {
     /// All pages came that lives say they handed out, and nothing more is to come of it.
     Complete,
     /// Its first message that waits came as many passes ago as the age says. More may come of it.

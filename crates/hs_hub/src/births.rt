@@ -6,7 +6,7 @@ ghost use Rattle.hs_base.specs.NodeSets.{nodes_of};
 ghost use Rattle.hs_hub.specs.Births.{no_births, with_birth, is_sure, are_nodes_sure, is_group_sure, are_sure};
 
 use hs_base::{Memory, NodeId, NodeSet, TraceId};
-use hs_groups::{Followed, Groups, Heard};
+use hs_groups::{FollowedGroup, Groups, LifeHeard};
 use hs_verdict::claims;
 use std::alloc::Global;
 
@@ -19,18 +19,18 @@ pub(crate) fn no_births(alloc: Global, nodes: u16, is_fresh: bool) -> Result<Vec
 }
 
 /// Notes from which pass on a life is sure, if it is newer than all that were heard of its node.
-pub(crate) fn note_birth(births: &mut [u64], heard: Heard, node: NodeId, birth: u64)
+pub(crate) fn note_birth(births: &mut [u64], heard: LifeHeard, node: NodeId, birth: u64)
     ensures { births.new ≡ with_birth heard node birth births.old }
 {
     match heard {
-        Heard::Newer => set_birth(births, node, birth),
-        Heard::Known | Heard::Refused => {}
+        LifeHeard::Newer => set_birth(births, node, birth),
+        LifeHeard::Known | LifeHeard::Refused => {}
     }
 }
 
 /// Notes from which pass on the latest life of a node is sure.
 fn set_birth(births: &mut [u64], node: NodeId, birth: u64)
-    ensures { births.new ≡ with_birth Heard.Newer node birth births.old }
+    ensures { births.new ≡ with_birth LifeHeard.Newer node birth births.old }
 {
     if (node.0 as usize) < births.len() {
         births[node.0 as usize] = birth;
@@ -61,14 +61,14 @@ fn are_nodes_sure(births: &[u64], since: u64, nodes: NodeSet) -> bool
 }
 
 /// Whether a group does not claim the trace, or each node that it reached was sure.
-fn is_group_sure(births: &[u64], since: u64, trace: TraceId, followed: &Followed) -> bool
+fn is_group_sure(births: &[u64], since: u64, trace: TraceId, followed: &FollowedGroup) -> bool
     ensures { result ≡ is_group_sure births.now since trace followed.now }
 {
     !claims(followed, trace) || are_nodes_sure(births, since, followed.asked)
 }
 
 /// Whether that is so of each of these groups.
-fn among_sure(births: &[u64], since: u64, trace: TraceId, some: &[Followed]) -> bool
+fn among_sure(births: &[u64], since: u64, trace: TraceId, some: &[FollowedGroup]) -> bool
     ensures { result ≡ are_sure births.now since trace some.now }
 {
     some.iter()

@@ -16,20 +16,20 @@ ghost use Rattle.hs_settings.specs.Settings.{service_of, IsServiceSettings};
 ghost use Rattle.hs_hub.specs.ByService.{limits_by};
 ghost use Rattle.hs_hub.specs.Hub.{PlainHub, IsDelivered, are_out, no_hub, birth_of, noted, all_noted, answer_to_hear, after_hear, answer_to_told, after_told, answer_to_page, after_page, answer_to_standing, after_standing, IsReported, ask_of, IsWritten, IsShort, after_next, after_pass, is_pressed, aged, may_go, answer_to_take, after_take, after_saved, pages_out, next_row, is_sure_of, is_whole_out, page_of_out, why_out, part_out, claim_out, life_out, repeated, after_named, counts_of};
 
-use crate::answers::{Delivered, Given, HubCounts, HubLimits, MakeFault};
+use crate::answers::{Delivered, HubCounts, HubLimits, MakeFault, OutReason};
 use crate::births::{are_sure, no_births, note_birth};
 use crate::limits::hub_limits;
 use crate::ready::first_ready;
 use hs_base::limits::MOST_NODES;
 use hs_base::{Ask, Laterals, Memory, NodeId, Told, TraceId};
 use hs_cursor::{Cursor, Row};
-use hs_groups::{Followed, GroupLimits, Groups, Heard, Taken};
+use hs_groups::{FollowedGroup, GroupLimits, Groups, LifeHeard, ToldOutcome};
 use hs_receipts::{MessageId, Receipts};
 use hs_saved::Saved;
 use hs_settings::ServiceSettings;
-use hs_standings::{Life, Noted, Standings};
+use hs_standings::{Life, StandingOutcome, Standings};
 use hs_traces::{
-    Added, LEAST_BYTES, PageKey, Sender, TraceLimits, Traces, is_own, key_of, read_header,
+    Added, CoreId, LEAST_BYTES, PageKey, TraceLimits, Traces, is_own, key_of, read_header,
 };
 use hs_verdict::{LifeWord, NodeWord, claim_at, is_whole, life_at, life_word, node_word};
 use hs_wire::{Body, Head, Message, Standing, WriteFault, read, write};
@@ -51,7 +51,7 @@ pub struct Hub {
     traces: Traces,
     receipts: Receipts,
     saved: Saved,
-    why: Given,
+    why: OutReason,
     out_since: u64,
 }
 
@@ -201,7 +201,7 @@ impl Hub {
             traces,
             receipts: Receipts::make(alloc, limits.messages)?,
             saved: Saved::make(alloc, limits.groups)?,
-            why: Given::Complete,
+            why: OutReason::Complete,
             out_since: 0,
         })
     }
@@ -248,8 +248,8 @@ impl Hub {
         ensures after { self.new ≡ after_hear self.old node epoch }
     {
         match self.hear_life(node, epoch) {
-            Heard::Refused => Delivered::Refused,
-            Heard::Known | Heard::Newer => Delivered::Done,
+            LifeHeard::Refused => Delivered::Refused,
+            LifeHeard::Known | LifeHeard::Newer => Delivered::Done,
         }
     }
 
@@ -265,7 +265,7 @@ impl Hub {
     }
 
     /// Hears of a life.
-    fn hear_life(&mut self, node: NodeId, epoch: u64) -> Heard
+    fn hear_life(&mut self, node: NodeId, epoch: u64) -> LifeHeard
         ensures answer { result ≡ answer_of_hear self.old.groups node epoch }
         ensures after { self.new ≡ after_hear self.old node epoch }
     {
@@ -286,9 +286,9 @@ impl Hub {
         let node = NodeId(message.node);
         let birth = self.birth(node);
         match self.groups.told(node, message.epoch, told) {
-            Taken::Refused => Delivered::Refused,
-            Taken::Full => Delivered::Full,
-            Taken::Taken(heard) => {
+            ToldOutcome::Refused => Delivered::Refused,
+            ToldOutcome::Full => Delivered::Full,
+            ToldOutcome::Taken(heard) => {
                 note_birth(&mut self.births, heard, node, birth);
                 note_all(&mut self.receipts, told, message, self.passes);
                 Delivered::Held
@@ -311,7 +311,7 @@ impl Hub {
         let Some(header) = read_header(self.alloc, page)? else {
             return Ok(Delivered::Refused);
         };
-        let sender = Sender {
+        let sender = CoreId {
             node: message.node,
             epoch: message.epoch,
             client,
@@ -385,8 +385,8 @@ impl Hub {
             epoch: message.epoch,
         };
         match self.standings.note(life, message.number, standing)? {
-            Noted::Full => return Ok(Delivered::Full),
-            Noted::Noted | Noted::Older => {}
+            StandingOutcome::Full => return Ok(Delivered::Full),
+            StandingOutcome::Noted | StandingOutcome::Older => {}
         }
         note(&mut self.receipts, standing.trace, message, self.passes);
         self.hear_life(NodeId(message.node), message.epoch);
@@ -451,14 +451,14 @@ impl Hub {
     }
 
     /// The trace of the message that waits longest, if that came so many passes ago as the age says, or a limit is reached.
-    fn aged(&self) -> Option<(TraceId, Given)>
+    fn aged(&self) -> Option<(TraceId, OutReason)>
         ensures { result ≡ aged self.now }
     {
         let waits = self.receipts.longest()?;
         if self.passes.saturating_sub(waits.since) >= self.limits.age {
-            Some((waits.trace, Given::Aged))
+            Some((waits.trace, OutReason::Aged))
         } else if self.is_pressed() {
-            Some((waits.trace, Given::CutShort))
+            Some((waits.trace, OutReason::CutShort))
         } else {
             None
         }
@@ -466,11 +466,11 @@ impl Hub {
 
     /// The trace that may be given out, and why: one of which nothing more is to come, else the one that waits longest, by age or
     /// at a limit.
-    fn may_go(&self) -> Option<(TraceId, Given)>
+    fn may_go(&self) -> Option<(TraceId, OutReason)>
         ensures { result ≡ may_go self.now }
     {
         match first_ready(&self.groups, &self.standings, &self.traces) {
-            Some(trace) => Some((trace, Given::Complete)),
+            Some(trace) => Some((trace, OutReason::Complete)),
             None => self.aged(),
         }
     }
@@ -501,7 +501,7 @@ impl Hub {
     }
 
     /// Why the trace that is out was given out, or `None` where none is out.
-    pub fn why(&self) -> Option<Given>
+    pub fn why(&self) -> Option<OutReason>
         ensures { result ≡ why_out self.now }
     {
         match self.receipts.out() {
@@ -521,7 +521,7 @@ impl Hub {
     }
 
     /// Of the groups that claim the trace that is out, the oldest one first, the one at this place.
-    pub fn claim(&self, place: usize) -> Option<&Followed>
+    pub fn claim(&self, place: usize) -> Option<&FollowedGroup>
         ensures { option_copied result ≡ claim_out self.now place }
     {
         let trace = self.receipts.out()?;

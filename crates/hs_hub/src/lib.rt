@@ -9,7 +9,7 @@ mod laws;
 mod limits;
 mod ready;
 
-pub use answers::{Delivered, Given, HubCounts, HubLimits, MakeFault};
+pub use answers::{Delivered, HubCounts, HubLimits, MakeFault, OutReason};
 pub use hub::Hub;
 pub use laws::{
     held_pages_are_unacknowledged, held_pages_come_again, held_pages_stay_until_they_are_saved,

@@ -4,17 +4,17 @@ ghost use Rattle.std.specs.Prelude.{◌≡◌, ◌∷◌, find};
 ghost use Rattle.hs_hub.specs.Ready.{is_ready, traces_of, ready_of, first_ready};
 
 use hs_base::{Laterals, TraceId};
-use hs_groups::{Followed, Groups};
+use hs_groups::{FollowedGroup, Groups};
 use hs_standings::Standings;
 use hs_traces::Traces;
-use hs_verdict::{Pages, are_full, has_all};
+use hs_verdict::{HeldPages, are_full, has_all};
 
 /// Whether pages of a trace wait, all that lives say they handed out, and nothing more is to come of it.
 fn is_ready(groups: &Groups, standings: &Standings, traces: &Traces, trace: TraceId) -> bool
     ensures { result ≡ is_ready groups.now standings.now traces.now trace }
 {
     traces.waits(trace)
-        && are_full(standings, trace, &Pages::Waiting(traces))
+        && are_full(standings, trace, &HeldPages::Waiting(traces))
         && has_all(groups, standings, trace)
 }
 
@@ -43,7 +43,7 @@ fn ready_of(
     groups: &Groups,
     standings: &Standings,
     traces: &Traces,
-    followed: &Followed,
+    followed: &FollowedGroup,
 ) -> Option<TraceId>
     ensures { result ≡ ready_of groups.now standings.now traces.now followed.now }
 {
@@ -76,7 +76,7 @@ fn ready_among(
     groups: &Groups,
     standings: &Standings,
     traces: &Traces,
-    some: &[Followed],
+    some: &[FollowedGroup],
 ) -> Option<TraceId>
     ensures { result ≡ first_ready groups.now standings.now traces.now some.now }
 {

@@ -5,8 +5,8 @@ use Rattle.hs_base.specs.declared.ids.NodeId.{NodeId}
 use Rattle.hs_base.specs.declared.settings.TriggerRule.{TriggerRule}
 use Rattle.hs_base.specs.declared.told.Ask.{Ask}
 use Rattle.hs_wire.specs.Messages.{PlainMessage, IsMessage, SaysAsk, message_bytes}
-use Rattle.hs_inbox.specs.declared.inbox.Delivered.{Delivered}
-use Rattle.hs_inbox.specs.declared.inbox.Delivered.TheVariants.{Taken, Full, Refused}
+use Rattle.hs_inbox.specs.declared.inbox.AskDelivered.{AskDelivered}
+use Rattle.hs_inbox.specs.declared.inbox.AskDelivered.TheVariants.{Taken, Full, Refused}
 
 pub record PlainInbox : Type 0 where
   pub node : NodeId
@@ -33,7 +33,7 @@ abbrev pub with_ask : PlainInbox → Ask → PlainInbox
 with_ask inbox ask = record inbox { asks = inbox.asks ++ ask ∷ [] }
 
 -- Each answer comes just where this holds.
-abbrev pub Delivers : PlainInbox → List ℕ → Delivered → PlainInbox → Type 0
+abbrev pub Delivers : PlainInbox → List ℕ → AskDelivered → PlainInbox → Type 0
 Delivers old bytes Taken new = (ask : Ask) × IsAskFor old.node old.rules bytes ask × (length old.asks < old.places) × (new ≡ with_ask old ask)
 Delivers old bytes Full new = (ask : Ask) × IsAskFor old.node old.rules bytes ask × (old.places ≤ length old.asks) × (new ≡ old)
 Delivers old bytes Refused new = ((ask : Ask) → IsAskFor old.node old.rules bytes ask → ⊥) × (new ≡ old)

@@ -4,7 +4,7 @@ use Rattle.std.proofs.Common.{lit≤, lit<}
 use Rattle.hs_base.specs.declared.ids.NodeId.{NodeId}
 use Rattle.hs_base.specs.declared.settings.TriggerRule.{TriggerRule}
 use Rattle.hs_base.specs.declared.told.Ask.{Ask}
-use Rattle.hs_inbox.specs.declared.inbox.Delivered.TheVariants.{Taken, Full}
+use Rattle.hs_inbox.specs.declared.inbox.AskDelivered.TheVariants.{Taken, Full}
 use Rattle.hs_inbox.specs.Delivering.{PlainInbox, no_asks, with_ask, IsAskFor, Delivers}
 
 module _ (rules : List TriggerRule) (bytes : List ℕ) (ask : Ask) where

@@ -13,7 +13,7 @@ use std::marker::Model;
 
 /// What became of bytes that were delivered.
 #[derive(Clone, Copy, Debug, PartialEq, Eq)]
-pub enum Delivered {
+pub enum AskDelivered {
     /// They spell an ask of this node, which waits from now on.
     Taken,
     /// They spell an ask of this node, but no place is free.
@@ -91,17 +91,17 @@ impl Inbox {
     }
 
     /// Delivers a message. It waits behind all others if it asks this node for a declared trigger id, and a place is free.
-    pub fn deliver(&mut self, bytes: &[u8]) -> Delivered
+    pub fn deliver(&mut self, bytes: &[u8]) -> AskDelivered
         ensures { Delivers self.old bytes.now result self.new }
     {
         let Some(ask) = ask_in(self.node, self.rules.as_slice(), bytes) else {
-            return Delivered::Refused;
+            return AskDelivered::Refused;
         };
         if self.asks.len() >= self.places as usize {
-            return Delivered::Full;
+            return AskDelivered::Full;
         }
         self.asks.push_back_reserved(ask);
-        Delivered::Taken
+        AskDelivered::Taken
     }
 
     /// The ask that waits for longest, if one waits.

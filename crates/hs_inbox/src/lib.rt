@@ -3,4 +3,4 @@
 
 mod inbox;
 
-pub use inbox::{Delivered, Inbox};
+pub use inbox::{AskDelivered, Inbox};

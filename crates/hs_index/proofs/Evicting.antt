@@ -8,7 +8,7 @@ use Rattle.std.proofs.lemmas.List.{length-append, length-map, nil_from_length}
 use Rattle.std.proofs.lemmas.List.Sums.{sum_by-cons, sum_by_push}
 use Rattle.hs_lists.proofs.Bools.{by_answer}
 use Rattle.hs_base.specs.declared.ids.TraceId.{TraceId}
-use Rattle.hs_index.specs.Index.{Noted, Indexed, is_of, nothing, noted_of, others, touch, chunk_count, count_chunks, is_over, leaving, kept, evicted}
+use Rattle.hs_index.specs.Index.{PlainIndexedTrace, Indexed, is_of, nothing, noted_of, others, touch, chunk_count, count_chunks, is_over, leaving, kept, evicted}
 
 module _ {L : Type 0} where
   pub count-cons : (t : Indexed L) (ts : List (Indexed L)) → count_chunks (t ∷ ts) ≡ chunk_count t.noted + count_chunks ts
@@ -45,10 +45,10 @@ module _ {L : Type 0} where
         (λ y. subst (λ b. count_chunks (cond (not b) (t ∷ others trace ts) (others trace ts)) + chunk_count (option_map_or (λ (u : Indexed L). u.noted) (cond b (Some t) (find (is_of trace) ts)) nothing) ≤ count_chunks (t ∷ ts)) (sym y) (omega (arith, fewer, whole)))
         (λ n. subst (λ b. count_chunks (cond (not b) (t ∷ others trace ts) (others trace ts)) + chunk_count (option_map_or (λ (u : Indexed L). u.noted) (cond b (Some t) (find (is_of trace) ts)) nothing) ≤ count_chunks (t ∷ ts)) (sym n) (omega (arith, rest, whole, more)))
 
-    pub count-touch : (w : Noted L) (ts : List (Indexed L)) → count_chunks (touch trace w ts) ≡ count_chunks (others trace ts) + chunk_count w
+    pub count-touch : (w : PlainIndexedTrace L) (ts : List (Indexed L)) → count_chunks (touch trace w ts) ≡ count_chunks (others trace ts) + chunk_count w
     count-touch w ts = sum_by_push (λ t. chunk_count t.noted) (others trace ts) (record { trace = trace; noted = w })
 
-    pub length-touch : (w : Noted L) (ts : List (Indexed L)) → length (touch trace w ts) ≤ length ts + 1
+    pub length-touch : (w : PlainIndexedTrace L) (ts : List (Indexed L)) → length (touch trace w ts) ≤ length ts + 1
     length-touch w ts =
         let all = length-append (others trace ts) (record { trace = trace; noted = w } ∷ []) in
         let fewer = length-others ts in

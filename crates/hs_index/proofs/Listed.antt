@@ -18,7 +18,7 @@ use Rattle.lru.specs.LruCache.{promoted}
 use Rattle.hs_lists.proofs.Bools.{by_answer}
 use Rattle.hs_base.specs.declared.ids.TraceId.{TraceId}
 use Rattle.hs_base.specs.Ids.{same_trace}
-use Rattle.hs_index.specs.Index.{Noted, Indexed, is_of, is_other, nothing, noted_of, others, chunk_count, count_chunks}
+use Rattle.hs_index.specs.Index.{PlainIndexedTrace, Indexed, is_of, is_other, nothing, noted_of, others, chunk_count, count_chunks}
 use Rattle.hs_index.specs.Touched.{indexed, listed}
 
 pub same_trace_equiv : IsEquivalence same_trace
@@ -32,13 +32,13 @@ pub same_from_test : (a b : TraceId) → same_trace a b ≡ true → b ≡ a
 same_from_test a b e = ap (λ (m : ℕ). record { 0 = m }) (sym (eqb-true a.0 b.0 e))
 
 module _ {L : Type 0} where
-  pub listed-cons : (e : TraceId × Noted L) (es : List (TraceId × Noted L)) → listed (e ∷ es) ≡ listed es ++ indexed e ∷ []
+  pub listed-cons : (e : TraceId × PlainIndexedTrace L) (es : List (TraceId × PlainIndexedTrace L)) → listed (e ∷ es) ≡ listed es ++ indexed e ∷ []
   listed-cons e es = reverse-append (indexed e ∷ []) (map indexed es)
 
-  pub length-listed : (es : List (TraceId × Noted L)) → length (listed es) ≡ length es
+  pub length-listed : (es : List (TraceId × PlainIndexedTrace L)) → length (listed es) ≡ length es
   length-listed es = length-reverse (map indexed es) ∙ length-map es indexed
 
-  pub count-listed : (es : List (TraceId × Noted L)) → count_chunks (listed es) ≡ sum_by chunk_count (values_of es)
+  pub count-listed : (es : List (TraceId × PlainIndexedTrace L)) → count_chunks (listed es) ≡ sum_by chunk_count (values_of es)
   count-listed [] = refl
   count-listed (e ∷ es) =
       ap count_chunks (listed-cons e es)
@@ -49,44 +49,44 @@ module _ {L : Type 0} where
 
   module _ (trace : TraceId) where
     -- an entry of another trace
-    other-here : (e : TraceId × Noted L) → same_trace trace e.0 ≡ false → filter (is_other trace) (indexed e ∷ []) ≡ indexed e ∷ []
+    other-here : (e : TraceId × PlainIndexedTrace L) → same_trace trace e.0 ≡ false → filter (is_other trace) (indexed e ∷ []) ≡ indexed e ∷ []
     other-here e n = ap (λ b. cond (not b) (indexed e ∷ []) []) n
 
-    this-here : (e : TraceId × Noted L) → same_trace trace e.0 ≡ true → filter (is_other trace) (indexed e ∷ []) ≡ []
+    this-here : (e : TraceId × PlainIndexedTrace L) → same_trace trace e.0 ≡ true → filter (is_other trace) (indexed e ∷ []) ≡ []
     this-here e y = ap (λ b. cond (not b) (indexed e ∷ []) []) y
 
-    pub found-here : (e : TraceId × Noted L) → same_trace trace e.0 ≡ true → find (is_of trace) (indexed e ∷ []) ≡ Some (indexed e)
+    pub found-here : (e : TraceId × PlainIndexedTrace L) → same_trace trace e.0 ≡ true → find (is_of trace) (indexed e ∷ []) ≡ Some (indexed e)
     found-here e y = ap (λ b. cond b (Some (indexed e)) None) y
 
-    pub missed-here : (e : TraceId × Noted L) → same_trace trace e.0 ≡ false → find (is_of trace) (indexed e ∷ []) ≡ None
+    pub missed-here : (e : TraceId × PlainIndexedTrace L) → same_trace trace e.0 ≡ false → find (is_of trace) (indexed e ∷ []) ≡ None
     missed-here e n = ap (λ b. cond b (Some (indexed e)) None) n
 
-    pub find-cons : (e : TraceId × Noted L) (es : List (TraceId × Noted L)) → find (is_of trace) (listed (e ∷ es)) ≡ option_or (find (is_of trace) (listed es)) (find (is_of trace) (indexed e ∷ []))
+    pub find-cons : (e : TraceId × PlainIndexedTrace L) (es : List (TraceId × PlainIndexedTrace L)) → find (is_of trace) (listed (e ∷ es)) ≡ option_or (find (is_of trace) (listed es)) (find (is_of trace) (indexed e ∷ []))
     find-cons e es = ap (find (is_of trace)) (listed-cons e es) ∙ find-append (is_of trace) (listed es) (indexed e ∷ [])
 
-    others-cons : (e : TraceId × Noted L) (es : List (TraceId × Noted L)) → others trace (listed (e ∷ es)) ≡ others trace (listed es) ++ filter (is_other trace) (indexed e ∷ [])
+    others-cons : (e : TraceId × PlainIndexedTrace L) (es : List (TraceId × PlainIndexedTrace L)) → others trace (listed (e ∷ es)) ≡ others trace (listed es) ++ filter (is_other trace) (indexed e ∷ [])
     others-cons e es = ap (others trace) (listed-cons e es) ∙ filter-append (is_other trace) (listed es) (indexed e ∷ [])
 
-    find-none : (es : List (TraceId × Noted L)) → NonePasses (same_trace trace) es → find (is_of trace) (listed es) ≡ None
+    find-none : (es : List (TraceId × PlainIndexedTrace L)) → NonePasses (same_trace trace) es → find (is_of trace) (listed es) ≡ None
     find-none [] h = refl
     find-none (e ∷ es) h = find-cons e es ∙ ap (λ o. option_or o (find (is_of trace) (indexed e ∷ []))) (find-none es h.1) ∙ missed-here e h.0
 
-    others-none : (es : List (TraceId × Noted L)) → NonePasses (same_trace trace) es → others trace (listed es) ≡ listed es
+    others-none : (es : List (TraceId × PlainIndexedTrace L)) → NonePasses (same_trace trace) es → others trace (listed es) ≡ listed es
     others-none [] h = refl
     others-none (e ∷ es) h =
         others-cons e es ∙ ap (λ l. l ++ filter (is_other trace) (indexed e ∷ [])) (others-none es h.1) ∙ ap (λ l. listed es ++ l) (other-here e h.0) ∙ sym (listed-cons e es)
 
-    pub find-missing : (es : List (TraceId × Noted L)) → lookup (same_trace trace) es ≡ None → find (is_of trace) (listed es) ≡ None
+    pub find-missing : (es : List (TraceId × PlainIndexedTrace L)) → lookup (same_trace trace) es ≡ None → find (is_of trace) (listed es) ≡ None
     find-missing es h = find-none es (none_passes_from_lookup (same_trace trace) es h)
 
-    pub others-missing : (es : List (TraceId × Noted L)) → lookup (same_trace trace) es ≡ None → others trace (listed es) ≡ listed es
+    pub others-missing : (es : List (TraceId × PlainIndexedTrace L)) → lookup (same_trace trace) es ≡ None → others trace (listed es) ≡ listed es
     others-missing es h = others-none es (none_passes_from_lookup (same_trace trace) es h)
 
     or-none : (o : Option (Indexed L)) → option_or o None ≡ o
     or-none None = refl
     or-none (Some x) = refl
 
-    find-listed : (es : List (TraceId × Noted L)) → IsDistinct same_trace (keys_of es) → find (is_of trace) (listed es) ≡ option_map indexed (lookup_entry (same_trace trace) es)
+    find-listed : (es : List (TraceId × PlainIndexedTrace L)) → IsDistinct same_trace (keys_of es) → find (is_of trace) (listed es) ≡ option_map indexed (lookup_entry (same_trace trace) es)
     find-listed [] d = refl
     find-listed (e ∷ es) d =
         by_answer (same_trace trace e.0)
@@ -100,7 +100,7 @@ module _ {L : Type 0} where
         ∙ find-listed es (IsDistinct-tail same_trace e.0 (keys_of es) d)
         ∙ sym (ap (λ b. option_map indexed (cond b (Some e) (lookup_entry (same_trace trace) es))) n))
 
-    pub others-listed : (es : List (TraceId × Noted L)) → IsDistinct same_trace (keys_of es) → others trace (listed es) ≡ listed (remove_entry (same_trace trace) es)
+    pub others-listed : (es : List (TraceId × PlainIndexedTrace L)) → IsDistinct same_trace (keys_of es) → others trace (listed es) ≡ listed (remove_entry (same_trace trace) es)
     others-listed [] d = refl
     others-listed (e ∷ es) d =
         by_answer (same_trace trace e.0)
@@ -115,7 +115,7 @@ module _ {L : Type 0} where
         ∙ sym (listed-cons e (remove_entry (same_trace trace) es))
         ∙ sym (ap (λ b. listed (cond b es (e ∷ remove_entry (same_trace trace) es))) n))
 
-    noted-entry : (es : List (TraceId × Noted L)) → option_map_or (λ (t : Indexed L). t.noted) (option_map indexed (lookup_entry (same_trace trace) es)) nothing ≡ unwrap_or (lookup (same_trace trace) es) nothing
+    noted-entry : (es : List (TraceId × PlainIndexedTrace L)) → option_map_or (λ (t : Indexed L). t.noted) (option_map indexed (lookup_entry (same_trace trace) es)) nothing ≡ unwrap_or (lookup (same_trace trace) es) nothing
     noted-entry [] = refl
     noted-entry (e ∷ es) =
         by_answer (same_trace trace e.0)
@@ -125,11 +125,11 @@ module _ {L : Type 0} where
         ∙ noted-entry es
         ∙ sym (ap (λ b. unwrap_or (cond b (Some e.1) (lookup (same_trace trace) es)) nothing) n))
 
-    pub noted-listed : (es : List (TraceId × Noted L)) → IsDistinct same_trace (keys_of es) → noted_of trace (listed es) ≡ unwrap_or (lookup (same_trace trace) es) nothing
+    pub noted-listed : (es : List (TraceId × PlainIndexedTrace L)) → IsDistinct same_trace (keys_of es) → noted_of trace (listed es) ≡ unwrap_or (lookup (same_trace trace) es) nothing
     noted-listed es d = ap (λ o. option_map_or (λ (t : Indexed L). t.noted) o nothing) (find-listed es d) ∙ noted-entry es
 
     -- the trace's entry, with w in it, goes first
-    entry-set : (es : List (TraceId × Noted L)) (v w : Noted L) → lookup (same_trace trace) es ≡ Some v → lookup_entry (same_trace trace) (set_value (same_trace trace) es w) ≡ Some (trace, w)
+    entry-set : (es : List (TraceId × PlainIndexedTrace L)) (v w : PlainIndexedTrace L) → lookup (same_trace trace) es ≡ Some v → lookup_entry (same_trace trace) (set_value (same_trace trace) es w) ≡ Some (trace, w)
     entry-set [] v w h = cc
     entry-set (e ∷ es) v w h =
         by_answer (same_trace trace e.0)
@@ -140,7 +140,7 @@ module _ {L : Type 0} where
         ∙ ap (λ b. cond b (Some e) (lookup_entry (same_trace trace) (set_value (same_trace trace) es w))) n
         ∙ entry-set es v w (sym (ap (λ b. cond b (Some e.1) (lookup (same_trace trace) es)) n) ∙ h))
 
-    remove-set : (es : List (TraceId × Noted L)) (w : Noted L) → remove_entry (same_trace trace) (set_value (same_trace trace) es w) ≡ remove_entry (same_trace trace) es
+    remove-set : (es : List (TraceId × PlainIndexedTrace L)) (w : PlainIndexedTrace L) → remove_entry (same_trace trace) (set_value (same_trace trace) es w) ≡ remove_entry (same_trace trace) es
     remove-set [] w = refl
     remove-set (e ∷ es) w =
         by_answer (same_trace trace e.0)
@@ -152,7 +152,7 @@ module _ {L : Type 0} where
         ∙ ap (λ l. e ∷ l) (remove-set es w)
         ∙ sym (ap (λ b. cond b es (e ∷ remove_entry (same_trace trace) es)) n))
 
-    pub promoted-set : (es : List (TraceId × Noted L)) (v w : Noted L) → lookup (same_trace trace) es ≡ Some v
+    pub promoted-set : (es : List (TraceId × PlainIndexedTrace L)) (v w : PlainIndexedTrace L) → lookup (same_trace trace) es ≡ Some v
         → promoted (same_trace trace) (set_value (same_trace trace) es w) ≡ (trace, w) ∷ remove_entry (same_trace trace) es
     promoted-set es v w h =
         ap (λ o. option_map_or (λ e. e ∷ remove_entry (same_trace trace) (set_value (same_trace trace) es w)) o (set_value (same_trace trace) es w)) (entry-set es v w h)

@@ -6,7 +6,7 @@ use Rattle.std.proofs.lemmas.List.Folds.{find-append}
 use Rattle.hs_base.specs.declared.ids.TraceId.{TraceId}
 use Rattle.hs_base.specs.declared.ids.NodeId.{NodeId}
 use Rattle.hs_base.specs.NodeSets.{has_node}
-use Rattle.hs_index.specs.Index.{Noted, Indexed, trace_of, is_of, nothing, noted_of, others, touch, with_chunk, with_crumb, is_over, kept}
+use Rattle.hs_index.specs.Index.{PlainIndexedTrace, Indexed, trace_of, is_of, nothing, noted_of, others, touch, with_chunk, with_crumb, is_over, kept}
 use Rattle.hs_words.specs.Buffers.{Buffer}
 use Rattle.hs_index.specs.Calls.{Call, Arrived, Crumbed, Claimed, after, touches, last_touch, chunk_in, is_crumb, is_in, is_indexed, chunks_since, has_crumb_since, AreLater, AreInTurn, LooksBack}
 use Rattle.hs_index.proofs.Listed.{same_trace_equiv, same_from_test}
@@ -51,14 +51,14 @@ module _ {L : Type 0} where
         (λ n. ap (λ b. find (is_of trace) (cond (not b) (t ∷ others u ts) (others u ts))) n
         ∙ ap (λ o. cond (is_of trace t) (Some t) o) (find-others-other other ts))
 
-    noted-touch-this : same_trace trace u ≡ true → (w : Noted L) (ts : List (Indexed L)) → noted_of trace (touch u w ts) ≡ w
+    noted-touch-this : same_trace trace u ≡ true → (w : PlainIndexedTrace L) (ts : List (Indexed L)) → noted_of trace (touch u w ts) ≡ w
     noted-touch-this same w ts =
         ap (λ o. option_map_or (λ (t : Indexed L). t.noted) o nothing)
         (find-append (is_of trace) (others u ts) (record { trace = u; noted = w } ∷ [])
         ∙ ap (λ o. option_or o (find (is_of trace) (record { trace = u; noted = w } ∷ []))) (find-others-this same ts)
         ∙ ap (λ b. cond b (Some (record { trace = u; noted = w })) None) same)
 
-    noted-touch-other : same_trace trace u ≡ false → (w : Noted L) (ts : List (Indexed L)) → noted_of trace (touch u w ts) ≡ noted_of trace ts
+    noted-touch-other : same_trace trace u ≡ false → (w : PlainIndexedTrace L) (ts : List (Indexed L)) → noted_of trace (touch u w ts) ≡ noted_of trace ts
     noted-touch-other other w ts =
         ap (λ o. option_map_or (λ (t : Indexed L). t.noted) o nothing)
         (find-append (is_of trace) (others u ts) (record { trace = u; noted = w } ∷ [])
@@ -143,7 +143,7 @@ module _ {L : Type 0} where
         (later-others ts (before t.trace) (now t.trace) (apart-from t no) a.0, turn-others ts a.1))
 
     -- the trace itself is touched now
-    module _ (w : Noted L) (most : (trace : TraceId) → before trace < now u) where
+    module _ (w : PlainIndexedTrace L) (most : (trace : TraceId) → before trace < now u) where
       later-touch : (ts : List (Indexed L)) (m n : ℕ) → n ≡ m → m < now u → AreLater before m ts → AreLater now n (touch u w ts)
       later-touch [] m n e less a = ((omega (arith, e, less)), tt)
       later-touch (t ∷ ts) m n e less a =
@@ -197,7 +197,7 @@ module _ {L : Type 0} where
     ts = (after threshold most earlier).touched
 
     -- after a touch of u, which then has w
-    module _ (call : Call L) (u : TraceId) (w : Noted L)
+    module _ (call : Call L) (u : TraceId) (w : PlainIndexedTrace L)
         (touched-now : (trace : TraceId) → touches trace call ≡ same_trace trace u)
         (is : (after threshold most (call ∷ earlier)).touched ≡ kept threshold most (touch u w ts))
         (chunks-of : (trace : TraceId) → same_trace trace u ≡ true → w.chunks ≡ (noted_of trace ts).chunks ++ chunk_in trace call)
@@ -222,19 +222,19 @@ module _ {L : Type 0} where
         chunks = λ trace.
             chunk-step (is_indexed threshold most trace (call ∷ earlier)) (noted_of trace (after threshold most (call ∷ earlier)).touched).chunks (noted_of trace ts).chunks (chunks_since threshold most trace earlier) (chunk_in trace call)
             (looks.chunks trace)
-            (λ i. ap (λ (n : Noted L). n.chunks) (noted-in trace i)
+            (λ i. ap (λ (n : PlainIndexedTrace L). n.chunks) (noted-in trace i)
             ∙ by_answer (same_trace trace u)
-            (λ y. ap (λ (n : Noted L). n.chunks) (noted-touch-this trace u y w ts) ∙ chunks-of trace y)
-            (λ n. ap (λ (n : Noted L). n.chunks) (noted-touch-other trace u n w ts) ∙ sym (append-nil (noted_of trace ts).chunks) ∙ ap (λ l. (noted_of trace ts).chunks ++ l) (sym (no-chunk trace n))))
-            (λ o. ap (λ (n : Noted L). n.chunks) (noted-out trace (after threshold most (call ∷ earlier)).touched o));
+            (λ y. ap (λ (n : PlainIndexedTrace L). n.chunks) (noted-touch-this trace u y w ts) ∙ chunks-of trace y)
+            (λ n. ap (λ (n : PlainIndexedTrace L). n.chunks) (noted-touch-other trace u n w ts) ∙ sym (append-nil (noted_of trace ts).chunks) ∙ ap (λ l. (noted_of trace ts).chunks ++ l) (sym (no-chunk trace n))))
+            (λ o. ap (λ (n : PlainIndexedTrace L). n.chunks) (noted-out trace (after threshold most (call ∷ earlier)).touched o));
         crumbs = λ trace node.
             bit-step (is_indexed threshold most trace (call ∷ earlier)) (has_node (noted_of trace (after threshold most (call ∷ earlier)).touched).crumbs node) (has_node (noted_of trace ts).crumbs node) (has_crumb_since threshold most trace node earlier) (is_crumb trace node call)
             (looks.crumbs trace node)
-            (λ i. ap (λ (n : Noted L). has_node n.crumbs node) (noted-in trace i)
+            (λ i. ap (λ (n : PlainIndexedTrace L). has_node n.crumbs node) (noted-in trace i)
             ∙ by_answer (same_trace trace u)
-            (λ y. ap (λ (n : Noted L). has_node n.crumbs node) (noted-touch-this trace u y w ts) ∙ crumbs-of trace node y)
-            (λ n. ap (λ (n : Noted L). has_node n.crumbs node) (noted-touch-other trace u n w ts) ∙ sym (or-false (has_node (noted_of trace ts).crumbs node)) ∙ ap (λ b. has_node (noted_of trace ts).crumbs node || b) (sym (no-crumb trace node n))))
-            (λ o. ap (λ (n : Noted L). has_node n.crumbs node) (noted-out trace (after threshold most (call ∷ earlier)).touched o) ∙ has-no_nodes node);
+            (λ y. ap (λ (n : PlainIndexedTrace L). has_node n.crumbs node) (noted-touch-this trace u y w ts) ∙ crumbs-of trace node y)
+            (λ n. ap (λ (n : PlainIndexedTrace L). has_node n.crumbs node) (noted-touch-other trace u n w ts) ∙ sym (or-false (has_node (noted_of trace ts).crumbs node)) ∙ ap (λ b. has_node (noted_of trace ts).crumbs node || b) (sym (no-crumb trace node n))))
+            (λ o. ap (λ (n : PlainIndexedTrace L). has_node n.crumbs node) (noted-out trace (after threshold most (call ∷ earlier)).touched o) ∙ has-no_nodes node);
         order = subst (λ l. AreInTurn (last_touch (call ∷ earlier)) l) (sym is) (turn-kept threshold most (last_touch (call ∷ earlier)) (touch u w ts) turned);
         within = ap (is_over threshold most) is ∙ within threshold most (touch u w ts);
       }
@@ -265,13 +265,13 @@ module _ {L : Type 0} where
           chunks = λ trace.
               chunk-step (is_in trace (others u ts)) (noted_of trace (others u ts)).chunks (noted_of trace ts).chunks (chunks_since threshold most trace earlier) []
               (looks.chunks trace)
-              (λ i. ap (λ (n : Noted L). n.chunks) (noted-others-other trace u (off trace i) ts) ∙ sym (append-nil (noted_of trace ts).chunks))
-              (λ o. ap (λ (n : Noted L). n.chunks) (noted-out trace (others u ts) o));
+              (λ i. ap (λ (n : PlainIndexedTrace L). n.chunks) (noted-others-other trace u (off trace i) ts) ∙ sym (append-nil (noted_of trace ts).chunks))
+              (λ o. ap (λ (n : PlainIndexedTrace L). n.chunks) (noted-out trace (others u ts) o));
           crumbs = λ trace node.
               bit-step (is_in trace (others u ts)) (has_node (noted_of trace (others u ts)).crumbs node) (has_node (noted_of trace ts).crumbs node) (has_crumb_since threshold most trace node earlier) false
               (looks.crumbs trace node)
-              (λ i. ap (λ (n : Noted L). has_node n.crumbs node) (noted-others-other trace u (off trace i) ts) ∙ sym (or-false (has_node (noted_of trace ts).crumbs node)))
-              (λ o. ap (λ (n : Noted L). has_node n.crumbs node) (noted-out trace (others u ts) o) ∙ has-no_nodes node);
+              (λ i. ap (λ (n : PlainIndexedTrace L). has_node n.crumbs node) (noted-others-other trace u (off trace i) ts) ∙ sym (or-false (has_node (noted_of trace ts).crumbs node)))
+              (λ o. ap (λ (n : PlainIndexedTrace L). has_node n.crumbs node) (noted-out trace (others u ts) o) ∙ has-no_nodes node);
           order = turn-others u (last_touch earlier) (last_touch earlier) (λ trace n. refl) ts looks.order;
           within =
               let chunks = ltb-false threshold (count_chunks ts) (or_parts (nat_lt threshold (count_chunks ts)) (nat_lt most (length ts)) looks.within).0 in

@@ -14,14 +14,14 @@ use Rattle.hs_words.specs.Buffers.{Buffer, buffer_of}
 use Rattle.hs_index.specs.declared.answers.Gone.{Gone}
 
 -- what is indexed of a trace: its chunks in the order of arrival, and the nodes to which its crumbs lead
-pub record Noted (L : Type 0) : Type 0 where
+pub record PlainIndexedTrace (L : Type 0) : Type 0 where
   pub chunks : List (Buffer L)
   pub crumbs : NodeSet
 
 -- an indexed trace
 pub record Indexed (L : Type 0) : Type 0 where
   pub trace : TraceId
-  pub noted : Noted L
+  pub noted : PlainIndexedTrace L
 
 -- the most chunks and traces that stay, and the indexed traces; the one touched longest ago stands first
 pub record Index (L : Type 0) : Type 0 where
@@ -43,30 +43,30 @@ is_of trace indexed = same_trace trace indexed.trace
 abbrev pub is_other : {L : Type 0} → TraceId → Indexed L → Bool
 is_other trace indexed = not (is_of trace indexed)
 
-abbrev pub nothing : {L : Type 0} → Noted L
+abbrev pub nothing : {L : Type 0} → PlainIndexedTrace L
 nothing = record { chunks = []; crumbs = no_nodes }
 
 -- what is indexed of the trace, which is nothing where the trace is not there
-abbrev pub noted_of : {L : Type 0} → TraceId → List (Indexed L) → Noted L
+abbrev pub noted_of : {L : Type 0} → TraceId → List (Indexed L) → PlainIndexedTrace L
 noted_of trace touched = option_map_or (λ t. t.noted) (find (is_of trace) touched) nothing
 
 -- the other traces, in their order
 abbrev pub others : {L : Type 0} → TraceId → List (Indexed L) → List (Indexed L)
 others trace touched = filter (is_other trace) touched
 
-abbrev pub with_chunk : {L : Type 0} → Noted L → Buffer L → Noted L
+abbrev pub with_chunk : {L : Type 0} → PlainIndexedTrace L → Buffer L → PlainIndexedTrace L
 with_chunk noted buffer = record { chunks = noted.chunks ++ buffer ∷ []; crumbs = noted.crumbs }
 
-abbrev pub with_crumb : {L : Type 0} → Noted L → NodeId → Noted L
+abbrev pub with_crumb : {L : Type 0} → PlainIndexedTrace L → NodeId → PlainIndexedTrace L
 with_crumb noted node = record { chunks = noted.chunks; crumbs = with_node noted.crumbs node }
 
 -- The trace with this stands last, and the others as they stood.
-abbrev pub touch : {L : Type 0} → TraceId → Noted L → List (Indexed L) → List (Indexed L)
+abbrev pub touch : {L : Type 0} → TraceId → PlainIndexedTrace L → List (Indexed L) → List (Indexed L)
 touch trace noted touched = others trace touched ++ record { trace = trace; noted = noted } ∷ []
 
 -- ---- eviction
 
-abbrev pub chunk_count : {L : Type 0} → Noted L → ℕ
+abbrev pub chunk_count : {L : Type 0} → PlainIndexedTrace L → ℕ
 chunk_count noted = length noted.chunks
 
 -- how many chunks are indexed
@@ -114,7 +114,7 @@ evicted threshold most (oldest ∷ later) =
 -- ---- what the calls do
 
 -- the index after a touch, before anything goes
-abbrev pub touched_with : {L : Type 0} → Index L → TraceId → Noted L → Index L
+abbrev pub touched_with : {L : Type 0} → Index L → TraceId → PlainIndexedTrace L → Index L
 touched_with index trace noted = with_touched index (touch trace noted index.touched)
 
 -- the trace that a chunk's page is of, where it has one

@@ -14,7 +14,7 @@ pub struct Gone<L: Token> {
 /// What was indexed of a trace that was claimed: its chunks in the order of arrival, and the nodes to which
 /// its crumbs lead. Both are empty where the trace was not indexed.
 #[derive(Drop)]
-pub struct Taken<L: Token> {
+pub struct TakenTrace<L: Token> {
     pub held: List<Held<L>>,
     pub crumbs: NodeSet,
 }

@@ -5,7 +5,7 @@ ghost use Rattle.hs_index.specs.Index.{nothing, with_chunk, with_crumb, leaving,
 ghost use Rattle.hs_words.specs.Buffers.{buffer_of};
 ghost use Rattle.hs_index.specs.Touched.{IsLast};
 
-use crate::answers::{Gone, Taken};
+use crate::answers::{Gone, TakenTrace};
 use hs_base::limits::MOST_NODES;
 use hs_base::{List, NodeId, NodeSet};
 use hs_words::{Held, Token};
@@ -22,9 +22,9 @@ pub struct IndexedTrace<L: Token> {
 }
 
 impl<L: Token> Model for IndexedTrace<L> {
-    ghost use Rattle.hs_index.specs.Index.{Noted};
+    ghost use Rattle.hs_index.specs.Index.{PlainIndexedTrace};
 
-    ghost Value = { Noted L };
+    ghost Value = { PlainIndexedTrace L };
 
     ghost use Rattle.hs_index.specs.EntryLayout.{noted_in, HasRoom};
 
@@ -136,7 +136,7 @@ impl<L: Token> IndexedTrace<L> {
     }
 
     /// All that is indexed of the trace, as a claim takes it: its chunks in the order of arrival, and its crumbs.
-    pub fn release(self) -> Taken<L>
+    pub fn release(self) -> TakenTrace<L>
         ensures held { map buffer_of result.held.items ≡ self.chunks }
         ensures crumbs { result.crumbs ≡ self.crumbs }
     {
@@ -145,6 +145,6 @@ impl<L: Token> IndexedTrace<L> {
             gone: _,
             crumbs,
         } = self;
-        Taken { held, crumbs }
+        TakenTrace { held, crumbs }
     }
 }

@@ -5,7 +5,7 @@ ghost use Rattle.hs_index.specs.Index.{leaving_of, is_of, new_index, noted_of, c
 ghost use Rattle.hs_words.specs.Buffers.{buffer_of};
 ghost use Rattle.hs_index.specs.Calls.{after_call, Arrived, Crumbed, Claimed};
 
-use crate::answers::{Gone, Taken};
+use crate::answers::{Gone, TakenTrace};
 use crate::recent::Recent;
 use hs_base::limits::MOST_NODES;
 use hs_base::{Crumb, List, Memory, NodeSet, TraceId};
@@ -79,7 +79,7 @@ impl<L: Token> TraceIndex<L> {
     }
 
     /// Takes a trace out of the index, with its chunks and crumbs. Takes no memory.
-    pub fn claim(&mut self, trace: TraceId) -> Result<Taken<L>, Memory>
+    pub fn claim(&mut self, trace: TraceId) -> Result<TakenTrace<L>, Memory>
         ensures ok { IsOk result }
         ensures held { IfOk result (λ taken. map buffer_of taken.held.items ≡ (noted_of trace self.old.touched).chunks) }
         ensures crumbs { IfOk result (λ taken. taken.crumbs ≡ (noted_of trace self.old.touched).crumbs) }

@@ -8,6 +8,6 @@ mod index;
 mod laws;
 mod recent;
 
-pub use answers::{Gone, Taken};
+pub use answers::{Gone, TakenTrace};
 pub use index::TraceIndex;
 pub use laws::{any_calls_look_back, longest_end_stays};

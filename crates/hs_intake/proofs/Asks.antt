@@ -8,18 +8,18 @@ use Rattle.hs_base.specs.declared.told.Told.{Told}
 use Rattle.hs_ring.specs.Parts.{Leased}
 use Rattle.hs_law_agent.specs.Stepping.{Asked, told_by}
 use Rattle.hs_agent.specs.Keeping.{PlainAgent}
-use Rattle.hs_agent.specs.Runs.{Run, state_of, Follows}
+use Rattle.hs_agent.specs.Runs.{AgentRun, state_of, Follows}
 use Rattle.hs_agent.specs.Tries.{after_ask}
 use Rattle.hs_inbox.specs.Delivering.{PlainInbox, Delivers}
-use Rattle.hs_inbox.specs.declared.inbox.Delivered.{Delivered}
-use Rattle.hs_inbox.specs.declared.inbox.Delivered.TheVariants as delivered
+use Rattle.hs_inbox.specs.declared.inbox.AskDelivered.{AskDelivered}
+use Rattle.hs_inbox.specs.declared.inbox.AskDelivered.TheVariants as delivered
 use Rattle.hs_mail.specs.Letters.{Letters}
 use Rattle.hs_claimed.specs.Claims.{PlainClaims}
 use Rattle.hs_intake.specs.declared.took.Next.TheVariants as nexts
 use Rattle.hs_intake.specs.declared.took.Stop.{Stop}
 use Rattle.hs_intake.specs.declared.took.Stop.TheVariants.{Empty, Most, Memory, Words, Claims}
 use Rattle.hs_intake.specs.Intakes as acts
-use Rattle.hs_intake.specs.Intakes.{PlainIntake, Act, life, Stands, SaysIt, Goes, HasRoom, claims_life, claim_by}
+use Rattle.hs_intake.specs.Intakes.{PlainIntake, IntakeAct, life, Stands, SaysIt, Goes, HasRoom, claims_life, claim_by}
 use Rattle.hs_intake.specs.Taking.{TakesFirst, TakesAsk, TakesAsks}
 use Rattle.hs_intake.proofs.Claiming.{map_append, tells_claimed, tells_listed}
 use Rattle.hs_intake.proofs.Acts.{goes_more, goes_nothing}
@@ -27,7 +27,7 @@ use Rattle.hs_intake.proofs.Acts.{goes_more, goes_nothing}
 -- ---- the inbox
 
 -- delivered messages leave the rules as they are
-pub rules_stay : (old new : PlainInbox) (bytes : List ℕ) (answer : Delivered) → Delivers old bytes answer new → new.rules ≡ old.rules
+pub rules_stay : (old new : PlainInbox) (bytes : List ℕ) (answer : AskDelivered) → Delivers old bytes answer new → new.rules ≡ old.rules
 rules_stay old new bytes delivered.Taken (ask, is, low, same) = ap (λ (i : PlainInbox). i.rules) same
 rules_stay old new bytes delivered.Full (ask, is, high, same) = ap (λ (i : PlainInbox). i.rules) same
 rules_stay old new bytes delivered.Refused (none, same) = ap (λ (i : PlainInbox). i.rules) same
@@ -41,7 +41,7 @@ none_there [] is = refl
 none_there (a ∷ asks) is = let some : None ≡ Some a = is in absurd cc
 
 -- the intake stands on where its inbox has the same rules
-pub inbox_moved : (run : Run Leased) (d : PlainIntake) (inbox : PlainInbox) → Stands run d → inbox.rules ≡ d.inbox.rules → Stands run (record d { inbox = inbox })
+pub inbox_moved : (run : AgentRun Leased) (d : PlainIntake) (inbox : PlainInbox) → Stands run d → inbox.rules ≡ d.inbox.rules → Stands run (record d { inbox = inbox })
 inbox_moved run d inbox stands same =
     record {
       follows = stands.follows;
@@ -58,7 +58,7 @@ inbox_moved run d inbox stands same =
 
 -- ---- one ask
 
-ask_stands : (run : Run Leased) (d : PlainIntake) (ask : Ask) (agent : PlainAgent Leased) (m : Letters) (claims : PlainClaims) (unsaid : Option Told) (inbox : PlainInbox)
+ask_stands : (run : AgentRun Leased) (d : PlainIntake) (ask : Ask) (agent : PlainAgent Leased) (m : Letters) (claims : PlainClaims) (unsaid : Option Told) (inbox : PlainInbox)
     → Stands run d → inbox ≡ record d.inbox { asks = drop 1 d.inbox.asks } → Follows agent (after_ask run ask)
     → Stands (after_ask run ask) (record d { agent = agent; mail = m; claims = claims; unsaid = unsaid; inbox = inbox })
 ask_stands run d ask agent m claims unsaid inbox stands without follows =
@@ -75,7 +75,7 @@ ask_stands run d ask agent m claims unsaid inbox stands without follows =
       inbox = ap (λ (i : PlainInbox). i.rules) without ∙ stands.inbox;
     }
 
-pub took_ask : (run : Run Leased) (d : PlainIntake) (ask : Ask) (agent : PlainAgent Leased) (told : Told) (mid : PlainClaims) (m : Letters) (claims : PlainClaims) (unsaid : Option Told) (inbox : PlainInbox)
+pub took_ask : (run : AgentRun Leased) (d : PlainIntake) (ask : Ask) (agent : PlainAgent Leased) (told : Told) (mid : PlainClaims) (m : Letters) (claims : PlainClaims) (unsaid : Option Told) (inbox : PlainInbox)
     → Stands run d → Some ask ≡ slice_get d.inbox.asks 0 → inbox ≡ record d.inbox { asks = drop 1 d.inbox.asks } → Follows agent (after_ask run ask)
     → d.unsaid ≡ None → HasRoom d.claims → mid ≡ claims_life d.claims (filter_map claim_by (option_to_list (Some told))) → Some told ≡ told_by run.settings run.node (state_of run) (Asked ask)
     → SaysIt d.mail mid (Some told) m claims unsaid
@@ -95,16 +95,16 @@ took_ask run d ask agent told mid m claims unsaid inbox stands first without fol
           };
     }
 
-pub ask_alive : (d : PlainIntake) (ask : Ask) (agent : PlainAgent Leased) (m : Letters) (claims : PlainClaims) (unsaid : Option Told) (inbox : PlainInbox) → (run : Run Leased) × Stands run d
-    → inbox ≡ record d.inbox { asks = drop 1 d.inbox.asks } → ((run : Run Leased) → Follows d.agent run → Follows agent (after_ask run ask))
-    → (run : Run Leased) × Stands run (record d { agent = agent; mail = m; claims = claims; unsaid = unsaid; inbox = inbox })
+pub ask_alive : (d : PlainIntake) (ask : Ask) (agent : PlainAgent Leased) (m : Letters) (claims : PlainClaims) (unsaid : Option Told) (inbox : PlainInbox) → (run : AgentRun Leased) × Stands run d
+    → inbox ≡ record d.inbox { asks = drop 1 d.inbox.asks } → ((run : AgentRun Leased) → Follows d.agent run → Follows agent (after_ask run ask))
+    → (run : AgentRun Leased) × Stands run (record d { agent = agent; mail = m; claims = claims; unsaid = unsaid; inbox = inbox })
 ask_alive d ask agent m claims unsaid inbox known without after =
     (after_ask known.0 ask, ask_stands known.0 d ask agent m claims unsaid inbox known.1 without (after known.0 known.1.follows))
 
 -- ---- one after another
 
 -- The inbox was asked so many times, and the agent took an ask each time.
-pub record SoAsked (run : Run Leased) (old : PlainIntake) (count : ℕ) (new : PlainIntake) : Type 0 where
+pub record SoAsked (run : AgentRun Leased) (old : PlainIntake) (count : ℕ) (new : PlainIntake) : Type 0 where
   pub asks : List Ask
   pub rest : List Ask
   pub waited : old.inbox.asks ≡ asks ++ rest
@@ -112,7 +112,7 @@ pub record SoAsked (run : Run Leased) (old : PlainIntake) (count : ℕ) (new : P
   pub only : new ≡ record old { agent = new.agent; mail = new.mail; claims = new.claims; unsaid = new.unsaid; inbox = record old.inbox { asks = rest } }
   pub goes : Goes run (map acts.TakesAsk asks) old new
 
-pub none_asked : (run : Run Leased) (old : PlainIntake) → Stands run old → SoAsked run old 0 old
+pub none_asked : (run : AgentRun Leased) (old : PlainIntake) → Stands run old → SoAsked run old 0 old
 none_asked run old stands =
     record { asks = []; rest = old.inbox.asks; waited = refl; count_is = refl; only = refl; goes = goes_nothing run old old stands refl refl refl }
 
@@ -122,7 +122,7 @@ only_more : (a b c : PlainIntake) (first second : List Ask) → b ≡ record a {
 only_more a b c first second one two =
     two ∙ ap (λ (d : PlainIntake). record d { agent = c.agent; mail = c.mail; claims = c.claims; unsaid = c.unsaid; inbox = record d.inbox { asks = second } }) one
 
-pub one_ask_more : (run : Run Leased) (old mid new : PlainIntake) (count : ℕ) → SoAsked run old count mid → ((later : Run Leased) → Stands later mid → TakesFirst later mid new)
+pub one_ask_more : (run : AgentRun Leased) (old mid new : PlainIntake) (count : ℕ) → SoAsked run old count mid → ((later : AgentRun Leased) → Stands later mid → TakesFirst later mid new)
     → SoAsked run old (count + 1) new
 one_ask_more run old mid new count so next =
     let done = map acts.TakesAsk so.asks in
@@ -135,12 +135,12 @@ one_ask_more run old mid new count so next =
       count_is = (let long = length-append so.asks (one.ask ∷ []) in let count = so.count_is in omega (arith, long, count));
       only = only_more old mid new so.rest one.rest so.only one.only;
       goes =
-          subst (λ (all : List Act). Goes run all old new) (sym (map_append acts.TakesAsk so.asks (one.ask ∷ [])))
+          subst (λ (all : List IntakeAct). Goes run all old new) (sym (map_append acts.TakesAsk so.asks (one.ask ∷ [])))
           (goes_more run done (acts.TakesAsk one.ask ∷ []) old mid new so.goes one.goes);
     }
 
-pub asks_stopped : (run : Run Leased) (old mid new : PlainIntake) (count : ℕ) (stop : Stop) → count ≤ MAX_TAKEN → SoAsked run old count mid
-    → ((later : Run Leased) → Stands later mid → TakesAsk later mid (nexts.Stopped stop) new) → TakesAsks run old (record { count = count; stop = stop }) new
+pub asks_stopped : (run : AgentRun Leased) (old mid new : PlainIntake) (count : ℕ) (stop : Stop) → count ≤ MAX_TAKEN → SoAsked run old count mid
+    → ((later : AgentRun Leased) → Stands later mid → TakesAsk later mid (nexts.Stopped stop) new) → TakesAsks run old (record { count = count; stop = stop }) new
 asks_stopped run old mid new count Empty few so next =
     let (same, none) = next (life run (map acts.TakesAsk so.asks)) so.goes.stands in
     subst (λ (d : PlainIntake). TakesAsks run old (record { count = count; stop = Empty }) d) (sym same)
@@ -195,7 +195,7 @@ asks_stopped run old mid new count Claims few so next =
       stops = mute;
     })
 
-pub all_asked : (run : Run Leased) (old new : PlainIntake) (count : ℕ) → count ≡ MAX_TAKEN → SoAsked run old count new → TakesAsks run old (record { count = MAX_TAKEN; stop = Most }) new
+pub all_asked : (run : AgentRun Leased) (old new : PlainIntake) (count : ℕ) → count ≡ MAX_TAKEN → SoAsked run old count new → TakesAsks run old (record { count = MAX_TAKEN; stop = Most }) new
 all_asked run old new count full so =
     record {
       asks = so.asks;

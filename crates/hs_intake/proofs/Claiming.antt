@@ -15,14 +15,14 @@ use Rattle.hs_claimed.specs.Lives as claimed
 use Rattle.hs_law_agent.specs.State.{AgentState, ClaimedTrace, claim_of}
 use Rattle.hs_law_agent.specs.Messages.{has_crumb, late_of}
 use Rattle.hs_law_agent.specs.Stepping.{Crumbed, told_by}
-use Rattle.hs_mail.specs.Letters.{Letters, Deed}
+use Rattle.hs_mail.specs.Letters.{Letters, MailDeed}
 use Rattle.hs_mail.specs.Letters as letters
 use Rattle.hs_mail.specs.Lives as mail
 use Rattle.hs_intake.specs.Intakes.{PlainIntake, says, ArePut, claims_life, claim_for, claim_by, note_of, notes_from, is_claim, is_note, HasRoom, HaveRoom, ClaimsBy, Tells, SaysIt}
 
 -- ---- the mail
 
-pub mail_append : (xs ys : List Deed) (m : Letters) → mail.life m (xs ++ ys) ≡ mail.life (mail.life m xs) ys
+pub mail_append : (xs ys : List MailDeed) (m : Letters) → mail.life m (xs ++ ys) ≡ mail.life (mail.life m xs) ys
 mail_append [] ys m = refl
 mail_append (x ∷ xs) ys m = mail_append xs ys (letters.after m x)
 
@@ -72,11 +72,11 @@ all_noted (x ∷ said) number =
 
 -- ---- room
 
-room_append : (xs ys : List claimed.Deed) (s : PlainClaims) → HaveRoom s xs → HaveRoom (claims_life s xs) ys → HaveRoom s (xs ++ ys)
+room_append : (xs ys : List claimed.ClaimDeed) (s : PlainClaims) → HaveRoom s xs → HaveRoom (claims_life s xs) ys → HaveRoom s (xs ++ ys)
 room_append [] ys s first second = second
 room_append (x ∷ xs) ys s first second = (first.0, room_append xs ys (claimed.after s x) first.1 second)
 
-one_roomy : (s : PlainClaims) (deed : claimed.Deed) → is_claim deed ≡ false → HaveRoom s (deed ∷ [])
+one_roomy : (s : PlainClaims) (deed : claimed.ClaimDeed) → is_claim deed ≡ false → HaveRoom s (deed ∷ [])
 one_roomy s deed none = (λ yes. (let never : true ≡ false = sym yes ∙ none in absurd cc), tt)
 
 note_roomy : (s : PlainClaims) (number : ℕ) (said : Said) → HaveRoom s (option_to_list (note_of number said))
@@ -139,7 +139,7 @@ claims_made old new number (Some told) room is =
       room = claim_roomy told.why told old room;
     }
   where
-    single : (o : Option claimed.Deed) → filter_map (λ (t : Told). o) (told ∷ []) ≡ option_to_list o
+    single : (o : Option claimed.ClaimDeed) → filter_map (λ (t : Told). o) (told ∷ []) ≡ option_to_list o
     single None = refl
     single (Some deed) = refl
 
@@ -166,7 +166,7 @@ tells_more a b c first second one two =
       said = one.said ++ two.said;
       mail =
           two.mail ∙ ap (λ (m : Letters). mail.life m (map says two.said)) one.mail
-          ∙ sym (ap (λ (ds : List Deed). mail.life a.mail ds) (map_append says one.said two.said) ∙ mail_append (map says one.said) (map says two.said) a.mail);
+          ∙ sym (ap (λ (ds : List MailDeed). mail.life a.mail ds) (map_append says one.said two.said) ∙ mail_append (map says one.said) (map says two.said) a.mail);
       put = put_append one.said two.said a.mail one.put (subst (λ (m : Letters). ArePut m two.said) one.mail two.put);
       all =
           sym (append_assoc (option_to_list a.unsaid) first second) ∙ ap (λ (l : List Told). l ++ second) one.all ∙ append_assoc one.said (option_to_list b.unsaid) second

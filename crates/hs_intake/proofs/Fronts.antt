@@ -11,7 +11,7 @@ use Rattle.hs_link.specs.Contents.{Incoming}
 use Rattle.hs_live.specs.Keys.{Key}
 use Rattle.hs_live.specs.Live.{Port, ReceivesAt}
 use Rattle.hs_agent.specs.Keeping.{PlainAgent}
-use Rattle.hs_agent.specs.Runs.{Run, state_of, Follows}
+use Rattle.hs_agent.specs.Runs.{AgentRun, state_of, Follows}
 use Rattle.hs_agent.specs.Tries.{after_crumb}
 use Rattle.hs_law_agent.specs.Stepping.{Crumbed, told_by}
 use Rattle.hs_mail.specs.Letters.{Letters}
@@ -27,7 +27,7 @@ use Rattle.hs_intake.proofs.Triggers.{trigger_taken, triggers_moved, triggers_co
 
 -- ---- the front
 
-free_now : (run : Run Leased) (d : PlainIntake) (back : Option Waiting) → back ≡ None → Stands run d → Stands run (record d { back = back })
+free_now : (run : AgentRun Leased) (d : PlainIntake) (back : Option Waiting) → back ≡ None → Stands run d → Stands run (record d { back = back })
 free_now run d back none stands =
     subst (λ (o : Option Waiting). Stands run (record d { back = o })) (sym none)
     (record {
@@ -43,7 +43,7 @@ free_now run d back none stands =
       inbox = stands.inbox;
     })
 
-pub front_crumb : (run : Run Leased) (d : PlainIntake) (client : ℕ) (crumb : Crumb) (agent : PlainAgent Leased) (back : Option Waiting) (told : Option Told) (m : Letters) (claims : PlainClaims) (unsaid : Option Told)
+pub front_crumb : (run : AgentRun Leased) (d : PlainIntake) (client : ℕ) (crumb : Crumb) (agent : PlainAgent Leased) (back : Option Waiting) (told : Option Told) (m : Letters) (claims : PlainClaims) (unsaid : Option Told)
     → Stands run d → d.back ≡ Some (Crumbs client crumb) → back ≡ None → Follows agent (after_crumb run client crumb) → d.unsaid ≡ None
     → told ≡ told_by run.settings run.node (state_of run) (Crumbed client crumb) → SaysIt d.mail d.claims told m claims unsaid
     → TakesBack run d true (record d { agent = agent; back = back; mail = m; claims = claims; unsaid = unsaid })
@@ -68,7 +68,7 @@ front_crumb run d client crumb agent back told m claims unsaid stands there free
       ),
     )
 
-pub front_trigger : (run : Run Leased) (d : PlainIntake) (client : ℕ) (trigger : Trigger) (agent : PlainAgent Leased) (back : Option Waiting) (told : Option Told) (mid : PlainClaims) (m : Letters) (claims : PlainClaims) (unsaid : Option Told)
+pub front_trigger : (run : AgentRun Leased) (d : PlainIntake) (client : ℕ) (trigger : Trigger) (agent : PlainAgent Leased) (back : Option Waiting) (told : Option Told) (mid : PlainClaims) (m : Letters) (claims : PlainClaims) (unsaid : Option Told)
     → Stands run d → d.back ≡ Some (Triggers client trigger) → back ≡ None → Follows agent (after_act run (TakesTrigger client trigger)) → d.unsaid ≡ None → HasRoom d.claims
     → mid ≡ claims_life d.claims (filter_map claim_by (option_to_list told)) → told ≡ told_on run client trigger → SaysIt d.mail mid told m claims unsaid
     → TakesBack run d true (record d { agent = agent; back = back; mail = m; claims = claims; unsaid = unsaid })
@@ -93,7 +93,7 @@ front_trigger run d client trigger agent back told mid m claims unsaid stands th
 
 -- ---- triggers that leave
 
-pub dropped : (run : Run Leased) (d : PlainIntake) (client : ℕ) (result : Option Trigger) (port : Port) → Stands run d → ReceivesAt client d.port.triggers result port.triggers
+pub dropped : (run : AgentRun Leased) (d : PlainIntake) (client : ℕ) (result : Option Trigger) (port : Port) → Stands run d → ReceivesAt client d.port.triggers result port.triggers
     → port ≡ record d.port { triggers = port.triggers } → DropsOne run client d (is_some result) (record d { port = port })
 dropped run d client (Some trigger) port stands receives only =
     let one = receives_one client trigger d.port.triggers port.triggers receives in (
@@ -107,14 +107,14 @@ dropped run d client None port stands receives only =
     (ap (λ (p : Port). record d { port = p }) (only ∙ ap (λ ends. record d.port { triggers = ends }) same), dry)
 
 -- So many triggers left.
-pub record SoDropped (run : Run Leased) (client : ℕ) (old : PlainIntake) (count : ℕ) (new : PlainIntake) : Type 0 where
+pub record SoDropped (run : AgentRun Leased) (client : ℕ) (old : PlainIntake) (count : ℕ) (new : PlainIntake) : Type 0 where
   pub items : List Trigger
   pub count_is : length items ≡ count
   pub moves : Moves trigger_line client items old new
   pub only : new ≡ record old { port = new.port }
   pub stands : Stands run new
 
-pub none_dropped : (run : Run Leased) (client : ℕ) (old : PlainIntake) → Stands run old → client < length old.port.triggers → SoDropped run client old 0 old
+pub none_dropped : (run : AgentRun Leased) (client : ℕ) (old : PlainIntake) → Stands run old → client < length old.port.triggers → SoDropped run client old 0 old
 none_dropped run client old stands low =
     let end = end_there old.port.triggers client low in
     record {
@@ -125,7 +125,7 @@ none_dropped run client old stands low =
       stands = stands;
     }
 
-pub one_dropped : (run : Run Leased) (client : ℕ) (old mid new : PlainIntake) (count : ℕ) → SoDropped run client old count mid → ((later : Run Leased) → Stands later mid → DropsOne later client mid true new)
+pub one_dropped : (run : AgentRun Leased) (client : ℕ) (old mid new : PlainIntake) (count : ℕ) → SoDropped run client old count mid → ((later : AgentRun Leased) → Stands later mid → DropsOne later client mid true new)
     → SoDropped run client old (count + 1) new
 one_dropped run client old mid new count so next =
     let (item, moves, only, stands) = next run so.stands in
@@ -137,8 +137,8 @@ one_dropped run client old mid new count so next =
       stands = stands;
     }
 
-pub drops_stop : (run : Run Leased) (client : ℕ) (old mid new : PlainIntake) (count : ℕ) → count ≤ MAX_TAKEN → SoDropped run client old count mid
-    → ((later : Run Leased) → Stands later mid → DropsOne later client mid false new) → DropsMany run client old (record { took = record { count = count; stop = Empty }; limited = count }) new
+pub drops_stop : (run : AgentRun Leased) (client : ℕ) (old mid new : PlainIntake) (count : ℕ) → count ≤ MAX_TAKEN → SoDropped run client old count mid
+    → ((later : AgentRun Leased) → Stands later mid → DropsOne later client mid false new) → DropsMany run client old (record { took = record { count = count; stop = Empty }; limited = count }) new
 drops_stop run client old mid new count few so next =
     let (same, dry) = next run so.stands in
     subst (λ (d : PlainIntake). DropsMany run client old (record { took = record { count = count; stop = Empty }; limited = count }) d) (sym same)
@@ -153,7 +153,7 @@ drops_stop run client old mid new count few so next =
       stops = dry;
     })
 
-pub all_dropped : (run : Run Leased) (client : ℕ) (old new : PlainIntake) (count : ℕ) → count ≡ MAX_TAKEN → SoDropped run client old count new
+pub all_dropped : (run : AgentRun Leased) (client : ℕ) (old new : PlainIntake) (count : ℕ) → count ≡ MAX_TAKEN → SoDropped run client old count new
     → DropsMany run client old (record { took = record { count = MAX_TAKEN; stop = Most }; limited = MAX_TAKEN }) new
 all_dropped run client old new count full so =
     record {
@@ -171,8 +171,8 @@ pub drop_counted : (client count : ℕ) (result : Option Trigger) (old new : Lis
 drop_counted client count (Some trigger) old new receives counted = triggers_counted client count (trigger ∷ []) old new (receives_one client trigger old new receives) counted
 drop_counted client count None old new receives counted = ap (λ (es : List (Incoming Trigger Key)). length es) (dry_one client old new receives).0 ∙ counted
 
-pub drop_alive : (d : PlainIntake) (client : ℕ) (result : Option Trigger) (port : Port) → (run : Run Leased) × Stands run d → ReceivesAt client d.port.triggers result port.triggers
-    → port ≡ record d.port { triggers = port.triggers } → (run : Run Leased) × Stands run (record d { port = port })
+pub drop_alive : (d : PlainIntake) (client : ℕ) (result : Option Trigger) (port : Port) → (run : AgentRun Leased) × Stands run d → ReceivesAt client d.port.triggers result port.triggers
+    → port ≡ record d.port { triggers = port.triggers } → (run : AgentRun Leased) × Stands run (record d { port = port })
 drop_alive d client (Some trigger) port known receives only = (
   known.0,
   subst (λ (p : Port). Stands known.0 (record d { port = p })) (sym only)

@@ -17,8 +17,8 @@ use Rattle.hs_live.specs.Live.{Port}
 use Rattle.hs_law_agent.specs.Stepping.{Answered}
 use Rattle.hs_law_agent.specs.Stepping as model
 use Rattle.hs_agent.specs.Keeping.{PlainAgent}
-use Rattle.hs_agent.specs.Runs.{Run, state_of, first_place, offered_next, after_offer, with_back, answer_of, back_in, Follows}
-use Rattle.hs_intake.specs.declared.took.Parted.{Parted}
+use Rattle.hs_agent.specs.Runs.{AgentRun, state_of, first_place, offered_next, after_offer, with_back, answer_of, back_in, Follows}
+use Rattle.hs_intake.specs.declared.took.PartedChunk.{PartedChunk}
 use Rattle.hs_intake.specs.Intakes.{PlainIntake, Waiting, Chunk, Crumbs, Triggers, AreFor, IsPooled, MayWaitIf, LetsGo, after_act, Stands}
 use Rattle.hs_intake.specs.Handing.{Returns, GivesFirst, Word, word_of, SaysIf, HandsOut, handed_by}
 
@@ -90,7 +90,7 @@ one_back old new buffer model.Unread back returns is other at =
 
 -- ---- the intake stands on
 
-gave_stands : (run : Run Leased) (d : PlainIntake) (buffer : Buffer Leased) (answer : Answered) (back : Option (Buffer Leased)) (agent : PlainAgent Leased) (giver : Giving)
+gave_stands : (run : AgentRun Leased) (d : PlainIntake) (buffer : Buffer Leased) (answer : Answered) (back : Option (Buffer Leased)) (agent : PlainAgent Leased) (giver : Giving)
     → Stands run d → Some buffer ≡ offered_next run → Returns d.port.giver buffer answer back giver → Follows agent (after_act run (LetsGo answer back))
     → Stands (after_act run (LetsGo answer back)) (record d { agent = agent; port = record d.port { giver = giver } })
 gave_stands run d buffer answer back agent giver stands first returns follows =
@@ -112,7 +112,7 @@ gave_stands run d buffer answer back agent giver stands first returns follows =
       inbox = stands.inbox;
     }
 
-pub gave_on : (run : Run Leased) (d : PlainIntake) (buffer : Buffer Leased) (answer : Answered) (back : Option (Buffer Leased)) (agent : PlainAgent Leased) (port : Port)
+pub gave_on : (run : AgentRun Leased) (d : PlainIntake) (buffer : Buffer Leased) (answer : Answered) (back : Option (Buffer Leased)) (agent : PlainAgent Leased) (port : Port)
     → Stands run d → Some buffer ≡ offered_next run → Returns d.port.giver buffer answer back port.giver → port ≡ record d.port { giver = port.giver }
     → Follows agent (after_act run (LetsGo answer back)) → Stands (after_act run (LetsGo answer back)) (record d { agent = agent; port = port })
 gave_on run d buffer answer back agent port stands first returns only follows =
@@ -122,7 +122,7 @@ gave_on run d buffer answer back agent port stands first returns only follows =
 -- ---- what was said, and then the offer
 
 -- what was said changed the mail and the claims, and then the first of the hand was offered
-pub said_and_gave : (run : Run Leased) (old new : PlainIntake) (w : Word) (parted : Option Parted) (was_given : Option Bool) → SaysIf run (word_of old) parted w
+pub said_and_gave : (run : AgentRun Leased) (old new : PlainIntake) (w : Word) (parted : Option PartedChunk) (was_given : Option Bool) → SaysIf run (word_of old) parted w
     → GivesFirst run (record old { mail = w.mail; claims = w.claims }) was_given new → HandsOut run old (handed_by parted was_given) new
 said_and_gave run old new w parted None says (only, spent) =
     let word : w ≡ word_of new = ap word_of (sym only) in (

@@ -6,13 +6,13 @@ use Rattle.hs_base.specs.declared.told.Told.{Told}
 use Rattle.hs_ring.specs.Parts.{Leased}
 use Rattle.hs_link.specs.Contents.{Incoming}
 use Rattle.hs_live.specs.Keys.{Key}
-use Rattle.hs_agent.specs.Runs.{Run}
+use Rattle.hs_agent.specs.Runs.{AgentRun}
 use Rattle.hs_claimed.specs.Claims.{PlainClaims}
 use Rattle.hs_wire.specs.Messages.{SaysTold}
 use Rattle.hs_intake.specs.declared.took.Next.TheVariants as nexts
 use Rattle.hs_intake.specs.declared.took.Stop.{Stop}
 use Rattle.hs_intake.specs.declared.took.Stop.TheVariants.{Empty, Most, Memory, Words, Claims}
-use Rattle.hs_intake.specs.Intakes.{PlainIntake, Line, Lines, lines_of, Act, life, told_in, Stands, ClaimsBy, Tells, Goes}
+use Rattle.hs_intake.specs.Intakes.{PlainIntake, Line, Lines, lines_of, IntakeAct, life, told_in, Stands, ClaimsBy, Tells, Goes}
 use Rattle.hs_intake.specs.Taking.{IsDry, Moves, IsMute, IsShort, TakesOne, TakesNext, TakesMany}
 use Rattle.hs_intake.proofs.Lines.{receives_none, receives_more}
 use Rattle.hs_intake.proofs.Claiming.{map_append}
@@ -24,14 +24,14 @@ end_there (x ∷ xs) zero low = (x, refl)
 end_there (x ∷ xs) (suc i) low = end_there xs i (omega arith)
 
 -- The line was asked so many times, and gave an item each time, which the agent took.
-pub record SoFar {T : Type 0} (run : Run Leased) (line : Line T) (client : ℕ) (old : PlainIntake) (count : ℕ) (new : PlainIntake) : Type 0 where
+pub record SoFar {T : Type 0} (run : AgentRun Leased) (line : Line T) (client : ℕ) (old : PlainIntake) (count : ℕ) (new : PlainIntake) : Type 0 where
   pub items : List T
   pub count_is : length items ≡ count
   pub moves : Moves line client items old new
   pub back : new.back ≡ old.back
   pub goes : Goes run (map (line.takes client) items) old new
 
-module _ {T : Type 0} (run : Run Leased) (line : Line T) (client : ℕ) where
+module _ {T : Type 0} (run : AgentRun Leased) (line : Line T) (client : ℕ) where
   pub moves_more : ((p : Lines) (xs ys : List (Incoming T Key)) → line.with_ends (line.with_ends p xs) ys ≡ line.with_ends p ys)
       → (xs ys : List T) (a b c : PlainIntake) → Moves line client xs a b → Moves line client ys b c → Moves line client (xs ++ ys) a c
   moves_more over xs ys a b c first second =
@@ -54,7 +54,7 @@ module _ {T : Type 0} (run : Run Leased) (line : Line T) (client : ℕ) where
       }
 
   unfoldable pub one_more : ((p : Lines) (xs ys : List (Incoming T Key)) → line.with_ends (line.with_ends p xs) ys ≡ line.with_ends p ys)
-      → (old mid new : PlainIntake) (count : ℕ) → SoFar run line client old count mid → ((later : Run Leased) → Stands later mid → TakesOne later line client mid new)
+      → (old mid new : PlainIntake) (count : ℕ) → SoFar run line client old count mid → ((later : AgentRun Leased) → Stands later mid → TakesOne later line client mid new)
       → SoFar run line client old (count + 1) new
   one_more over old mid new count so next =
       let acts = map (line.takes client) so.items in
@@ -65,7 +65,7 @@ module _ {T : Type 0} (run : Run Leased) (line : Line T) (client : ℕ) where
         moves = moves_more over so.items (one.item ∷ []) old mid new so.moves one.moves;
         back = one.back ∙ so.back;
         goes =
-            subst (λ (all : List Act). Goes run all old new) (sym (map_append (line.takes client) so.items (one.item ∷ [])))
+            subst (λ (all : List IntakeAct). Goes run all old new) (sym (map_append (line.takes client) so.items (one.item ∷ [])))
             (goes_more run acts (line.takes client one.item ∷ []) old mid new so.goes one.goes);
       }
 
@@ -75,7 +75,7 @@ module _ {T : Type 0} (run : Run Leased) (line : Line T) (client : ℕ) where
 
   unfoldable pub stopped : ((p : Lines) (xs ys : List (Incoming T Key)) → line.with_ends (line.with_ends p xs) ys ≡ line.with_ends p ys)
       → (old mid new : PlainIntake) (count : ℕ) (stop : Stop) → count ≤ MAX_TAKEN → SoFar run line client old count mid
-      → ((later : Run Leased) → Stands later mid → TakesNext later line client mid (nexts.Stopped stop) new)
+      → ((later : AgentRun Leased) → Stands later mid → TakesNext later line client mid (nexts.Stopped stop) new)
       → TakesMany run line client old (record { count = count; stop = stop }) new
   stopped over old mid new count Empty few so next =
       let (same, dry) = next (life run (map (line.takes client) so.items)) so.goes.stands in

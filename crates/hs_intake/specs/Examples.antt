@@ -19,7 +19,7 @@ use Rattle.hs_law_agent.specs.Stepping.{Given, Missed}
 use Rattle.hs_law_agent.specs.Lives.{is_settled}
 use Rattle.hs_law_agent.specs.State.{start}
 use Rattle.hs_records.specs.Plain.{PlainSettings}
-use Rattle.hs_agent.specs.Runs.{Run, new_run, state_of, offered_next}
+use Rattle.hs_agent.specs.Runs.{AgentRun, new_run, state_of, offered_next}
 use Rattle.hs_mail.specs.Letters.{Letters, Causes, after}
 use Rattle.hs_intake.specs.Intakes.{Chunk, TakesChunk, Turns, LetsGo, Forgets, says, SaysIt, claim_by, notes_from, acts_in, told_in, limit_of, limited_in, life, TakesTrigger}
 use Rattle.hs_intake.specs.Taking.{Receives}
@@ -46,7 +46,7 @@ noted : (told : Told) (page : PlainReported) (standing : Standing)
 noted told page standing = refl
 
 -- A chunk at the front is taken by one act, which tells nothing, nor does a turn.
-a_chunk_waits : (run : Run Leased) (buffer : Buffer Leased) → (acts_in (Some (Chunk 3 buffer)) ≡ TakesChunk 3 buffer ∷ []) × (told_in run (TakesChunk 3 buffer ∷ Turns ∷ []) ≡ [])
+a_chunk_waits : (run : AgentRun Leased) (buffer : Buffer Leased) → (acts_in (Some (Chunk 3 buffer)) ≡ TakesChunk 3 buffer ∷ []) × (told_in run (TakesChunk 3 buffer ∷ Turns ∷ []) ≡ [])
 a_chunk_waits run buffer = (refl, refl)
 
 -- Id 1 has a burst of one, and no token comes back. So the first of two triggers is admitted, and the second is not. A third of id 2 is.
@@ -63,7 +63,7 @@ one_finds_no_token : (limited_in (new_run two_ids 0) 3 (fired_at 5 1 7 ∷ fired
 one_finds_no_token = (refl, refl)
 
 -- Before the last of 2 ^ 32 - 1 numbers is given one of two triggers is admitted. Then none is left, and two more change nothing.
-abbrev at : ℕ → PlainSettings → Run Leased
+abbrev at : ℕ → PlainSettings → AgentRun Leased
 at admitted settings = record (new_run settings 0) { start = record (start settings) { admitted = admitted } }
 
 one_is_left : limited_in (at 4294967294 two_ids) 3 (fired_at 5 1 7 ∷ fired_at 6 2 8 ∷ []) ≡ 1
@@ -81,7 +81,7 @@ fives =
       lease = record { pool = 3 ∷ []; buffer = 5; draw = 8; mark = 9 };
     }
 
-abbrev one_reported : Run Leased
+abbrev one_reported : AgentRun Leased
 one_reported = record (new_run (settings_with 4 8 4 one_rule) 0) { events = trigger 1 1 1 [] ∷ chunk 1 0 ∷ turned ∷ []; buffers = fives ∷ [] }
 
 -- Its page is said with the group of the trigger, by the client's number and the mark.

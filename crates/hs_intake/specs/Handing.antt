@@ -16,8 +16,8 @@ use Rattle.hs_law_agent.specs.Standings.{ChunkStanding, Indexed, Pinned, Reporte
 use Rattle.hs_law_agent.specs.Stepping.{Answered}
 use Rattle.hs_law_agent.specs.Stepping as model
 use Rattle.hs_agent.specs.Leaving.{standing_of, came_back}
-use Rattle.hs_agent.specs.Runs.{Run, state_of, first_place, offered_next, IsSpent}
-use Rattle.hs_intake.specs.declared.took.Parted.{Parted}
+use Rattle.hs_agent.specs.Runs.{AgentRun, state_of, first_place, offered_next, IsSpent}
+use Rattle.hs_intake.specs.declared.took.PartedChunk.{PartedChunk}
 use Rattle.hs_intake.specs.declared.took.Handed.{Handed}
 use Rattle.hs_intake.specs.declared.took.Handed.TheVariants as handed
 use Rattle.hs_intake.specs.declared.took.Say.{Say}
@@ -27,11 +27,11 @@ use Rattle.hs_intake.specs.Intakes.{PlainIntake, LetsGo, after_act, Stands}
 -- ---- the first of the hand
 
 -- as it was taken
-abbrev pub first_taken : Run Leased → Option Taken
+abbrev pub first_taken : AgentRun Leased → Option Taken
 first_taken run = option_and_then (λ place. slice_get (state_of run).taken place) (first_place (state_of run))
 
 -- whether it was offered before, and came back
-abbrev pub was_offered : Run Leased → Bool
+abbrev pub was_offered : AgentRun Leased → Bool
 was_offered run = came_back (state_of run).log
 
 -- the page of a chunk that was reported for a group, and whose client numbered its core so
@@ -47,7 +47,7 @@ page_if (Evicted chunks traces) core sheet = None
 page_if (Abandoned group) core sheet = None
 
 -- what is reported of the first of the hand: its core has the number with which its lease was drawn
-abbrev pub first_page : Run Leased → Option PlainReported
+abbrev pub first_page : AgentRun Leased → Option PlainReported
 first_page run =
     option_and_then (λ (taken : Taken). option_and_then (λ (buffer : Buffer Leased). page_if taken.standing buffer.lease.mark taken.sheet) (offered_next run))
     (first_taken run)
@@ -55,7 +55,7 @@ first_page run =
 -- ---- what is said of it
 
 -- So it left: by what its page says of itself, and its core has the number with which its lease was drawn.
-pub record IsParted (run : Run Leased) (parted : Parted) : Type 0 where
+pub record IsParted (run : AgentRun Leased) (parted : PartedChunk) : Type 0 where
   pub taken : Taken
   pub first : first_taken run ≡ Some taken
   pub trace : parted.trace ≡ taken.sheet.header.trace
@@ -89,12 +89,12 @@ PostsPage (Some page) old None new =
 PostsPage (Some page) old (Some fault) new = (may_wait fault ≡ false) × Posts old.mail (SaysReported page) (Err fault) new.mail × (new.claims ≡ old.claims)
 
 -- At the first offer it is said why it left; at a later one nothing.
-abbrev pub SaysIf : Run Leased → Word → Option Parted → Word → Type 0
+abbrev pub SaysIf : AgentRun Leased → Word → Option PartedChunk → Word → Type 0
 SaysIf run old None new = (was_offered run ≡ true) × (new ≡ old)
 SaysIf run old (Some parted) new = (was_offered run ≡ false) × (IsParted run parted × PostsPage (first_page run) old parted.unposted new)
 
 -- It was not offered before, and its page cannot be posted now.
-pub record Waits (run : Run Leased) (mail : Letters) (fault : Unposted) : Type 0 where
+pub record Waits (run : AgentRun Leased) (mail : Letters) (fault : Unposted) : Type 0 where
   pub fresh : was_offered run ≡ false
   pub page : PlainReported
   pub first : first_page run ≡ Some page
@@ -102,14 +102,14 @@ pub record Waits (run : Run Leased) (mail : Letters) (fault : Unposted) : Type 0
   pub unposted : Posts mail (SaysReported page) (Err fault) mail
 
 -- what is said where the page of a reported chunk was posted or not
-abbrev pub say_by : Parted → Result ℕ Unposted → Say
+abbrev pub say_by : PartedChunk → Result ℕ Unposted → Say
 say_by parted (Ok number) = says.Parted parted
 say_by parted (Err Full) = says.Waits Full
 say_by parted (Err TooLong) = says.Parted (record parted { unposted = Some TooLong })
 say_by parted (Err NoSpelling) = says.Parted (record parted { unposted = Some NoSpelling })
 say_by parted (Err Ended) = says.Waits Ended
 
-abbrev pub SaysFirst : Run Leased → Word → Say → Word → Type 0
+abbrev pub SaysFirst : AgentRun Leased → Word → Say → Word → Type 0
 SaysFirst run old says.Nothing new = (new ≡ old) × ((state_of run).hand ≡ [])
 SaysFirst run old says.Again new = IsSome (first_place (state_of run)) × SaysIf run old None new
 SaysFirst run old (says.Waits fault) new = (new ≡ old) × Waits run old.mail fault
@@ -131,7 +131,7 @@ Returns old buffer (model.Missed stamp) back new =
 Returns old buffer model.Unread back new = (back ≡ Some buffer) × (new ≡ after_turn old unread old.floor)
 
 -- The first of the hand was offered to the pool.
-pub record Offers (run : Run Leased) (old : PlainIntake) (was_given : Bool) (new : PlainIntake) : Type 0 where
+pub record Offers (run : AgentRun Leased) (old : PlainIntake) (was_given : Bool) (new : PlainIntake) : Type 0 where
   pub buffer : Buffer Leased
   pub first : offered_next run ≡ Some buffer
   pub answer : Answered
@@ -141,22 +141,22 @@ pub record Offers (run : Run Leased) (old : PlainIntake) (was_given : Bool) (new
   pub stands : Stands (after_act run (LetsGo answer back)) new
 
 -- It was, or memory was wanting.
-abbrev pub GivesFirst : Run Leased → PlainIntake → Option Bool → PlainIntake → Type 0
+abbrev pub GivesFirst : AgentRun Leased → PlainIntake → Option Bool → PlainIntake → Type 0
 GivesFirst run old None new = (new ≡ record old { agent = new.agent }) × IsSpent new.agent
 GivesFirst run old (Some was_given) new = (new ≡ record old { agent = new.agent; port = record old.port { giver = new.port.giver } }) × Offers run old was_given new
 
 -- ---- the whole call
 
-abbrev pub HandsOut : Run Leased → PlainIntake → Handed → PlainIntake → Type 0
+abbrev pub HandsOut : AgentRun Leased → PlainIntake → Handed → PlainIntake → Type 0
 HandsOut run old handed.Empty new = (new ≡ old) × ((state_of run).hand ≡ [])
 HandsOut run old (handed.Waits fault) new = (new ≡ old) × Waits run old.mail fault
 HandsOut run old (handed.Offered parted was_given) new =
     (new ≡ record old { agent = new.agent; port = record old.port { giver = new.port.giver }; mail = new.mail; claims = new.claims })
     × (SaysIf run (word_of old) parted (word_of new) × Offers run old was_given new)
 HandsOut run old handed.Spent new =
-    (new ≡ record old { agent = new.agent; mail = new.mail; claims = new.claims }) × (IsSpent new.agent × ((parted : Option Parted) × SaysIf run (word_of old) parted (word_of new)))
+    (new ≡ record old { agent = new.agent; mail = new.mail; claims = new.claims }) × (IsSpent new.agent × ((parted : Option PartedChunk) × SaysIf run (word_of old) parted (word_of new)))
 
 -- what the call answers
-abbrev pub handed_by : Option Parted → Option Bool → Handed
+abbrev pub handed_by : Option PartedChunk → Option Bool → Handed
 handed_by parted None = handed.Spent
 handed_by parted (Some was_given) = handed.Offered parted was_given

@@ -2,7 +2,7 @@
 use Rattle.std.specs.Prelude.{◌≡◌, false, length, option_map}
 use Rattle.hs_ring.specs.Parts.{Leased}
 use Rattle.hs_words.specs.Buffers.{buffer_of}
-use Rattle.hs_agent.specs.Runs.{Run}
+use Rattle.hs_agent.specs.Runs.{AgentRun}
 use Rattle.hs_intake.specs.declared.took.Back.{Back}
 use Rattle.hs_intake.specs.declared.took.Back.TheVariants as backs
 use Rattle.hs_intake.specs.declared.intake.Intake.TheInside.{Inside}
@@ -22,4 +22,4 @@ pub record IsIntake (d : Inside) : Type 0 where
   pub crumbs : length d.port.crumbs ≡ d.clients
   pub triggers : length d.port.triggers ≡ d.clients
   pub late : length d.late.items ≡ d.clients
-  pub stands : d.agent.spent ≡ false → (run : Run Leased) × Stands run (intake_in d)
+  pub stands : d.agent.spent ≡ false → (run : AgentRun Leased) × Stands run (intake_in d)

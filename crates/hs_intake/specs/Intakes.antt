@@ -23,10 +23,10 @@ use Rattle.hs_claimed.specs.Claims.{PlainClaims}
 use Rattle.hs_claimed.specs.Lives as claimed
 use Rattle.hs_law_agent.specs.Stepping.{Answered, Gave, Crumbed, Triggered, Asked, told_by}
 use Rattle.hs_agent.specs.Keeping.{PlainAgent}
-use Rattle.hs_agent.specs.Runs.{Run, state_of, Follows, IsChunkFor, after_chunk, after_turn, after_offer, with_back, forgetting}
+use Rattle.hs_agent.specs.Runs.{AgentRun, state_of, Follows, IsChunkFor, after_chunk, after_turn, after_offer, with_back, forgetting}
 use Rattle.hs_agent.specs.Tries.{after_crumb, after_trigger, after_ask}
 use Rattle.hs_inbox.specs.Delivering.{PlainInbox}
-use Rattle.hs_mail.specs.Letters.{Letters, Deed, Says, Causes, after}
+use Rattle.hs_mail.specs.Letters.{Letters, MailDeed, Says, Causes, after}
 use Rattle.hs_mail.specs.Lives as mail
 
 -- what came, and found no memory
@@ -57,23 +57,23 @@ new_intake agent port late mail inbox claims clients = record { agent = agent; p
 -- ---- what the agent takes
 
 -- one act of the agent
-pub data Act : Type 0 where
-  TakesChunk : (client : ℕ) (buffer : Buffer Leased) → Act
-  TakesCrumb : (client : ℕ) (crumb : Crumb) → Act
-  TakesTrigger : (client : ℕ) (trigger : Trigger) → Act
-  TakesAsk : (ask : Ask) → Act
-  Turns : Act
+pub data IntakeAct : Type 0 where
+  TakesChunk : (client : ℕ) (buffer : Buffer Leased) → IntakeAct
+  TakesCrumb : (client : ℕ) (crumb : Crumb) → IntakeAct
+  TakesTrigger : (client : ℕ) (trigger : Trigger) → IntakeAct
+  TakesAsk : (ask : Ask) → IntakeAct
+  Turns : IntakeAct
   -- the pool answers so to the chunk in front, and gives it back where it did not take it
-  LetsGo : (answer : Answered) (back : Option (Buffer Leased)) → Act
+  LetsGo : (answer : Answered) (back : Option (Buffer Leased)) → IntakeAct
   -- a group is forgotten
-  Forgets : (group : Group) → Act
+  Forgets : (group : Group) → IntakeAct
 
 -- whether a number is left for one more trigger that is admitted
-abbrev pub has_left : Run Leased → Bool
+abbrev pub has_left : AgentRun Leased → Bool
 has_left run = nat_lt ((state_of run).admitted + 1) (2 ^ 32)
 
 -- The run after an act. A trigger for which no number is left leaves the run as it is.
-abbrev pub after_act : Run Leased → Act → Run Leased
+abbrev pub after_act : AgentRun Leased → IntakeAct → AgentRun Leased
 after_act run (TakesChunk client buffer) = after_chunk run client buffer
 after_act run (TakesCrumb client crumb) = after_crumb run client crumb
 after_act run (TakesTrigger client trigger) = if has_left run then after_trigger run client trigger else run
@@ -84,15 +84,15 @@ after_act run (LetsGo answer back) =
 after_act run (Forgets group) = forgetting group run
 
 -- the run after these acts
-abbrev pub life : Run Leased → List Act → Run Leased
+abbrev pub life : AgentRun Leased → List IntakeAct → AgentRun Leased
 life = fold after_act
 
 -- what a trigger makes the agent tell
-abbrev pub told_on : Run Leased → ℕ → Trigger → Option Told
+abbrev pub told_on : AgentRun Leased → ℕ → Trigger → Option Told
 told_on run client trigger = if has_left run then told_by run.settings run.node (state_of run) (Triggered client trigger) else None
 
 -- what an act tells
-abbrev pub told_at : Run Leased → Act → List Told
+abbrev pub told_at : AgentRun Leased → IntakeAct → List Told
 told_at run (TakesChunk client buffer) = []
 told_at run (TakesCrumb client crumb) = option_to_list (told_by run.settings run.node (state_of run) (Crumbed client crumb))
 told_at run (TakesTrigger client trigger) = option_to_list (told_on run client trigger)
@@ -102,16 +102,16 @@ told_at run (LetsGo answer back) = []
 told_at run (Forgets group) = []
 
 -- and what these acts tell, one after another
-abbrev pub told_in : Run Leased → List Act → List Told
+abbrev pub told_in : AgentRun Leased → List IntakeAct → List Told
 told_in run [] = []
 told_in run (act ∷ acts) = told_at run act ++ told_in (after_act run act) acts
 
 -- one, if a trigger that comes now admits no group
-abbrev pub limit_of : Run Leased → ℕ → Trigger → ℕ
+abbrev pub limit_of : AgentRun Leased → ℕ → Trigger → ℕ
 limit_of run client trigger = if is_some (told_on run client trigger) then 0 else 1
 
 -- how many of these triggers of a client admit no group
-abbrev pub limited_in : Run Leased → ℕ → List Trigger → ℕ
+abbrev pub limited_in : AgentRun Leased → ℕ → List Trigger → ℕ
 limited_in run client [] = 0
 limited_in run client (trigger ∷ triggers) = limit_of run client trigger + limited_in (after_act run (TakesTrigger client trigger)) client triggers
 
@@ -145,7 +145,7 @@ MayWaitIf settings node giver None = Unit {0}
 MayWaitIf settings node giver (Some waiting) = MayWait settings node giver waiting
 
 -- Between two calls the intake stands at this run of its agent.
-pub record Stands (run : Run Leased) (d : PlainIntake) : Type 0 where
+pub record Stands (run : AgentRun Leased) (d : PlainIntake) : Type 0 where
   pub follows : Follows d.agent run
   pub offered : run.offered ≡ None
   pub size : d.port.giver.size ≡ run.settings.size
@@ -160,20 +160,20 @@ pub record Stands (run : Run Leased) (d : PlainIntake) : Type 0 where
 -- ---- what is claimed
 
 -- the claims after these deeds, one after another
-abbrev pub claims_life : PlainClaims → List claimed.Deed → PlainClaims
+abbrev pub claims_life : PlainClaims → List claimed.ClaimDeed → PlainClaims
 claims_life = fold claimed.after
 
 -- a group that fired or answered claims its lead and its laterals
-abbrev pub claim_for : Why → Told → Option claimed.Deed
+abbrev pub claim_for : Why → Told → Option claimed.ClaimDeed
 claim_for Fired told = Some (claimed.Claims told.group told.laterals)
 claim_for Answer told = Some (claimed.Claims told.group told.laterals)
 claim_for Late told = None
 
-abbrev pub claim_by : Told → Option claimed.Deed
+abbrev pub claim_by : Told → Option claimed.ClaimDeed
 claim_by told = claim_for told.why told
 
 -- what is noted of a message with this number: that it speaks of its group, and which nodes it names
-abbrev pub note_of : ℕ → Said → Option claimed.Deed
+abbrev pub note_of : ℕ → Said → Option claimed.ClaimDeed
 note_of number (SaysHello hello) = None
 note_of number (SaysTold told) = Some (claimed.Names told.group.id told.crumbs number)
 note_of number (SaysAsk ask) = None
@@ -181,11 +181,11 @@ note_of number (SaysReported reported) = Some (claimed.Speaks reported.group.id 
 note_of number (SaysStanding standing) = Some (claimed.Says standing number)
 
 -- and of messages with the numbers from this one on
-abbrev pub notes_from : ℕ → List Said → List claimed.Deed
+abbrev pub notes_from : ℕ → List Said → List claimed.ClaimDeed
 notes_from number [] = []
 notes_from number (said ∷ later) = option_to_list (note_of number said) ++ notes_from (number + 1) later
 
-abbrev pub is_claim : claimed.Deed → Bool
+abbrev pub is_claim : claimed.ClaimDeed → Bool
 is_claim (claimed.Claims group laterals) = true
 is_claim (claimed.Speaks group number) = false
 is_claim (claimed.Names group nodes number) = false
@@ -193,7 +193,7 @@ is_claim (claimed.Says standing number) = false
 is_claim claimed.LooksOn = false
 is_claim claimed.Forgets = false
 
-abbrev pub is_note : claimed.Deed → Bool
+abbrev pub is_note : claimed.ClaimDeed → Bool
 is_note (claimed.Claims group laterals) = false
 is_note (claimed.Speaks group number) = true
 is_note (claimed.Names group nodes number) = true
@@ -206,13 +206,13 @@ abbrev pub HasRoom : PlainClaims → Type 0
 HasRoom claims = length claims.claims + (MAX_LATERALS + 1) ≤ claims.most
 
 -- Each claim of these deeds has room when it is made.
-abbrev pub HaveRoom : PlainClaims → List claimed.Deed → Type 0
+abbrev pub HaveRoom : PlainClaims → List claimed.ClaimDeed → Type 0
 HaveRoom claims [] = Unit {0}
 HaveRoom claims (deed ∷ deeds) = (is_claim deed ≡ true → HasRoom claims) × HaveRoom (claimed.after claims deed) deeds
 
 -- The claims of what was told are made where each has room, and what was said is noted with the numbers from this one on.
 pub record ClaimsBy (old : PlainClaims) (told : List Told) (number : ℕ) (said : List Said) (new : PlainClaims) : Type 0 where
-  pub deeds : List claimed.Deed
+  pub deeds : List claimed.ClaimDeed
   pub claims : new ≡ claims_life old deeds
   pub made : filter is_claim deeds ≡ filter_map claim_by told
   pub noted : filter is_note deeds ≡ notes_from number said
@@ -220,7 +220,7 @@ pub record ClaimsBy (old : PlainClaims) (told : List Told) (number : ℕ) (said 
 
 -- ---- what is told
 
-abbrev pub says : Told → Deed
+abbrev pub says : Told → MailDeed
 says told = Says (SaysTold told)
 
 -- Each of these is put into the outbox where it is said: it is a post that is answered with its number.
@@ -247,7 +247,7 @@ pub record SaysIt (old : Letters) (claims : PlainClaims) (told : Option Told) (n
   pub noted : claims' ≡ claims_life claims (notes_from old.fresh (map SaysTold said))
 
 -- The agent's run goes on by these acts, and what they tell is said.
-pub record Goes (run : Run Leased) (acts : List Act) (old new : PlainIntake) : Type 0 where
+pub record Goes (run : AgentRun Leased) (acts : List IntakeAct) (old new : PlainIntake) : Type 0 where
   pub stands : Stands (life run acts) new
   pub tells : Tells old (told_in run acts) new
 
@@ -265,7 +265,7 @@ lines_of d = record { port = d.port; late = d.late }
 pub record Line (T : Type 0) : Type 0 where
   pub ends : Lines → List (Incoming T Key)
   pub with_ends : Lines → List (Incoming T Key) → Lines
-  pub takes : ℕ → T → Act
+  pub takes : ℕ → T → IntakeAct
   pub waits : ℕ → T → Waiting
 
 abbrev pub chunk_line : Line (Buffer Leased)
@@ -284,7 +284,7 @@ trigger_line = record { ends = λ lines. lines.port.triggers; with_ends = λ lin
 -- ---- the front
 
 -- the act by which what waits is taken
-abbrev pub acts_in : Option Waiting → List Act
+abbrev pub acts_in : Option Waiting → List IntakeAct
 acts_in None = []
 acts_in (Some (Chunk client buffer)) = TakesChunk client buffer ∷ []
 acts_in (Some (Crumbs client crumb)) = TakesCrumb client crumb ∷ []

@@ -16,7 +16,7 @@ use Rattle.hs_link.specs.Contents.{Incoming, IsSameReceiver, IsBeginning}
 use Rattle.hs_live.specs.Keys.{Key}
 use Rattle.hs_live.specs.Live.{IsEnd}
 use Rattle.hs_law_agent.specs.Lives.{is_settled}
-use Rattle.hs_agent.specs.Runs.{Run, state_of, IsSpent}
+use Rattle.hs_agent.specs.Runs.{AgentRun, state_of, IsSpent}
 use Rattle.hs_intake.specs.declared.took.Fired.{Fired}
 use Rattle.hs_intake.specs.declared.took.Fired.TheVariants as fired
 use Rattle.hs_intake.specs.declared.took.Next.{Next}
@@ -62,20 +62,20 @@ IsShort d = d.claims.most < length d.claims.claims + (MAX_LATERALS + 1)
 -- ---- the next item
 
 -- The next item came, and the agent took it.
-pub record TakesOne {T : Type 0} (run : Run Leased) (line : Line T) (client : ℕ) (old new : PlainIntake) : Type 0 where
+pub record TakesOne {T : Type 0} (run : AgentRun Leased) (line : Line T) (client : ℕ) (old new : PlainIntake) : Type 0 where
   pub item : T
   pub moves : Moves line client (item ∷ []) old new
   pub back : new.back ≡ old.back
   pub goes : Goes run (line.takes client item ∷ []) old new
 
 -- The next item came, and waits at the front. Nothing else changed.
-pub record HoldsOne {T : Type 0} (run : Run Leased) (line : Line T) (client : ℕ) (old new : PlainIntake) : Type 0 where
+pub record HoldsOne {T : Type 0} (run : AgentRun Leased) (line : Line T) (client : ℕ) (old new : PlainIntake) : Type 0 where
   pub item : T
   pub moves : Moves line client (item ∷ []) old new
   pub only : new ≡ record old { port = new.port; late = new.late; back = Some (line.waits client item) }
   pub stands : Stands run new
 
-abbrev pub TakesNext : {T : Type 0} → Run Leased → Line T → ℕ → PlainIntake → Next → PlainIntake → Type 0
+abbrev pub TakesNext : {T : Type 0} → AgentRun Leased → Line T → ℕ → PlainIntake → Next → PlainIntake → Type 0
 TakesNext run line client old nexts.Taken new = TakesOne run line client old new
 TakesNext run line client old (nexts.Stopped Empty) new = (new ≡ old) × IsDry client (line.ends (lines_of old))
 TakesNext run line client old (nexts.Stopped Memory) new = HoldsOne run line client old new
@@ -94,7 +94,7 @@ StopsBy line client items old Words new = Moves line client items old new × (ne
 StopsBy line client items old Claims new = Moves line client items old new × (new.back ≡ old.back) × IsShort new
 
 -- The first items of a line came, and the agent took them, all or as many as a pass takes.
-pub record TakesMany {T : Type 0} (run : Run Leased) (line : Line T) (client : ℕ) (old : PlainIntake) (took : Took) (new : PlainIntake) : Type 0 where
+pub record TakesMany {T : Type 0} (run : AgentRun Leased) (line : Line T) (client : ℕ) (old : PlainIntake) (took : Took) (new : PlainIntake) : Type 0 where
   pub items : List T
   pub count : length items ≡ took.count
   pub few : length items ≤ MAX_TAKEN
@@ -102,7 +102,7 @@ pub record TakesMany {T : Type 0} (run : Run Leased) (line : Line T) (client : �
   pub stops : StopsBy line client items old took.stop new
 
 -- The same of any number of a client, whatever waits at the front.
-abbrev pub TakesLine : {T : Type 0} → Run Leased → Line T → ℕ → PlainIntake → Took → PlainIntake → Type 0
+abbrev pub TakesLine : {T : Type 0} → AgentRun Leased → Line T → ℕ → PlainIntake → Took → PlainIntake → Type 0
 TakesLine run line client old took new =
     ((old.clients ≤ client) × ((took ≡ record { count = 0; stop = Empty }) × (new ≡ old)))
     ⊎ (((client < old.clients) × (IsSome old.back × ((took ≡ record { count = 0; stop = Memory }) × (new ≡ old))))
@@ -111,16 +111,16 @@ TakesLine run line client old took new =
 -- ---- triggers
 
 -- The next trigger, and whether it told anything if it was taken.
-abbrev pub TakesFired : Run Leased → ℕ → PlainIntake → Fired → PlainIntake → Type 0
+abbrev pub TakesFired : AgentRun Leased → ℕ → PlainIntake → Fired → PlainIntake → Type 0
 TakesFired run client old (fired.Taken tells) new = (one : TakesOne run trigger_line client old new) × (tells ≡ is_some (told_on run client one.item))
 TakesFired run client old (fired.Stopped stop) new = TakesNext run trigger_line client old (nexts.Stopped stop) new
 
 -- The first triggers came, and so many of them admitted no group.
-abbrev pub TakesMost : Run Leased → ℕ → PlainIntake → TookTriggers → PlainIntake → Type 0
+abbrev pub TakesMost : AgentRun Leased → ℕ → PlainIntake → TookTriggers → PlainIntake → Type 0
 TakesMost run client old took new = (many : TakesMany run trigger_line client old took.took new) × (took.limited ≡ limited_in run client many.items)
 
 -- The next trigger left its link, or none had come. Nothing else changed.
-abbrev pub DropsOne : Run Leased → ℕ → PlainIntake → Bool → PlainIntake → Type 0
+abbrev pub DropsOne : AgentRun Leased → ℕ → PlainIntake → Bool → PlainIntake → Type 0
 DropsOne run client old true new = (item : Trigger) × Moves trigger_line client (item ∷ []) old new × (new ≡ record old { port = new.port }) × Stands run new
 DropsOne run client old false new = (new ≡ old) × IsDry client old.port.triggers
 
@@ -133,7 +133,7 @@ DropsStop items client new Words = ⊥
 DropsStop items client new Claims = ⊥
 
 -- The first triggers left their link, and the agent did not see them.
-pub record DropsMany (run : Run Leased) (client : ℕ) (old : PlainIntake) (took : TookTriggers) (new : PlainIntake) : Type 0 where
+pub record DropsMany (run : AgentRun Leased) (client : ℕ) (old : PlainIntake) (took : TookTriggers) (new : PlainIntake) : Type 0 where
   pub items : List Trigger
   pub count : length items ≡ took.took.count
   pub few : length items ≤ MAX_TAKEN
@@ -144,11 +144,11 @@ pub record DropsMany (run : Run Leased) (client : ℕ) (old : PlainIntake) (took
   pub stops : DropsStop items client new took.took.stop
 
 -- They are taken while one more group has a place for each of its traces; where it has none they leave.
-abbrev pub TakesOrDrops : Run Leased → ℕ → PlainIntake → TookTriggers → PlainIntake → Type 0
+abbrev pub TakesOrDrops : AgentRun Leased → ℕ → PlainIntake → TookTriggers → PlainIntake → Type 0
 TakesOrDrops run client old took new = (HasRoom old.claims × TakesMost run client old took new) ⊎ (IsShort old × DropsMany run client old took new)
 
 -- The same of any number of a client, whatever waits at the front.
-abbrev pub TakesTriggers : Run Leased → ℕ → PlainIntake → TookTriggers → PlainIntake → Type 0
+abbrev pub TakesTriggers : AgentRun Leased → ℕ → PlainIntake → TookTriggers → PlainIntake → Type 0
 TakesTriggers run client old took new =
     ((old.clients ≤ client) × ((took ≡ record { took = record { count = 0; stop = Empty }; limited = 0 }) × (new ≡ old)))
     ⊎ (((client < old.clients) × (IsSome old.back × ((took ≡ record { took = record { count = 0; stop = Memory }; limited = 0 }) × (new ≡ old))))
@@ -157,14 +157,14 @@ TakesTriggers run client old took new =
 -- ---- asks
 
 -- One ask of the inbox is taken, or none: the first waited, and the agent took it.
-pub record TakesFirst (run : Run Leased) (old new : PlainIntake) : Type 0 where
+pub record TakesFirst (run : AgentRun Leased) (old new : PlainIntake) : Type 0 where
   pub ask : Ask
   pub rest : List Ask
   pub waited : old.inbox.asks ≡ ask ∷ rest
   pub only : new ≡ record old { agent = new.agent; mail = new.mail; claims = new.claims; unsaid = new.unsaid; inbox = record old.inbox { asks = rest } }
   pub goes : Goes run (acts.TakesAsk ask ∷ []) old new
 
-abbrev pub TakesAsk : Run Leased → PlainIntake → Next → PlainIntake → Type 0
+abbrev pub TakesAsk : AgentRun Leased → PlainIntake → Next → PlainIntake → Type 0
 TakesAsk run old nexts.Taken new = TakesFirst run old new
 TakesAsk run old (nexts.Stopped Empty) new = (new ≡ old) × (old.inbox.asks ≡ [])
 TakesAsk run old (nexts.Stopped Memory) new = (new ≡ old) × (0 < length old.inbox.asks)
@@ -181,7 +181,7 @@ AsksStop count new Words = IsMute new
 AsksStop count new Claims = IsShort new
 
 -- The first asks that waited were taken, all or as many as a pass takes.
-pub record TakesAsks (run : Run Leased) (old : PlainIntake) (took : Took) (new : PlainIntake) : Type 0 where
+pub record TakesAsks (run : AgentRun Leased) (old : PlainIntake) (took : Took) (new : PlainIntake) : Type 0 where
   pub asks : List Ask
   pub rest : List Ask
   pub waited : old.inbox.asks ≡ asks ++ rest
@@ -194,17 +194,17 @@ pub record TakesAsks (run : Run Leased) (old : PlainIntake) (took : Took) (new :
 -- ---- the front
 
 -- What waited at the front was taken, if anything did; or it waits on, and nothing changed.
-abbrev pub TakesBack : Run Leased → PlainIntake → Bool → PlainIntake → Type 0
+abbrev pub TakesBack : AgentRun Leased → PlainIntake → Bool → PlainIntake → Type 0
 TakesBack run old true new = (new.back ≡ None) × ((lines_of new ≡ lines_of old) × ((new.clients ≡ old.clients) × Goes run (acts_in old.back) old new))
 TakesBack run old false new = IsSome old.back × (new ≡ old)
 
 -- ---- a turn
 
 -- each chunk that is pinned has a place for its page
-abbrev pub HavePlaces : Run Leased → PlainIntake → Type 0
+abbrev pub HavePlaces : AgentRun Leased → PlainIntake → Type 0
 HavePlaces run d = length (state_of run).pinned + length d.mail.pages.pending ≤ d.mail.pages.places
 
-abbrev pub MakesTurn : Run Leased → PlainIntake → Turned → PlainIntake → Type 0
+abbrev pub MakesTurn : AgentRun Leased → PlainIntake → Turned → PlainIntake → Type 0
 MakesTurn run old Done new = HavePlaces run old × ((new ≡ record old { agent = new.agent }) × Goes run (Turns ∷ []) old new)
 MakesTurn run old Full new = (HavePlaces run old → ⊥) × (new ≡ old)
 MakesTurn run old Spent new = HavePlaces run old × ((new ≡ record old { agent = new.agent }) × IsSpent new.agent)
@@ -218,15 +218,15 @@ is_heard_by (Some last) None = true
 is_heard_by (Some last) (Some oldest) = nat_lt last oldest
 
 -- nothing waits to be said, and no chunk is in the hand
-abbrev pub is_idle_in : Run Leased → PlainIntake → Bool
+abbrev pub is_idle_in : AgentRun Leased → PlainIntake → Bool
 is_idle_in run d = is_none d.unsaid && (length (state_of run).hand == 0)
 
 -- The group may be forgotten: nothing is under way, all that speaks of it is acknowledged, and no chunk is pinned for it.
-abbrev pub is_due : Run Leased → PlainIntake → Claimant → Bool
+abbrev pub is_due : AgentRun Leased → PlainIntake → Claimant → Bool
 is_due run d one = (is_idle_in run d && is_heard_by one.last (oldest_in d.mail)) && is_settled one.group (state_of run)
 
 -- The group that claimed first was forgotten, with its claims; or it may not be, and nothing changed.
-abbrev pub ForgetsOldest : Run Leased → PlainIntake → Bool → PlainIntake → Type 0
+abbrev pub ForgetsOldest : AgentRun Leased → PlainIntake → Bool → PlainIntake → Type 0
 ForgetsOldest run old true new =
     (one : Claimant) × (oldest old.claims ≡ Some one) × (is_due run old one ≡ true) × (new ≡ record old { agent = new.agent; claims = after_forget old.claims })
     × Stands (after_act run (Forgets one.group)) new

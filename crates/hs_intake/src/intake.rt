@@ -7,7 +7,7 @@ ghost use Rattle.hs_words.specs.Buffers.{Buffer};
 ghost use Rattle.hs_outbox.specs.Queue.{waits, has_number};
 ghost use Rattle.hs_mail.specs.Letters.{first_offered, pending_at, after, HandsOut, Acknowledges, OffersAgain, Posts};
 ghost use Rattle.hs_wire.specs.Messages.{SaysHello, plain_hello};
-ghost use Rattle.hs_agent.specs.Runs.{Run};
+ghost use Rattle.hs_agent.specs.Runs.{AgentRun};
 ghost use Rattle.hs_intake.specs.Intakes.{Stands, chunk_line, crumb_line, SaysIt, HasRoom, claims_life, claim_by, new_intake};
 ghost use Rattle.hs_intake.specs.declared.took.Next.TheVariants.{Taken};
 ghost use Rattle.hs_intake.specs.Taking.{TakesNext, TakesMany, IsMute, TakesLine, IsShort, TakesBack, MakesTurn};
@@ -23,7 +23,7 @@ use hs_agent::Agent;
 use hs_base::limits::{MAX_LATERALS, MAX_TAKEN};
 use hs_base::{Crumb, List, Told, Why};
 use hs_claimed::ClaimedTraces;
-use hs_inbox::{Delivered, Inbox};
+use hs_inbox::{AskDelivered, Inbox};
 use hs_link::Receiver;
 use hs_live::{AgentPort, ClientKey};
 use hs_mail::{Mail, Unposted};
@@ -63,7 +63,7 @@ impl Intake {
     fn take_chunk(&mut self, client: u16) -> Next
         requires low { client < self.old.clients }
         requires front { self.old.back ≡ None }
-        ensures next { (run : Run Leased) → Stands run self.old → TakesNext run chunk_line client self.old result self.new }
+        ensures next { (run : AgentRun Leased) → Stands run self.old → TakesNext run chunk_line client self.old result self.new }
         ensures clients { self.new.clients ≡ self.old.clients }
         ensures taken { result ≡ Taken → self.new.back ≡ None }
     {
@@ -83,7 +83,7 @@ impl Intake {
     fn take_chunks(&mut self, client: u16) -> Took
         requires low { client < self.old.clients }
         requires front { self.old.back ≡ None }
-        ensures takes { (run : Run Leased) → Stands run self.old → TakesMany run chunk_line client self.old result self.new }
+        ensures takes { (run : AgentRun Leased) → Stands run self.old → TakesMany run chunk_line client self.old result self.new }
         ensures clients { self.new.clients ≡ self.old.clients }
     {
         for count in 0..MAX_TAKEN {
@@ -117,7 +117,7 @@ impl Intake {
     fn take_crumb(&mut self, client: u16) -> Next
         requires low { client < self.old.clients }
         requires front { self.old.back ≡ None }
-        ensures next { (run : Run Leased) → Stands run self.old → TakesNext run crumb_line client self.old result self.new }
+        ensures next { (run : AgentRun Leased) → Stands run self.old → TakesNext run crumb_line client self.old result self.new }
         ensures clients { self.new.clients ≡ self.old.clients }
         ensures taken { result ≡ Taken → self.new.back ≡ None }
     {
@@ -144,7 +144,7 @@ impl Intake {
     fn take_crumbs(&mut self, client: u16) -> Took
         requires low { client < self.old.clients }
         requires front { self.old.back ≡ None }
-        ensures takes { (run : Run Leased) → Stands run self.old → TakesMany run crumb_line client self.old result self.new }
+        ensures takes { (run : AgentRun Leased) → Stands run self.old → TakesMany run crumb_line client self.old result self.new }
         ensures clients { self.new.clients ≡ self.old.clients }
     {
         for count in 0..MAX_TAKEN {
@@ -168,7 +168,7 @@ impl Intake {
         claims: ClaimedTraces,
         clients: u16,
     ) -> Intake
-        requires { (run : Run Leased) × Stands run (new_intake agent port late.items mail inbox claims clients) }
+        requires { (run : AgentRun Leased) × Stands run (new_intake agent port late.items mail inbox claims clients) }
         ensures { result ≡ new_intake agent port late.items mail inbox claims clients }
     {
         Intake {
@@ -194,7 +194,7 @@ impl Intake {
     /// The agent takes the chunks of a client that have come, at most 64. There is no more of a client that is not there, and while
     /// something waits at the front nothing is taken.
     pub fn chunks_of(&mut self, client: u16) -> Took
-        ensures { (run : Run Leased) → Stands run self.old → TakesLine run chunk_line client self.old result self.new }
+        ensures { (run : AgentRun Leased) → Stands run self.old → TakesLine run chunk_line client self.old result self.new }
     {
         if client >= self.clients {
             return Took::none(Stop::Empty);
@@ -208,7 +208,7 @@ impl Intake {
     /// The agent takes the crumbs of a client that have come, at most 64, while words have a place. There is no more of a client that is not
     /// there, and while something waits at the front nothing is taken.
     pub fn crumbs_of(&mut self, client: u16) -> Took
-        ensures { (run : Run Leased) → Stands run self.old → TakesLine run crumb_line client self.old result self.new }
+        ensures { (run : AgentRun Leased) → Stands run self.old → TakesLine run crumb_line client self.old result self.new }
     {
         if client >= self.clients {
             return Took::none(Stop::Empty);
@@ -229,7 +229,7 @@ impl Intake {
 
     /// The agent makes a fair turn, if the mail has a place for each chunk that is pinned.
     pub fn turn(&mut self) -> Turned
-        ensures { (run : Run Leased) → Stands run self.old → MakesTurn run self.old result self.new }
+        ensures { (run : AgentRun Leased) → Stands run self.old → MakesTurn run self.old result self.new }
     {
         if self.mail.free_pages() < self.agent.pinned() {
             return Turned::Full;
@@ -281,7 +281,7 @@ impl Intake {
 
     /// The agent takes what waits at the front, or it waits on. Answers whether nothing waits there now.
     pub fn take_back(&mut self) -> bool
-        ensures { (run : Run Leased) → Stands run self.old → TakesBack run self.old result self.new }
+        ensures { (run : AgentRun Leased) → Stands run self.old → TakesBack run self.old result self.new }
     {
         let is_mute = self.is_mute();
         let is_short = self.is_short();

@@ -9,4 +9,4 @@ mod took;
 pub use intake::Intake;
 pub use making::{MadeIntake, make_intake};
 pub use receiving::receive_at;
-pub use took::{Handed, Parted, Stated, Stop, Took, TookTriggers, Turned};
+pub use took::{Handed, PartedChunk, Stated, Stop, Took, TookTriggers, Turned};

@@ -14,7 +14,7 @@ use hs_inbox::Inbox;
 use hs_link::Receiver;
 use hs_mail::Mail;
 use hs_node_client::{
-    ClientLimits, Made, MakeFault, NodeClient, Segment, SegmentKey, make_clients,
+    ClientLimits, Made, MakeFault, NodeClient, SegmentKey, SegmentNote, make_clients,
 };
 use std::alloc::Global;
 
@@ -22,7 +22,7 @@ use std::alloc::Global;
 #[derive(Drop)]
 pub struct MadeIntake {
     pub intake: Intake,
-    pub segments: List<Receiver<Segment, SegmentKey>>,
+    pub segments: List<Receiver<SegmentNote, SegmentKey>>,
     pub clients: List<NodeClient>,
 }
 

@@ -83,7 +83,7 @@ pub enum Turned {
 /// A chunk that is first in the hand, at its first offer: the trace of its page, the client that wrote it, the numbers of the core and of
 /// the page, and why it left. Where it was reported, its page was posted, or this says why it cannot be.
 #[derive(Clone, Copy, Debug, PartialEq, Eq)]
-pub struct Parted {
+pub struct PartedChunk {
     pub trace: TraceId,
     pub client: u16,
     pub core: u64,
@@ -101,7 +101,7 @@ pub enum Handed {
     Waits(Unposted),
     /// It was offered to the pool, which took its buffer or did not. At the first offer there is what was said of it.
     Offered {
-        parted: Option<Parted>,
+        parted: Option<PartedChunk>,
         is_given: bool,
     },
     /// Memory was wanting, and the agent is spent.
@@ -128,7 +128,7 @@ pub(crate) enum Say {
     Again,
     /// It cannot be said now.
     Waits(Unposted),
-    Parted(Parted),
+    Parted(PartedChunk),
 }
 
 /// What became of the next item.

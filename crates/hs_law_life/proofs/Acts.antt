@@ -18,15 +18,15 @@ use Rattle.hs_law_agent.specs.Laws.{EventsAddThis, WasOver, brought_by, sheets_o
 use Rattle.hs_law_agent.specs.Lives.{EventsLeadOn, GoesOnWell, HeldByClaim, IsGood, LivesGoOnWell, forget_group, is_settled}
 use Rattle.hs_law_agent.specs.Lives as model
 use Rattle.hs_agent.specs.Points.{sheet_in}
-use Rattle.hs_agent.specs.Runs.{Run, bare_run, state_of}
+use Rattle.hs_agent.specs.Runs.{AgentRun, bare_run, state_of}
 use Rattle.hs_agent.specs.Tries.{after_trigger}
-use Rattle.hs_intake.specs.Intakes.{Act, TakesChunk, TakesCrumb, TakesTrigger, TakesAsk, Turns, LetsGo, Forgets, after_act, life, has_left}
+use Rattle.hs_intake.specs.Intakes.{IntakeAct, TakesChunk, TakesCrumb, TakesTrigger, TakesAsk, Turns, LetsGo, Forgets, after_act, life, has_left}
 use Rattle.hs_law_agent.specs.Stepping as steps
 use Rattle.hs_law_life.specs.NodeLives.{IsSettledAt, AreSettled, model_of, model_in, takings, taking_of, Taking, page_of, state_by, IsCounted, HasFate, IsFound, IsWell}
 
 -- ---- settings
 
-pub settings_kept : (run : Run Leased) (act : Act) → (after_act run act).settings ≡ run.settings
+pub settings_kept : (run : AgentRun Leased) (act : IntakeAct) → (after_act run act).settings ≡ run.settings
 settings_kept run (TakesChunk client buffer) = refl
 settings_kept run (TakesCrumb client crumb) = refl
 settings_kept run (TakesTrigger client trigger) = go (has_left run)
@@ -39,7 +39,7 @@ settings_kept run Turns = refl
 settings_kept run (LetsGo answer back) = refl
 settings_kept run (Forgets group) = refl
 
-pub node_kept : (run : Run Leased) (act : Act) → (after_act run act).node ≡ run.node
+pub node_kept : (run : AgentRun Leased) (act : IntakeAct) → (after_act run act).node ≡ run.node
 node_kept run (TakesChunk client buffer) = refl
 node_kept run (TakesCrumb client crumb) = refl
 node_kept run (TakesTrigger client trigger) = go (has_left run)
@@ -54,13 +54,13 @@ node_kept run (Forgets group) = refl
 
 -- ---- one act
 
-trigger_step : EventsLeadOn → (run : Run Leased) (client : ℕ) (trigger : Trigger) (b : Bool)
+trigger_step : EventsLeadOn → (run : AgentRun Leased) (client : ℕ) (trigger : Trigger) (b : Bool)
     → state_of (cond b (after_trigger run client trigger) run)
     ≡ model.life_from run.settings run.node (state_of run) (cond b (model.Does (Took (Triggered client trigger)) ∷ []) [])
 trigger_step on run client trigger true = on run.settings run.node run.start run.events (Took (Triggered client trigger) ∷ [])
 trigger_step on run client trigger false = refl
 
-own_step : EventsLeadOn → (run : Run Leased) (act : Act) → IsSettledAt run act → state_of (after_act run act) ≡ model.life_from run.settings run.node (state_of run) (model_of run act)
+own_step : EventsLeadOn → (run : AgentRun Leased) (act : IntakeAct) → IsSettledAt run act → state_of (after_act run act) ≡ model.life_from run.settings run.node (state_of run) (model_of run act)
 own_step on run (TakesChunk client buffer) settled = on run.settings run.node run.start run.events (Took (steps.Chunk client (sheet_in buffer)) ∷ [])
 own_step on run (TakesCrumb client crumb) settled = on run.settings run.node run.start run.events (Took (steps.Crumbed client crumb) ∷ [])
 own_step on run (TakesTrigger client trigger) settled = trigger_step on run client trigger (has_left run)
@@ -69,7 +69,7 @@ own_step on run Turns settled = on run.settings run.node run.start run.events (T
 own_step on run (LetsGo answer back) settled = on run.settings run.node run.start run.events (Gave answer ∷ [])
 own_step on run (Forgets group) settled = sym (cond-true (is_settled group (state_of run)) (forget_group group (state_of run)) (state_of run) settled)
 
-pub state_step : EventsLeadOn → (settings : PlainSettings) (node : ℕ) (run : Run Leased) (act : Act) → run.settings ≡ settings → run.node ≡ node → IsSettledAt run act
+pub state_step : EventsLeadOn → (settings : PlainSettings) (node : ℕ) (run : AgentRun Leased) (act : IntakeAct) → run.settings ≡ settings → run.node ≡ node → IsSettledAt run act
     → state_of (after_act run act) ≡ model.life_from settings node (state_of run) (model_of run act)
 state_step on settings node run act same number settled =
     own_step on run act settled
@@ -78,7 +78,7 @@ state_step on settings node run act same number settled =
 
 -- ---- any acts
 
-pub model_life : EventsLeadOn → (settings : PlainSettings) (node : ℕ) (acts : List Act) (run : Run Leased) → run.settings ≡ settings → run.node ≡ node → AreSettled run acts
+pub model_life : EventsLeadOn → (settings : PlainSettings) (node : ℕ) (acts : List IntakeAct) (run : AgentRun Leased) → run.settings ≡ settings → run.node ≡ node → AreSettled run acts
     → state_of (life run acts) ≡ model.life_from settings node (state_of run) (model_in run acts)
 model_life on settings node [] run same number settled = refl
 model_life on settings node (act ∷ acts) run same number settled =
@@ -92,12 +92,12 @@ good_life settings node well (act ∷ acts) state good = good_life settings node
 
 -- ---- pages
 
-event_pages : EventsLeadOn → EventsAddThis → (run : Run Leased) (event : AgentEvent)
+event_pages : EventsLeadOn → EventsAddThis → (run : AgentRun Leased) (event : AgentEvent)
     → sheets_of (after_from run.settings run.node run.start (run.events ++ event ∷ [])).taken ≡ sheets_of (state_of run).taken ++ brought_by event
 event_pages on add run event =
     ap (λ (s : AgentState). sheets_of s.taken) (on run.settings run.node run.start run.events (event ∷ [])) ∙ (add run.settings run.node (state_of run)).chunks event
 
-pub act_pages : EventsLeadOn → EventsAddThis → (run : Run Leased) (act : Act) → sheets_of (state_of (after_act run act)).taken ≡ sheets_of (state_of run).taken ++ map page_of (takings (act ∷ []))
+pub act_pages : EventsLeadOn → EventsAddThis → (run : AgentRun Leased) (act : IntakeAct) → sheets_of (state_of (after_act run act)).taken ≡ sheets_of (state_of run).taken ++ map page_of (takings (act ∷ []))
 act_pages on add run (TakesChunk client buffer) = event_pages on add run (Took (steps.Chunk client (sheet_in buffer)))
 act_pages on add run (TakesCrumb client crumb) = event_pages on add run (Took (steps.Crumbed client crumb))
 act_pages on add run (TakesTrigger client trigger) = go (has_left run)
@@ -110,10 +110,10 @@ act_pages on add run Turns = event_pages on add run (Took steps.Turn)
 act_pages on add run (LetsGo answer back) = event_pages on add run (Gave answer)
 act_pages on add run (Forgets group) = sym (append-nil (sheets_of (state_of run).taken))
 
-pages_more : (act : Act) (acts : List Act) → map page_of (takings (act ∷ [])) ++ map page_of (takings acts) ≡ map page_of (takings (act ∷ acts))
+pages_more : (act : IntakeAct) (acts : List IntakeAct) → map page_of (takings (act ∷ [])) ++ map page_of (takings acts) ≡ map page_of (takings (act ∷ acts))
 pages_more act acts = sym (ap (λ (l : List Taking). map page_of l) (filter_map-append taking_of (act ∷ []) acts) ∙ map_append page_of (takings (act ∷ [])) (takings acts))
 
-pub pages_taken : EventsLeadOn → EventsAddThis → (acts : List Act) (run : Run Leased) → sheets_of (state_of (life run acts)).taken ≡ sheets_of (state_of run).taken ++ map page_of (takings acts)
+pub pages_taken : EventsLeadOn → EventsAddThis → (acts : List IntakeAct) (run : AgentRun Leased) → sheets_of (state_of (life run acts)).taken ≡ sheets_of (state_of run).taken ++ map page_of (takings acts)
 pages_taken on add [] run = sym (append-nil (sheets_of (state_of run).taken))
 pages_taken on add (act ∷ acts) run =
     pages_taken on add acts (after_act run act)
@@ -153,7 +153,7 @@ module _ (settings : PlainSettings) (state : AgentState) (good : IsGood settings
   fate_of (Evicted chunks traces) is = (over (Evicted chunks traces) is, counted (Evicted chunks traces) is)
   fate_of (Abandoned group) is = counted (Abandoned group) is
 
-found : (settings : PlainSettings) (state : AgentState) (acts : List Act) → IsGood settings state → sheets_of state.taken ≡ map page_of (takings acts) → (place : ℕ) (taking : Taking)
+found : (settings : PlainSettings) (state : AgentState) (acts : List IntakeAct) → IsGood settings state → sheets_of state.taken ≡ map page_of (takings acts) → (place : ℕ) (taking : Taking)
     → slice_get (takings acts) place ≡ Some taking → IsFound settings state place taking
 found settings state acts good pages place taking there =
     let sheet : slice_get (sheets_of state.taken) place ≡ Some (page_of taking) =
@@ -163,13 +163,13 @@ found settings state acts good pages place taking there =
 
 -- ---- a life
 
-pub good_by : LivesGoOnWell → EventsLeadOn → (settings : PlainSettings) (node : ℕ) (acts : List Act) → AreSettled (bare_run settings node) acts → IsGood settings (state_by settings node acts)
+pub good_by : LivesGoOnWell → EventsLeadOn → (settings : PlainSettings) (node : ℕ) (acts : List IntakeAct) → AreSettled (bare_run settings node) acts → IsGood settings (state_by settings node acts)
 good_by well on settings node acts settled =
     let goes = well settings node in
     subst (λ (s : AgentState). IsGood settings s) (sym (model_life on settings node acts (bare_run settings node) refl refl settled))
     (good_life settings node goes (model_in (bare_run settings node) acts) (start settings) goes.begins)
 
-pub is_well : LivesGoOnWell → EventsLeadOn → EventsAddThis → (settings : PlainSettings) (node : ℕ) (acts : List Act) → AreSettled (bare_run settings node) acts → IsWell settings node acts
+pub is_well : LivesGoOnWell → EventsLeadOn → EventsAddThis → (settings : PlainSettings) (node : ℕ) (acts : List IntakeAct) → AreSettled (bare_run settings node) acts → IsWell settings node acts
 is_well well on add settings node acts settled =
     let good = good_by well on settings node acts settled in
     let pages : sheets_of (state_by settings node acts).taken ≡ map page_of (takings acts) = pages_taken on add acts (bare_run settings node) in

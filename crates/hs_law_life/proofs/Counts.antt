@@ -9,10 +9,10 @@ use Rattle.hs_words.specs.Buffers.{Buffer}
 use Rattle.hs_ring.specs.Parts.{Leased}
 use Rattle.hs_link.specs.Contents.{Incoming}
 use Rattle.hs_live.specs.Keys.{Key}
-use Rattle.hs_agent.specs.Runs.{Run}
+use Rattle.hs_agent.specs.Runs.{AgentRun}
 use Rattle.hs_intake.specs.declared.took.Stop.{Stop}
 use Rattle.hs_intake.specs.declared.took.Stop.TheVariants.{Empty, Most, Memory, Words, Claims}
-use Rattle.hs_intake.specs.Intakes.{PlainIntake, Waiting, Act, TakesChunk, Line, Lines, lines_of, chunk_line, acts_in}
+use Rattle.hs_intake.specs.Intakes.{PlainIntake, Waiting, IntakeAct, TakesChunk, Line, Lines, lines_of, chunk_line, acts_in}
 use Rattle.hs_intake.specs.Taking.{Receives, Moves, StopsBy}
 use Rattle.hs_intake.proofs.Lines.{get_set}
 use Rattle.hs_node.specs.Nodes.{part_at}
@@ -21,10 +21,10 @@ use Rattle.hs_law_life.specs.NodeLives.{Taking, taking_of, takings, of_client, c
 
 -- ---- lists of acts
 
-pub chunks_append : (client : ℕ) (xs ys : List Act) → chunks_of client (xs ++ ys) ≡ chunks_of client xs ++ chunks_of client ys
+pub chunks_append : (client : ℕ) (xs ys : List IntakeAct) → chunks_of client (xs ++ ys) ≡ chunks_of client xs ++ chunks_of client ys
 chunks_append client xs ys = ap (λ (l : List Taking). filter_map (of_client client) l) (filter_map-append taking_of xs ys) ∙ filter_map-append (of_client client) (takings xs) (takings ys)
 
-pub takings_none : {T : Type 0} (f : T → Act) → ((x : T) → taking_of (f x) ≡ None) → (xs : List T) → takings (map f xs) ≡ []
+pub takings_none : {T : Type 0} (f : T → IntakeAct) → ((x : T) → taking_of (f x) ≡ None) → (xs : List T) → takings (map f xs) ≡ []
 takings_none f none [] = refl
 takings_none f none (x ∷ xs) = filter_map-append taking_of (f x ∷ []) (map f xs) ∙ ap (λ (l : List Taking). takings (f x ∷ []) ++ l) (takings_none f none xs) ∙ append-nil (takings (f x ∷ [])) ∙ one (taking_of (f x)) (none x)
   where
@@ -41,13 +41,13 @@ only k client (x ∷ items) false same = rw same (only k client items false same
 -- ---- what came
 
 -- What was accounted for stays so, and these acts account for what came.
-abbrev pub Counts : List Act → PlainIntake → PlainIntake → Type 0
+abbrev pub Counts : List IntakeAct → PlainIntake → PlainIntake → Type 0
 Counts more old new =
     (client : ℕ) (before : List (Buffer Leased)) → received_of client old ≡ before ++ front_of client old
     → received_of client new ≡ before ++ (chunks_of client more ++ front_of client new)
 
 -- no chunk came, and the front has as many of each client
-pub counts_none : (more : List Act) (old new : PlainIntake) → new.port.chunks ≡ old.port.chunks → ((client : ℕ) → front_of client new ≡ front_of client old) → takings more ≡ [] → Counts more old new
+pub counts_none : (more : List IntakeAct) (old new : PlainIntake) → new.port.chunks ≡ old.port.chunks → ((client : ℕ) → front_of client new ≡ front_of client old) → takings more ≡ [] → Counts more old new
 counts_none more old new same front none client before is =
     ap (λ (ends : List (Incoming (Buffer Leased) Key)). option_map_or (λ (r : Incoming (Buffer Leased) Key). r.received) (slice_get ends client) []) same
     ∙ is ∙ ap (λ (l : List (Buffer Leased)). before ++ l) (sym (front client))
@@ -93,7 +93,7 @@ chunk_counts client items extra old new moves none front k before is =
     came k client (items ++ extra) old.port.chunks new.port.chunks moves.receives
     ∙ ap (λ (l : List (Buffer Leased)). l ++ chunks_of k (map (TakesChunk client) (items ++ extra))) (is ∙ ap (λ (l : List (Buffer Leased)). before ++ l) (empty_front k old none) ∙ append-nil before)
     ∙ ap (λ (l : List (Buffer Leased)). before ++ l)
-    (ap (λ (l : List Act). chunks_of k l) (map_append (TakesChunk client) items extra) ∙ chunks_append k (map (TakesChunk client) items) (map (TakesChunk client) extra)
+    (ap (λ (l : List IntakeAct). chunks_of k l) (map_append (TakesChunk client) items extra) ∙ chunks_append k (map (TakesChunk client) items) (map (TakesChunk client) extra)
     ∙ ap (λ (l : List (Buffer Leased)). chunks_of k (map (TakesChunk client) items) ++ l) (sym (front k)))
 
 chunks_whole : (client : ℕ) (items : List (Buffer Leased)) (old new : PlainIntake) → Moves chunk_line client items old new → old.back ≡ None → new.back ≡ old.back → Counts (map (TakesChunk client) items) old new
@@ -114,8 +114,8 @@ pub record IsOther {T : Type 0} (line : Line T) : Type 0 where
   pub takes : (client : ℕ) (x : T) → taking_of (line.takes client x) ≡ None
   pub waits : (k client : ℕ) (x : T) → chunks_of k (acts_in (Some (line.waits client x))) ≡ []
   pub keeps : (lines : Lines) (ends : List (Incoming T Key)) → (line.with_ends lines ends).port.chunks ≡ lines.port.chunks
-  pub leaves : (run : Run Leased) (client : ℕ) (x : T) → part_at run (line.takes client x) ≡ None
-  pub offers : (run : Run Leased) (client : ℕ) (x : T) → IsBackAt run (line.takes client x)
+  pub leaves : (run : AgentRun Leased) (client : ℕ) (x : T) → part_at run (line.takes client x) ≡ None
+  pub offers : (run : AgentRun Leased) (client : ℕ) (x : T) → IsBackAt run (line.takes client x)
 
 module _ {T : Type 0} (line : Line T) (other : IsOther line) (client : ℕ) where
   pub other_same : (items : List T) (old new : PlainIntake) → Moves line client items old new → new.port.chunks ≡ old.port.chunks

@@ -12,7 +12,7 @@ use Rattle.hs_link.specs.Contents.{Incoming}
 use Rattle.hs_live.specs.Keys.{Key}
 use Rattle.hs_live.specs.Live.{PlainClient, IsEnd}
 use Rattle.hs_node_client.specs.Lives.{ClientLife}
-use Rattle.hs_intake.specs.Intakes.{PlainIntake, Act}
+use Rattle.hs_intake.specs.Intakes.{PlainIntake, IntakeAct}
 use Rattle.hs_law_life.specs.ClientLives.{AllStand, IsOnItsWay}
 use Rattle.hs_law_life.specs.NodeLives.{Taking, takings, of_client, chunks_of, front_of, HasLived, IsWell}
 use Rattle.hs_law_life.specs.Following.{IsFollowed}
@@ -42,7 +42,7 @@ taken_at client (taking ∷ all) n buffer at = go (taking.client == client) refl
     go false same rest =
         later rest n (ap (λ (b : Bool). slice_get (cons_option (cond b (Some taking.buffer) None) (filter_map (of_client client) all)) n) (sym same) ∙ at)
 
-pub followed_by : (life : ClientLife) (client : PlainClient) (number : ℕ) (port : Incoming (Buffer Leased) Key) (settings : PlainSettings) (node : ℕ) (acts : List Act) (d : PlainIntake)
+pub followed_by : (life : ClientLife) (client : PlainClient) (number : ℕ) (port : Incoming (Buffer Leased) Key) (settings : PlainSettings) (node : ℕ) (acts : List IntakeAct) (d : PlainIntake)
     → IsOnItsWay life client port → IsEnd number d.port.chunks port → HasLived settings node acts d → IsWell settings node acts → IsFollowed life client number settings node acts d
 followed_by life client number port settings node acts d way end lived well =
     let ring = way.ring in

@@ -6,8 +6,8 @@ use Rattle.hs_ring.specs.Parts.{Leased}
 use Rattle.hs_link.specs.Contents.{Incoming}
 use Rattle.hs_live.specs.Keys.{Key}
 use Rattle.hs_inbox.specs.Delivering.{PlainInbox, Delivers}
-use Rattle.hs_inbox.specs.declared.inbox.Delivered.{Delivered}
-use Rattle.hs_inbox.specs.declared.inbox.Delivered.TheVariants.{Taken, Full, Refused}
+use Rattle.hs_inbox.specs.declared.inbox.AskDelivered.{AskDelivered}
+use Rattle.hs_inbox.specs.declared.inbox.AskDelivered.TheVariants.{Taken, Full, Refused}
 use Rattle.hs_settings.specs.Settings.{PlainService}
 use Rattle.hs_intake.specs.Intakes.{Waiting, acts_in}
 use Rattle.hs_intake.proofs.Lines.{there_low, same_there}
@@ -16,7 +16,7 @@ use Rattle.hs_node.specs.declared.making.MadeNode.{MadeNode}
 use Rattle.hs_node.specs.Made.{IsMadeBy, run_settings}
 use Rattle.hs_law_life.specs.NodeLives.{chunks_of, received_of, HasLived}
 
-pub same_rules : (old : PlainInbox) (bytes : List ℕ) (answer : Delivered) (new : PlainInbox) → Delivers old bytes answer new → new.rules ≡ old.rules
+pub same_rules : (old : PlainInbox) (bytes : List ℕ) (answer : AskDelivered) (new : PlainInbox) → Delivers old bytes answer new → new.rules ≡ old.rules
 same_rules old bytes Taken new (ask, is, few, same) = ap (λ (i : PlainInbox). i.rules) same
 same_rules old bytes Full new (ask, is, many, same) = ap (λ (i : PlainInbox). i.rules) same
 same_rules old bytes Refused new (none, same) = ap (λ (i : PlainInbox). i.rules) same

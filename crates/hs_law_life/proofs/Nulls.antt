@@ -28,11 +28,11 @@ use Rattle.hs_node_client.specs.Clients.{PlainNodeClient, KeepsEnds, NotesIt, No
 use Rattle.hs_node_client.specs.Counting.{more, opened, renewed, closed, segment_counts, with_point, with_crumb_called, with_refused_late, with_refused_trigger, if_full}
 use Rattle.hs_node_client.specs.Lives.{CoreLife, ClientLife, HasLife, Turns, with_op}
 use Rattle.hs_node_client.specs.Making.{IsNewClient, PlainRules}
-use Rattle.hs_node_client.specs.declared.called.Called.{Called}
-use Rattle.hs_node_client.specs.declared.called.Called.TheVariants as called
-use Rattle.hs_node_client.specs.declared.counts.Tally.{Tally}
+use Rattle.hs_node_client.specs.declared.answers.CallAnswer.{CallAnswer}
+use Rattle.hs_node_client.specs.declared.answers.CallAnswer.TheVariants as called
+use Rattle.hs_node_client.specs.declared.counts.RunningCounts.{RunningCounts}
 use Rattle.hs_node_client.specs.declared.limits.ClientLimits.{ClientLimits}
-use Rattle.hs_node_client.specs.declared.paged.Place.{Place}
+use Rattle.hs_node_client.specs.declared.paged.NextPage.{NextPage}
 use Rattle.hs_node_client.specs.declared.segment.SegmentState.{SegmentState}
 use Rattle.hs_node_client.specs.declared.segment.SegmentState.TheVariants.{Opened, Closed}
 use Rattle.hs_node_client.specs.Paging.{place_in}
@@ -144,7 +144,7 @@ pub begins_new : (limits : ClientLimits) (rules : PlainRules) (id : ClientId) (d
     → HasCounted (record { made = made_of client.live; ops = [] } ∷ []) client
 begins_new limits rules id drawer client none is =
     let empty : client.live.drawer.answers ≡ [] = ap (λ (d : Drawing). d.answers) is.drawer_is ∙ none in
-    record { lives = is.life; start = empty; past = ap (λ (t : Tally). t.past.null_pages) is.tally ∙ ap (λ (l : List Answer). capped (nulls_by l)) (sym empty) }
+    record { lives = is.life; start = empty; past = ap (λ (t : RunningCounts). t.past.null_pages) is.tally ∙ ap (λ (l : List Answer). capped (nulls_by l)) (sym empty) }
 
 start_kept : (op : Operation) (life : ClientLife) → IsFromStart life → IsFromStart (with_op op life)
 start_kept op [] start = start
@@ -186,16 +186,16 @@ same_answers books sends trace made core cores old new has keeps after =
     let d1 = each_drawn books core r.client r.did s1 in
     grown ∙ ap (λ (l : List Answer). l ++ old.drawer.answers) (nil_of keeps.drawer.added (omega (arith, made_length, old_length, grown_length, d0, d1)))
 
-note_keeps : (was_sent : Bool) (tally : Tally) → (counted_note was_sent tally).past.null_pages ≡ tally.past.null_pages
+note_keeps : (was_sent : Bool) (tally : RunningCounts) → (counted_note was_sent tally).past.null_pages ≡ tally.past.null_pages
 note_keeps true tally = refl
 note_keeps false tally = refl
 
-noted_keeps : (trace : TraceId) (state : SegmentState) (place : Place) (notebook notebook' : _) (counted tally : Tally) → NotesIt trace state place notebook counted notebook' tally
+noted_keeps : (trace : TraceId) (state : SegmentState) (place : NextPage) (notebook notebook' : _) (counted tally : RunningCounts) → NotesIt trace state place notebook counted notebook' tally
     → tally.past.null_pages ≡ counted.past.null_pages
-noted_keeps trace state place notebook notebook' counted tally (was_sent, notes, is) = ap (λ (t : Tally). t.past.null_pages) is ∙ note_keeps was_sent counted
+noted_keeps trace state place notebook notebook' counted tally (was_sent, notes, is) = ap (λ (t : RunningCounts). t.past.null_pages) is ∙ note_keeps was_sent counted
 
 -- the sum behind a renewal, and where there was none
-at_begin : (b : Bool) (nulls pages : ℕ) (tally : Tally)
+at_begin : (b : Bool) (nulls pages : ℕ) (tally : RunningCounts)
     → (cond b (opened 0 0 (renewed nulls tally)) (opened nulls pages tally)).past.null_pages ≡ cond b (more tally.past.null_pages nulls) tally.past.null_pages
 at_begin true nulls pages tally = refl
 at_begin false nulls pages tally = refl
@@ -228,37 +228,37 @@ begins books sends trace old new (core ∷ cores) life' has keeps turns after no
 
 -- ---- the other calls
 
-pub point_keeps : (by : Called) (old new : PlainNodeClient) → new.tally ≡ with_point by old.tally → KeepsNulls old new
-point_keeps called.Done old new is = ap (λ (t : Tally). t.past.null_pages) is
-point_keeps called.NoTrace old new is = ap (λ (t : Tally). t.past.null_pages) is
-point_keeps called.AlreadyOpen old new is = ap (λ (t : Tally). t.past.null_pages) is
-point_keeps called.TooWide old new is = ap (λ (t : Tally). t.past.null_pages) is
-point_keeps called.Full old new is = ap (λ (t : Tally). t.past.null_pages) is
-point_keeps called.Unknown old new is = ap (λ (t : Tally). t.past.null_pages) is
-point_keeps called.Spent old new is = ap (λ (t : Tally). t.past.null_pages) is
+pub point_keeps : (by : CallAnswer) (old new : PlainNodeClient) → new.tally ≡ with_point by old.tally → KeepsNulls old new
+point_keeps called.Done old new is = ap (λ (t : RunningCounts). t.past.null_pages) is
+point_keeps called.NoTrace old new is = ap (λ (t : RunningCounts). t.past.null_pages) is
+point_keeps called.AlreadyOpen old new is = ap (λ (t : RunningCounts). t.past.null_pages) is
+point_keeps called.TooWide old new is = ap (λ (t : RunningCounts). t.past.null_pages) is
+point_keeps called.Full old new is = ap (λ (t : RunningCounts). t.past.null_pages) is
+point_keeps called.Unknown old new is = ap (λ (t : RunningCounts). t.past.null_pages) is
+point_keeps called.Spent old new is = ap (λ (t : RunningCounts). t.past.null_pages) is
 
-pub crumb_keeps : (node : NodeId) (by : Called) (old new : PlainNodeClient) → new.tally ≡ with_crumb_called node by old.tally → KeepsNulls old new
-crumb_keeps node called.Done old new is = ap (λ (t : Tally). t.past.null_pages) is
-crumb_keeps node called.NoTrace old new is = ap (λ (t : Tally). t.past.null_pages) is
-crumb_keeps node called.AlreadyOpen old new is = ap (λ (t : Tally). t.past.null_pages) is
-crumb_keeps node called.TooWide old new is = ap (λ (t : Tally). t.past.null_pages) is
-crumb_keeps node called.Full old new is = ap (λ (t : Tally). t.past.null_pages) is
-crumb_keeps node called.Unknown old new is = ap (λ (t : Tally). t.past.null_pages) is
-crumb_keeps node called.Spent old new is = ap (λ (t : Tally). t.past.null_pages) is
+pub crumb_keeps : (node : NodeId) (by : CallAnswer) (old new : PlainNodeClient) → new.tally ≡ with_crumb_called node by old.tally → KeepsNulls old new
+crumb_keeps node called.Done old new is = ap (λ (t : RunningCounts). t.past.null_pages) is
+crumb_keeps node called.NoTrace old new is = ap (λ (t : RunningCounts). t.past.null_pages) is
+crumb_keeps node called.AlreadyOpen old new is = ap (λ (t : RunningCounts). t.past.null_pages) is
+crumb_keeps node called.TooWide old new is = ap (λ (t : RunningCounts). t.past.null_pages) is
+crumb_keeps node called.Full old new is = ap (λ (t : RunningCounts). t.past.null_pages) is
+crumb_keeps node called.Unknown old new is = ap (λ (t : RunningCounts). t.past.null_pages) is
+crumb_keeps node called.Spent old new is = ap (λ (t : RunningCounts). t.past.null_pages) is
 
-pub trigger_keeps : (by : Called) (old new : PlainNodeClient) → new.tally ≡ if_full by with_refused_trigger old.tally → KeepsNulls old new
-trigger_keeps called.Done old new is = ap (λ (t : Tally). t.past.null_pages) is
-trigger_keeps called.NoTrace old new is = ap (λ (t : Tally). t.past.null_pages) is
-trigger_keeps called.AlreadyOpen old new is = ap (λ (t : Tally). t.past.null_pages) is
-trigger_keeps called.TooWide old new is = ap (λ (t : Tally). t.past.null_pages) is
-trigger_keeps called.Full old new is = ap (λ (t : Tally). t.past.null_pages) is
-trigger_keeps called.Unknown old new is = ap (λ (t : Tally). t.past.null_pages) is
-trigger_keeps called.Spent old new is = ap (λ (t : Tally). t.past.null_pages) is
+pub trigger_keeps : (by : CallAnswer) (old new : PlainNodeClient) → new.tally ≡ if_full by with_refused_trigger old.tally → KeepsNulls old new
+trigger_keeps called.Done old new is = ap (λ (t : RunningCounts). t.past.null_pages) is
+trigger_keeps called.NoTrace old new is = ap (λ (t : RunningCounts). t.past.null_pages) is
+trigger_keeps called.AlreadyOpen old new is = ap (λ (t : RunningCounts). t.past.null_pages) is
+trigger_keeps called.TooWide old new is = ap (λ (t : RunningCounts). t.past.null_pages) is
+trigger_keeps called.Full old new is = ap (λ (t : RunningCounts). t.past.null_pages) is
+trigger_keeps called.Unknown old new is = ap (λ (t : RunningCounts). t.past.null_pages) is
+trigger_keeps called.Spent old new is = ap (λ (t : RunningCounts). t.past.null_pages) is
 
-late_by : (trace : TraceId) (state : SegmentState) (old new : PlainNodeClient) (counted : Tally) → NotesLate trace state old counted new → new.tally.past.null_pages ≡ counted.past.null_pages
+late_by : (trace : TraceId) (state : SegmentState) (old new : PlainNodeClient) (counted : RunningCounts) → NotesLate trace state old counted new → new.tally.past.null_pages ≡ counted.past.null_pages
 late_by trace state old new counted notes = elim (cases_lt (old.notebook.number + 2) (2 ^ 64)) [
   | inl low ↦ noted_keeps trace state _ old.notebook new.notebook counted new.tally (notes.noted low)
-  | inr high ↦ ap (λ (t : Tally). t.past.null_pages) (notes.spent high).1
+  | inr high ↦ ap (λ (t : RunningCounts). t.past.null_pages) (notes.spent high).1
 ]
 
 pub led_keeps : (trace : TraceId) (state : SegmentState) (old new : PlainNodeClient) → NotesLate trace state old old.tally new → KeepsNulls old new

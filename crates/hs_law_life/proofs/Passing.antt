@@ -7,7 +7,7 @@ use Rattle.hs_lists.proofs.Bools.{second_true}
 use Rattle.hs_records.specs.Plain.{PlainSettings}
 use Rattle.hs_words.specs.Buffers.{Buffer}
 use Rattle.hs_ring.specs.Parts.{Leased}
-use Rattle.hs_agent.specs.Runs.{Run, bare_run, state_of}
+use Rattle.hs_agent.specs.Runs.{AgentRun, bare_run, state_of}
 use Rattle.hs_claimed.specs.Claims.{PlainClaims}
 use Rattle.hs_inbox.specs.Delivering.{PlainInbox}
 use Rattle.hs_mail.specs.Letters.{Letters}
@@ -18,7 +18,7 @@ use Rattle.hs_intake.specs.declared.took.Turned.TheVariants as turned
 use Rattle.hs_intake.specs.declared.took.Stated.{Stated}
 use Rattle.hs_intake.specs.declared.took.Stated.TheVariants as stated
 use Rattle.hs_intake.specs.declared.took.Took.{Took}
-use Rattle.hs_intake.specs.Intakes.{PlainIntake, Waiting, Chunk, Crumbs, Triggers, Act, TakesChunk, TakesAsk, Turns, LetsGo, Forgets, after_act, life, Line, Lines, chunk_line, crumb_line, late_line, trigger_line, acts_in, Stands}
+use Rattle.hs_intake.specs.Intakes.{PlainIntake, Waiting, Chunk, Crumbs, Triggers, IntakeAct, TakesChunk, TakesAsk, Turns, LetsGo, Forgets, after_act, life, Line, Lines, chunk_line, crumb_line, late_line, trigger_line, acts_in, Stands}
 use Rattle.hs_intake.specs.Taking.{TakesMany, TakesLine, TakesTriggers, TakesBack, MakesTurn, StatesIt}
 use Rattle.hs_intake.proofs.Acts.{life_append}
 use Rattle.hs_node.specs.Nodes.{PlainNode, is_unspent}
@@ -42,11 +42,11 @@ lates_other = record { takes = λ client x. refl; waits = λ k client x. refl; k
 triggers_other : IsOther trigger_line
 triggers_other = record { takes = λ client x. refl; waits = λ k client x. refl; keeps = λ lines ends. refl; leaves = λ run client x. refl; offers = λ run client x. tt }
 
-settled_map : {T : Type 0} (f : T → Act) → ((run : Run Leased) (x : T) → IsSettledAt run (f x)) → (xs : List T) (run : Run Leased) → AreSettled run (map f xs)
+settled_map : {T : Type 0} (f : T → IntakeAct) → ((run : AgentRun Leased) (x : T) → IsSettledAt run (f x)) → (xs : List T) (run : AgentRun Leased) → AreSettled run (map f xs)
 settled_map f each [] run = tt
 settled_map f each (x ∷ xs) run = (each run x, settled_map f each xs (after_act run (f x)))
 
-settled_front_act : (back : Option Waiting) (run : Run Leased) → AreSettled run (acts_in back)
+settled_front_act : (back : Option Waiting) (run : AgentRun Leased) → AreSettled run (acts_in back)
 settled_front_act None run = tt
 settled_front_act (Some (Chunk client buffer)) run = (tt, tt)
 settled_front_act (Some (Crumbs client crumb)) run = (tt, tt)
@@ -55,23 +55,23 @@ settled_front_act (Some (Triggers client trigger)) run = (tt, tt)
 -- ---- a life goes on
 
 module _ (settings : PlainSettings) (node : ℕ) where
-  abbrev Lived : List Act → PlainIntake → Type 0
+  abbrev Lived : List IntakeAct → PlainIntake → Type 0
   Lived acts d = HasLived settings node acts d
 
   -- by more acts, of which this is said
-  abbrev More : List Act → PlainIntake → PlainIntake → Type 0
-  More acts old new = (more : List Act) × (HasLived settings node (acts ++ more) new × Speaks (run_by settings node acts) more old new)
+  abbrev More : List IntakeAct → PlainIntake → PlainIntake → Type 0
+  More acts old new = (more : List IntakeAct) × (HasLived settings node (acts ++ more) new × Speaks (run_by settings node acts) more old new)
 
   abbrev Leads : Doing → Type 0
-  Leads part = (acts : List Act) (old new : PlainNode) → Lived acts old.intake → part (run_by settings node acts) old new → More acts old.intake new.intake
+  Leads part = (acts : List IntakeAct) (old new : PlainNode) → Lived acts old.intake → part (run_by settings node acts) old new → More acts old.intake new.intake
 
-  lived_more : (acts more : List Act) (old new : PlainIntake) → Lived acts old → Stands (life (run_by settings node acts) more) new → AreSettled (run_by settings node acts) more → Counts more old new
+  lived_more : (acts more : List IntakeAct) (old new : PlainIntake) → Lived acts old → Stands (life (run_by settings node acts) more) new → AreSettled (run_by settings node acts) more → Counts more old new
       → Speaks (run_by settings node acts) more old new → More acts old new
   lived_more acts more old new lived stands settled counts speaks = (
     more,
     (
       record {
-        stands = subst (λ (r : Run Leased). Stands r new) (sym (life_append acts more (bare_run settings node))) stands;
+        stands = subst (λ (r : AgentRun Leased). Stands r new) (sym (life_append acts more (bare_run settings node))) stands;
         settled = settled_both acts more (bare_run settings node) lived.settled settled;
         took = λ client.
             counts client (chunks_of client acts) (lived.took client) ∙ sym (append_assoc (chunks_of client acts) (chunks_of client more) (front_of client new))
@@ -82,16 +82,16 @@ module _ (settings : PlainSettings) (node : ℕ) where
   )
 
   -- no act was done
-  lived_same : (acts : List Act) (old new : PlainIntake) → Lived acts new → Speaks (run_by settings node acts) [] old new → More acts old new
-  lived_same acts old new lived speaks = ([], (subst (λ (l : List Act). HasLived settings node l new) (sym (append-nil acts)) lived, speaks))
+  lived_same : (acts : List IntakeAct) (old new : PlainIntake) → Lived acts new → Speaks (run_by settings node acts) [] old new → More acts old new
+  lived_same acts old new lived speaks = ([], (subst (λ (l : List IntakeAct). HasLived settings node l new) (sym (append-nil acts)) lived, speaks))
 
-  still : (acts : List Act) (old new : PlainIntake) → Lived acts old → new ≡ old → More acts old new
+  still : (acts : List IntakeAct) (old new : PlainIntake) → Lived acts old → new ≡ old → More acts old new
   still acts old new lived same =
       lived_same acts old new (subst (λ (d : PlainIntake). HasLived settings node acts d) (sym same) lived)
       (speaks_quiet (run_by settings node acts) [] old new refl refl tt (ap (λ (d : PlainIntake). d.mail) same) (ap (λ (d : PlainIntake). d.unsaid) same))
 
   -- what is said, claimed and asked is none of it
-  pub quiet : (acts : List Act) (d : PlainIntake) (mail : Letters) (inbox : PlainInbox) (claims : PlainClaims) (unsaid : Option Told) → inbox.rules ≡ d.inbox.rules → Lived acts d
+  pub quiet : (acts : List IntakeAct) (d : PlainIntake) (mail : Letters) (inbox : PlainInbox) (claims : PlainClaims) (unsaid : Option Told) → inbox.rules ≡ d.inbox.rules → Lived acts d
       → Lived acts (record d { mail = mail; inbox = inbox; claims = claims; unsaid = unsaid })
   quiet acts d mail inbox claims unsaid rules lived =
       let s = lived.stands in
@@ -113,20 +113,20 @@ module _ (settings : PlainSettings) (node : ℕ) where
         took = lived.took;
       }
 
-  still_quiet : (acts : List Act) (old new : PlainIntake) (mail : Letters) (claims : PlainClaims) (unsaid : Option Told) → Lived acts old → new ≡ record old { mail = mail; claims = claims; unsaid = unsaid }
+  still_quiet : (acts : List IntakeAct) (old new : PlainIntake) (mail : Letters) (claims : PlainClaims) (unsaid : Option Told) → Lived acts old → new ≡ record old { mail = mail; claims = claims; unsaid = unsaid }
       → Speaks (run_by settings node acts) [] old new → More acts old new
   still_quiet acts old new mail claims unsaid lived is speaks =
       lived_same acts old new (subst (λ (d : PlainIntake). HasLived settings node acts d) (sym is) (quiet acts old mail old.inbox claims unsaid refl lived)) speaks
 
   -- ---- one part after another
 
-  joined : (acts : List Act) (a b c : PlainIntake) (first : More acts a b) → More (acts ++ first.0) b c → More acts a c
+  joined : (acts : List IntakeAct) (a b c : PlainIntake) (first : More acts a b) → More (acts ++ first.0) b c → More acts a c
   joined acts a b c first second = (
     first.0 ++ second.0,
     (
-      subst (λ (l : List Act). HasLived settings node l c) (append_assoc acts first.0 second.0) second.1.0,
+      subst (λ (l : List IntakeAct). HasLived settings node l c) (append_assoc acts first.0 second.0) second.1.0,
       speaks_more (run_by settings node acts) first.0 second.0 a b c first.1.1
-          (subst (λ (r : Run Leased). Speaks r second.0 b c) (life_append acts first.0 (bare_run settings node)) second.1.1),
+          (subst (λ (r : AgentRun Leased). Speaks r second.0 b c) (life_append acts first.0 (bare_run settings node)) second.1.1),
     ),
   )
 
@@ -146,7 +146,7 @@ module _ (settings : PlainSettings) (node : ℕ) where
       first : More acts old.intake u.mid.intake
       first = each_leads (λ n. part true) (λ n. leads true) u.count acts old u.mid lived u.does
 
-      go : ((u.count ≡ most) × (new ≡ u.mid)) ⊎ ((later : Run Leased) → Stands later u.mid.intake → part false later u.mid new) → More acts old.intake new.intake
+      go : ((u.count ≡ most) × (new ≡ u.mid)) ⊎ ((later : AgentRun Leased) → Stands later u.mid.intake → part false later u.mid new) → More acts old.intake new.intake
       go (inl (full, same)) = subst (λ (d : PlainNode). More acts old.intake d.intake) (sym same) first
       go (inr next) =
           joined acts old.intake u.mid.intake new.intake first (leads false (acts ++ first.0) u.mid new first.1.0 (next (run_by settings node (acts ++ first.0)) first.1.0.stands))
@@ -165,7 +165,7 @@ module _ (settings : PlainSettings) (node : ℕ) where
 
   -- ---- what clients sent
 
-  chunks_lead : (client : ℕ) (acts : List Act) (old : PlainIntake) (took : Took) (new : PlainIntake) → Lived acts old → TakesLine (run_by settings node acts) chunk_line client old took new → More acts old new
+  chunks_lead : (client : ℕ) (acts : List IntakeAct) (old : PlainIntake) (took : Took) (new : PlainIntake) → Lived acts old → TakesLine (run_by settings node acts) chunk_line client old took new → More acts old new
   chunks_lead client acts old took new lived (inl (high, (is, same))) = still acts old new lived same
   chunks_lead client acts old took new lived (inr (inl (low, (front, (is, same))))) = still acts old new lived same
   chunks_lead client acts old took new lived (inr (inr (low, (front, many)))) =
@@ -173,7 +173,7 @@ module _ (settings : PlainSettings) (node : ℕ) where
       (chunk_stops client many.items old took.stop new front many.stops)
       (speaks_tells (run_by settings node acts) (map (TakesChunk client) many.items) old new many.goes.tells (no_parts (TakesChunk client) (λ run x. refl) many.items (run_by settings node acts)) (back_map (TakesChunk client) (λ run x. tt) many.items (run_by settings node acts)))
 
-  many_leads : {T : Type 0} (line : Line T) → IsOther line → ((client : ℕ) (run : Run Leased) (x : T) → IsSettledAt run (line.takes client x)) → (client : ℕ) (acts : List Act) (old : PlainIntake) (took : Took) (new : PlainIntake)
+  many_leads : {T : Type 0} (line : Line T) → IsOther line → ((client : ℕ) (run : AgentRun Leased) (x : T) → IsSettledAt run (line.takes client x)) → (client : ℕ) (acts : List IntakeAct) (old : PlainIntake) (took : Took) (new : PlainIntake)
       → Lived acts old → old.back ≡ None → TakesMany (run_by settings node acts) line client old took new → More acts old new
   many_leads line other settled client acts old took new lived front many =
       lived_more acts (map (line.takes client) many.items) old new lived many.goes.stands (settled_map (line.takes client) (settled client) many.items (run_by settings node acts))
@@ -182,7 +182,7 @@ module _ (settings : PlainSettings) (node : ℕ) where
       (no_parts (line.takes client) (λ run x. other.leaves run client x) many.items (run_by settings node acts))
       (back_map (line.takes client) (λ run x. other.offers run client x) many.items (run_by settings node acts)))
 
-  line_leads : {T : Type 0} (line : Line T) → IsOther line → ((client : ℕ) (run : Run Leased) (x : T) → IsSettledAt run (line.takes client x)) → (client : ℕ) (acts : List Act) (old : PlainIntake) (took : Took) (new : PlainIntake)
+  line_leads : {T : Type 0} (line : Line T) → IsOther line → ((client : ℕ) (run : AgentRun Leased) (x : T) → IsSettledAt run (line.takes client x)) → (client : ℕ) (acts : List IntakeAct) (old : PlainIntake) (took : Took) (new : PlainIntake)
       → Lived acts old → TakesLine (run_by settings node acts) line client old took new → More acts old new
   line_leads line other settled client acts old took new lived (inl (high, (is, same))) = still acts old new lived same
   line_leads line other settled client acts old took new lived (inr (inl (low, (front, (is, same))))) = still acts old new lived same
@@ -197,7 +197,7 @@ module _ (settings : PlainSettings) (node : ℕ) where
   takes_lates : (client : ℕ) → Leads (TakesLates client)
   takes_lates client acts old new lived (took, takes, is) = line_leads late_line lates_other (λ c run x. tt) client acts old.intake took new.intake lived takes
 
-  triggers_lead : (client : ℕ) (acts : List Act) (old : PlainIntake) (took : _) (new : PlainIntake) → Lived acts old → TakesTriggers (run_by settings node acts) client old took new → More acts old new
+  triggers_lead : (client : ℕ) (acts : List IntakeAct) (old : PlainIntake) (took : _) (new : PlainIntake) → Lived acts old → TakesTriggers (run_by settings node acts) client old took new → More acts old new
   triggers_lead client acts old took new lived (inl (high, (is, same))) = still acts old new lived same
   triggers_lead client acts old took new lived (inr (inl (low, (front, (is, same))))) = still acts old new lived same
   triggers_lead client acts old took new lived (inr (inr (low, (front, inl (room, (many, limited)))))) =
@@ -233,7 +233,7 @@ module _ (settings : PlainSettings) (node : ℕ) where
       (speaks_says (run_by settings node acts) old.intake new.intake says)
 
   -- what waited at the front is taken
-  back_leads : (did : Bool) (acts : List Act) (old new : PlainIntake) → Lived acts old → TakesBack (run_by settings node acts) old did new → More acts old new
+  back_leads : (did : Bool) (acts : List IntakeAct) (old new : PlainIntake) → Lived acts old → TakesBack (run_by settings node acts) old did new → More acts old new
   back_leads true acts old new lived (free, (lines, (clients, goes))) =
       lived_more acts (acts_in old.back) old new lived goes.stands (settled_front_act old.back (run_by settings node acts))
       (λ client before is.
@@ -253,7 +253,7 @@ module _ (settings : PlainSettings) (node : ℕ) where
 
   -- ---- a turn, and the hand
 
-  turn_leads : (did : Turned) (acts : List Act) (old new : PlainIntake) → Lived acts old → is_unspent did ≡ true → MakesTurn (run_by settings node acts) old did new → More acts old new
+  turn_leads : (did : Turned) (acts : List IntakeAct) (old new : PlainIntake) → Lived acts old → is_unspent did ≡ true → MakesTurn (run_by settings node acts) old did new → More acts old new
   turn_leads turned.Done acts old new lived unspent (places, (is, goes)) =
       lived_more acts (Turns ∷ []) old new lived goes.stands (tt, tt)
       (counts_none (Turns ∷ []) old new (ap (λ (d : PlainIntake). d.port.chunks) is) (λ k. ap (λ (d : PlainIntake). front_of k d) is) refl)
@@ -276,7 +276,7 @@ module _ (settings : PlainSettings) (node : ℕ) where
 
   -- ---- claims
 
-  states_it : (standing : Standing) (did : Stated) (acts : List Act) (old new : PlainIntake) → Lived acts old → StatesIt old standing did new → More acts old new
+  states_it : (standing : Standing) (did : Stated) (acts : List IntakeAct) (old new : PlainIntake) → Lived acts old → StatesIt old standing did new → More acts old new
   states_it standing stated.Said acts old new lived (news, (number, posts, is)) =
       still_quiet acts old new new.mail new.claims old.unsaid lived (is ∙ ap (λ (c : PlainClaims). record old { mail = new.mail; claims = c }) (sym (ap (λ (d : PlainIntake). d.claims) is)))
       (speaks_states (run_by settings node acts) old new standing number posts (ap (λ (d : PlainIntake). d.unsaid) is))

@@ -28,10 +28,10 @@ use Rattle.hs_law_agent.proofs.Placed.{match_start}
 use Rattle.hs_law_agent.proofs.Unevicted.{passed_within}
 use Rattle.hs_agent.specs.Leaving.{came_back, back_after}
 use Rattle.hs_agent.specs.Points.{sheet_in}
-use Rattle.hs_agent.specs.Runs.{Run, bare_run, state_of, offered_next}
+use Rattle.hs_agent.specs.Runs.{AgentRun, bare_run, state_of, offered_next}
 use Rattle.hs_agent.specs.Tries.{after_trigger}
 use Rattle.hs_intake.specs.Handing.{page_of, page_if, was_offered, first_taken, first_page}
-use Rattle.hs_intake.specs.Intakes.{Act, TakesChunk, TakesCrumb, TakesTrigger, TakesAsk, Turns, LetsGo, Forgets, after_act, life, has_left}
+use Rattle.hs_intake.specs.Intakes.{IntakeAct, TakesChunk, TakesCrumb, TakesTrigger, TakesAsk, Turns, LetsGo, Forgets, after_act, life, has_left}
 use Rattle.hs_intake.proofs.Lines.{get_set, length_set}
 use Rattle.hs_node.specs.Nodes.{Part, part_of, part_at, parts_in}
 use Rattle.hs_law_life.specs.Reports.{back_of, offered_of, waiting_of, reported_among, report_in, AreFirst, ComesBack, IsBackAt, AreBack}
@@ -247,7 +247,7 @@ module _ (settings : PlainSettings) (node : ℕ) (s : AgentState) (buffers : Lis
 -- ---- acts
 
 -- the page of the part that leaves at an offer
-part_page : (run : Run Leased) (b : Bool) (o : Option Taken) → first_taken run ≡ o → pages_in (option_to_list (cond b None (option_map (part_of run) o))) ≡ page_more b (first_page run)
+part_page : (run : AgentRun Leased) (b : Bool) (o : Option Taken) → first_taken run ≡ o → pages_in (option_to_list (cond b None (option_map (part_of run) o))) ≡ page_more b (first_page run)
 part_page run true o is = refl
 part_page run false None is =
     sym (ap (λ (t : Option Taken). option_to_list (option_and_then (λ (taken : Taken). option_and_then (λ (buffer : Buffer Leased). page_if taken.standing buffer.lease.mark taken.sheet) (offered_next run)) t)) is)
@@ -257,7 +257,7 @@ part_page run false (Some taken) is = go (first_page run)
     go None = refl
     go (Some page) = refl
 
-first_report : (run : Run Leased) (place : ℕ) (rest : List ℕ) → (state_of run).hand ≡ place ∷ rest → first_page run ≡ report_in (state_of run).taken run.buffers place
+first_report : (run : AgentRun Leased) (place : ℕ) (rest : List ℕ) → (state_of run).hand ≡ place ∷ rest → first_page run ≡ report_in (state_of run).taken run.buffers place
 first_report run place rest is =
     ap (λ (hand : List ℕ).
     option_and_then (λ (taken : Taken). option_and_then (λ (buffer : Buffer Leased). page_if taken.standing buffer.lease.mark taken.sheet) (option_and_then (λ p. slice_get run.buffers p) (slice_get hand 0)))
@@ -273,17 +273,17 @@ given_one stamp place rest s is =
     ap (λ (hand : List ℕ). given_places (steps.give_back stamp hand s)) is ∙ map_append (λ (g : GivenPlace). g.place) s.given (record { place = place; stamp = stamp } ∷ [])
 
 module _ (on : EventsLeadOn) (add : EventsAddThis) where
-  input_act : (run run' : Run Leased) (parts : List Part) (input : Input) (more : List (Buffer Leased)) → state_of run' ≡ after_event run.settings run.node (state_of run) (Took input) → run'.buffers ≡ run.buffers ++ more
+  input_act : (run run' : AgentRun Leased) (parts : List Part) (input : Input) (more : List (Buffer Leased)) → state_of run' ≡ after_event run.settings run.node (state_of run) (Took input) → run'.buffers ≡ run.buffers ++ more
       → length more ≡ length (brought_by (Took input)) → At (state_of run) run.buffers parts → At (state_of run') run'.buffers (parts ++ [])
   input_act run run' parts input more state buffers brought at =
       subst (λ (l : List Part). At (state_of run') run'.buffers l) (sym (append-nil parts))
       (subst (λ (l : List (Buffer Leased)). At (state_of run') l parts) (sym buffers)
       (subst (λ (s : AgentState). At s (run.buffers ++ more) parts) (sym state) (input_at add run.settings run.node (state_of run) run.buffers more parts input brought at)))
 
-  took : (run : Run Leased) (input : Input) → steps.after_from run.settings run.node run.start (run.events ++ Took input ∷ []) ≡ after_event run.settings run.node (state_of run) (Took input)
+  took : (run : AgentRun Leased) (input : Input) → steps.after_from run.settings run.node run.start (run.events ++ Took input ∷ []) ≡ after_event run.settings run.node (state_of run) (Took input)
   took run input = on run.settings run.node run.start run.events (Took input ∷ [])
 
-  trigger_act : (run : Run Leased) (client : ℕ) (trigger : Trigger) (parts : List Part) (b : Bool) → At (state_of run) run.buffers parts
+  trigger_act : (run : AgentRun Leased) (client : ℕ) (trigger : Trigger) (parts : List Part) (b : Bool) → At (state_of run) run.buffers parts
       → At (state_of (cond b (after_trigger run client trigger) run)) (cond b (after_trigger run client trigger) run).buffers (parts ++ [])
   trigger_act run client trigger parts true at = input_act run (after_trigger run client trigger) parts (steps.Triggered client trigger) [] (took run (steps.Triggered client trigger)) (sym (append-nil run.buffers)) refl at
   trigger_act run client trigger parts false at = subst (λ (l : List Part). At (state_of run) run.buffers l) (sym (append-nil parts)) at
@@ -291,7 +291,7 @@ module _ (on : EventsLeadOn) (add : EventsAddThis) where
   forget_act : (s : AgentState) (group : Group) (buffers : List (Buffer Leased)) (parts : List Part) → At s buffers parts → At (forget_group group s) buffers parts
   forget_act s group buffers parts at = record { places = at.places; order = at.order; firm = at.firm; many = at.many; pages = at.pages }
 
-  offer_act : (run : Run Leased) (answer : Answered) (back : Option (Buffer Leased)) (parts : List Part) (buffer : Buffer Leased) → offered_next run ≡ Some buffer → ComesBack buffer answer back → At (state_of run) run.buffers parts
+  offer_act : (run : AgentRun Leased) (answer : Answered) (back : Option (Buffer Leased)) (parts : List Part) (buffer : Buffer Leased) → offered_next run ≡ Some buffer → ComesBack buffer answer back → At (state_of run) run.buffers parts
       → At (after_event run.settings run.node (state_of run) (Gave answer)) (after_act run (LetsGo answer back)).buffers (parts ++ option_to_list (part_at run (LetsGo answer back)))
   offer_act run answer back parts buffer next comes at = go answer back comes
     where
@@ -328,7 +328,7 @@ module _ (on : EventsLeadOn) (add : EventsAddThis) where
           (stays_first run.settings run.node s run.buffers parts at first (after_event run.settings run.node s (Gave Unread)) (event_from run.settings run.node s (Gave Unread) at.places) refl refl refl
           (fold-append back_after false s.log (journal.Unread ∷ [])) later (lease ∙ ap (λ (b : Buffer Leased). b.lease) same_buffer) (option_to_list (part_at run (LetsGo Unread (Some later)))) (page_is Unread (Some later))))
 
-  act_at : (run : Run Leased) (act : Act) (parts : List Part) → IsBackAt run act → At (state_of run) run.buffers parts
+  act_at : (run : AgentRun Leased) (act : IntakeAct) (parts : List Part) → IsBackAt run act → At (state_of run) run.buffers parts
       → At (state_of (after_act run act)) (after_act run act).buffers (parts ++ option_to_list (part_at run act))
   act_at run (TakesChunk client buffer) parts back at =
       input_act run (after_act run (TakesChunk client buffer)) parts (steps.Chunk client (sheet_in buffer)) (buffer ∷ []) (took run (steps.Chunk client (sheet_in buffer))) refl refl at
@@ -343,7 +343,7 @@ module _ (on : EventsLeadOn) (add : EventsAddThis) where
   act_at run (Forgets group) parts back at =
       subst (λ (l : List Part). At (forget_group group (state_of run)) run.buffers l) (sym (append-nil parts)) (forget_act (state_of run) group run.buffers parts at)
 
-  acts_at : (acts : List Act) (run : Run Leased) (parts : List Part) → AreBack run acts → At (state_of run) run.buffers parts
+  acts_at : (acts : List IntakeAct) (run : AgentRun Leased) (parts : List Part) → AreBack run acts → At (state_of run) run.buffers parts
       → At (state_of (life run acts)) (life run acts).buffers (parts ++ parts_in run acts)
   acts_at [] run parts back at = subst (λ (l : List Part). At (state_of run) run.buffers l) (sym (append-nil parts)) at
   acts_at (act ∷ acts) run parts (back, others) at =
@@ -411,7 +411,7 @@ each_page taken buffers many (x ∷ xs) = go (stands is_reported taken x) refl (
         ∙ ap (λ (o : Option PlainReported). o ∷ map (report_in taken buffers) (filter (stands is_reported taken) xs)) (sym page.1)
     go false is rest = rest
 
-pub first_reports : EventsLeadOn → EventsAddThis → (settings : PlainSettings) (node : ℕ) (acts : List Act) → AreBack (bare_run settings node) acts
+pub first_reports : EventsLeadOn → EventsAddThis → (settings : PlainSettings) (node : ℕ) (acts : List IntakeAct) → AreBack (bare_run settings node) acts
     → AreFirst (run_by settings node acts) (pages_in (parts_in (bare_run settings node) acts))
 first_reports on add settings node acts backs =
     let run = run_by settings node acts in

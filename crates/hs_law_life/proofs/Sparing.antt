@@ -19,24 +19,24 @@ use Rattle.hs_law_agent.specs.Laws.{EventsAddThis, claiming_group, sheets_of}
 use Rattle.hs_law_agent.specs.Lives.{ClaimsStand, EventsLeadOn, IsGood, LivesGoOnWell, NothingClaimedGoes}
 use Rattle.hs_law_agent.specs.Lives as model
 use Rattle.hs_agent.specs.Points.{sheet_in}
-use Rattle.hs_agent.specs.Runs.{Run, bare_run, state_of}
+use Rattle.hs_agent.specs.Runs.{AgentRun, bare_run, state_of}
 use Rattle.hs_agent.specs.Tries.{after_trigger}
-use Rattle.hs_intake.specs.Intakes.{Act, TakesChunk, TakesCrumb, TakesTrigger, TakesAsk, Turns, LetsGo, Forgets, after_act, life, has_left}
+use Rattle.hs_intake.specs.Intakes.{IntakeAct, TakesChunk, TakesCrumb, TakesTrigger, TakesAsk, Turns, LetsGo, Forgets, after_act, life, has_left}
 use Rattle.hs_intake.proofs.Acts.{life_append}
 use Rattle.hs_law_life.specs.NodeLives.{AreSettled, IsSettledAt, model_of, takings, page_of, run_by, state_by, Keeps, IsSpared}
 use Rattle.hs_law_life.proofs.Acts.{settings_kept, state_step, good_life, good_by, act_pages}
 
 -- ---- settled acts in two parts
 
-pub settled_front : (xs ys : List Act) (run : Run Leased) → AreSettled run (xs ++ ys) → AreSettled run xs
+pub settled_front : (xs ys : List IntakeAct) (run : AgentRun Leased) → AreSettled run (xs ++ ys) → AreSettled run xs
 settled_front [] ys run settled = tt
 settled_front (x ∷ xs) ys run settled = (settled.0, settled_front xs ys (after_act run x) settled.1)
 
-pub settled_back : (xs ys : List Act) (run : Run Leased) → AreSettled run (xs ++ ys) → AreSettled (life run xs) ys
+pub settled_back : (xs ys : List IntakeAct) (run : AgentRun Leased) → AreSettled run (xs ++ ys) → AreSettled (life run xs) ys
 settled_back [] ys run settled = settled
 settled_back (x ∷ xs) ys run settled = settled_back xs ys (after_act run x) settled.1
 
-pub settled_both : (xs ys : List Act) (run : Run Leased) → AreSettled run xs → AreSettled (life run xs) ys → AreSettled run (xs ++ ys)
+pub settled_both : (xs ys : List IntakeAct) (run : AgentRun Leased) → AreSettled run xs → AreSettled (life run xs) ys → AreSettled run (xs ++ ys)
 settled_both [] ys run first second = second
 settled_both (x ∷ xs) ys run first second = (first.0, settled_both xs ys (after_act run x) first.1 second)
 
@@ -72,7 +72,7 @@ keeps_trigger : (group : Group) (client : ℕ) (trigger : Trigger) (b : Bool) �
 keeps_trigger group client trigger true = (tt, tt)
 keeps_trigger group client trigger false = tt
 
-keeps_by : (group : Group) (run : Run Leased) (act : Act) → Keeps group act → AllByRecursion (model.Keeps group) (model_of run act)
+keeps_by : (group : Group) (run : AgentRun Leased) (act : IntakeAct) → Keeps group act → AllByRecursion (model.Keeps group) (model_of run act)
 keeps_by group run (TakesChunk client buffer) keeps = (tt, tt)
 keeps_by group run (TakesCrumb client crumb) keeps = (tt, tt)
 keeps_by group run (TakesTrigger client trigger) keeps = keeps_trigger group client trigger (has_left run)
@@ -81,7 +81,7 @@ keeps_by group run Turns keeps = (tt, tt)
 keeps_by group run (LetsGo answer back) keeps = (tt, tt)
 keeps_by group run (Forgets other) keeps = (keeps, tt)
 
-module _ (spares : NothingClaimedGoes) (on : EventsLeadOn) (run : Run Leased) (good : IsGood run.settings (state_of run)) (trace : TraceId) (place : ℕ)
+module _ (spares : NothingClaimedGoes) (on : EventsLeadOn) (run : AgentRun Leased) (good : IsGood run.settings (state_of run)) (trace : TraceId) (place : ℕ)
     (of : is_of_trace (state_of run).taken trace place ≡ true) (claimed : is_claimed (state_of run).claims trace ≡ true) where
   abbrev SameAt : AgentState → Type 0
   SameAt state = stands is_evicted state.taken place ≡ stands is_evicted (state_of run).taken place
@@ -91,7 +91,7 @@ module _ (spares : NothingClaimedGoes) (on : EventsLeadOn) (run : Run Leased) (g
       ap (λ (s : AgentState). stands is_evicted s.taken place) (on run.settings run.node run.start run.events (event ∷ []))
       ∙ (spares run.settings run.node (state_of run) good).events event place trace of claimed
 
-  act_spares : (act : Act) → SameAt (state_of (after_act run act))
+  act_spares : (act : IntakeAct) → SameAt (state_of (after_act run act))
   act_spares (TakesChunk client buffer) = event_spares (Took (steps.Chunk client (sheet_in buffer)))
   act_spares (TakesCrumb client crumb) = event_spares (Took (steps.Crumbed client crumb))
   act_spares (TakesTrigger client trigger) = go (has_left run)
@@ -107,7 +107,7 @@ module _ (spares : NothingClaimedGoes) (on : EventsLeadOn) (run : Run Leased) (g
 -- ---- any acts
 
 module _ (well : LivesGoOnWell) (on : EventsLeadOn) (add : EventsAddThis) (spares : NothingClaimedGoes) (stand : ClaimsStand) (trace : TraceId) (group : Group) where
-  spared_one : (run : Run Leased) (act : Act) → IsGood run.settings (state_of run) → IsSettledAt run act → Keeps group act → claiming_group (state_of run).claims trace ≡ Some group
+  spared_one : (run : AgentRun Leased) (act : IntakeAct) → IsGood run.settings (state_of run) → IsSettledAt run act → Keeps group act → claiming_group (state_of run).claims trace ≡ Some group
       → IsSpared trace group (state_of run) (state_of (after_act run act))
   spared_one run act good settled keeps claim =
       record {
@@ -117,7 +117,7 @@ module _ (well : LivesGoOnWell) (on : EventsLeadOn) (add : EventsAddThis) (spare
         unevicted = λ place of. act_spares spares on run good trace place of (claimed_by_group (state_of run).claims trace group claim) act;
       }
 
-  spared_all : (acts : List Act) (run : Run Leased) → IsGood run.settings (state_of run) → AreSettled run acts → AllByRecursion (Keeps group) acts → claiming_group (state_of run).claims trace ≡ Some group
+  spared_all : (acts : List IntakeAct) (run : AgentRun Leased) → IsGood run.settings (state_of run) → AreSettled run acts → AllByRecursion (Keeps group) acts → claiming_group (state_of run).claims trace ≡ Some group
       → IsSpared trace group (state_of run) (state_of (life run acts))
   spared_all [] run good settled keeps claim = record { claim = claim; unevicted = λ place of. refl }
   spared_all (act ∷ acts) run good settled keeps claim =
@@ -135,16 +135,16 @@ module _ (well : LivesGoOnWell) (on : EventsLeadOn) (add : EventsAddThis) (spare
             ∙ one.unevicted place of;
       }
 
-settings_of_life : (acts : List Act) (run : Run Leased) → (life run acts).settings ≡ run.settings
+settings_of_life : (acts : List IntakeAct) (run : AgentRun Leased) → (life run acts).settings ≡ run.settings
 settings_of_life [] run = refl
 settings_of_life (act ∷ acts) run = settings_of_life acts (after_act run act) ∙ settings_kept run act
 
-pub spared_by : LivesGoOnWell → EventsLeadOn → EventsAddThis → NothingClaimedGoes → ClaimsStand → (settings : PlainSettings) (node : ℕ) (acts later : List Act) (trace : TraceId) (group : Group)
+pub spared_by : LivesGoOnWell → EventsLeadOn → EventsAddThis → NothingClaimedGoes → ClaimsStand → (settings : PlainSettings) (node : ℕ) (acts later : List IntakeAct) (trace : TraceId) (group : Group)
     → AreSettled (bare_run settings node) (acts ++ later) → AllByRecursion (Keeps group) later → claiming_group (state_by settings node acts).claims trace ≡ Some group
     → IsSpared trace group (state_by settings node acts) (state_by settings node (acts ++ later))
 spared_by well on add spares stand settings node acts later trace group settled keeps claim =
     let good = good_by well on settings node acts (settled_front acts later (bare_run settings node) settled) in
     let good' : IsGood (run_by settings node acts).settings (state_by settings node acts) =
     subst (λ (s : PlainSettings). IsGood s (state_by settings node acts)) (sym (settings_of_life acts (bare_run settings node))) good in
-    subst (λ (r : Run Leased). IsSpared trace group (state_by settings node acts) (state_of r)) (sym (life_append acts later (bare_run settings node)))
+    subst (λ (r : AgentRun Leased). IsSpared trace group (state_by settings node acts) (state_of r)) (sym (life_append acts later (bare_run settings node)))
     (spared_all well on add spares stand trace group later (run_by settings node acts) good' (settled_back acts later (bare_run settings node) settled) keeps claim)

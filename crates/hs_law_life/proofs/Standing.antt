@@ -10,7 +10,7 @@ use Rattle.hs_records.specs.Plain.{Operation, Begin}
 use Rattle.hs_records.specs.Pages.{pages_of}
 use Rattle.hs_records.specs.Laws.{PagesHoldThePieces}
 use Rattle.hs_law_sends.specs.OneMore.{open_after}
-use Rattle.hs_client.specs.Core.{Core, Step, handed, all_pages}
+use Rattle.hs_client.specs.Core.{Core, CoreStep, handed, all_pages}
 use Rattle.hs_client.specs.Calls.{AreSteps, IsBook, filled_chunks, note_of, pages_of_steps}
 use Rattle.hs_words.specs.Ends.{Answer}
 use Rattle.hs_link.specs.Contents.{Incoming, Contains, sent}
@@ -58,7 +58,7 @@ new limits rules id drawer client sizes is = (subst (λ size. MIN_SIZE ≤ size)
 
 -- the book of any steps of a core
 abbrev pub Books : Type 0
-Books = (made : Made) (steps : List (Step Leased)) → AreSteps (new_of made) steps → IsBook (new_of made) steps
+Books = (made : Made) (steps : List (CoreStep Leased)) → AreSteps (new_of made) steps → IsBook (new_of made) steps
 
 abbrev pub Sends : Type 0
 Sends = (made : Made) (ops : List Operation) (client : PlainClient) → HasDone made ops client → HasSent made ops client

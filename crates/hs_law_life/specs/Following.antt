@@ -7,14 +7,14 @@ use Rattle.hs_client.specs.Core.{handed}
 use Rattle.hs_ring.specs.Parts.{Leased}
 use Rattle.hs_live.specs.Live.{PlainClient}
 use Rattle.hs_node_client.specs.Lives.{ClientLife}
-use Rattle.hs_intake.specs.Intakes.{PlainIntake, Act}
+use Rattle.hs_intake.specs.Intakes.{PlainIntake, IntakeAct}
 use Rattle.hs_law_life.specs.ClientLives.{AllStand}
 use Rattle.hs_law_life.specs.NodeLives.{chunks_of, front_of, state_by, IsFound, IsWell}
 
 -- The chunks of the life of the client with this number, where these are the acts of its node's agent: those that the agent took, then the one that
 -- waits at the front, then those in the link's ring, then those in the client's outbox, and last the one that is written. Each that was taken has its
 -- fate in the agent's model.
-pub record IsFollowed (life : ClientLife) (client : PlainClient) (number : ℕ) (settings : PlainSettings) (node : ℕ) (acts : List Act) (d : PlainIntake) : Type 0 where
+pub record IsFollowed (life : ClientLife) (client : PlainClient) (number : ℕ) (settings : PlainSettings) (node : ℕ) (acts : List IntakeAct) (d : PlainIntake) : Type 0 where
   pub ring : List (Buffer Leased)
   pub put : client.chunks.put ≡ chunks_of number acts ++ (front_of number d ++ ring)
   pub stand : AllStand life client.drawer.answers (chunks_of number acts ++ (front_of number d ++ (ring ++ (client.chunks.outbox ++ option_to_list (handed client.core)))))

@@ -20,20 +20,20 @@ use Rattle.hs_law_agent.specs.Lives.{is_settled, IsGood}
 use Rattle.hs_law_agent.specs.Lives as model
 use Rattle.hs_law_agent.specs.Samples.{settings_with, chunk, trigger, group}
 use Rattle.hs_agent.specs.Points.{sheet_in}
-use Rattle.hs_agent.specs.Runs.{Run, bare_run, state_of}
-use Rattle.hs_intake.specs.Intakes.{PlainIntake, Act, TakesChunk, TakesCrumb, TakesTrigger, TakesAsk, Turns, LetsGo, Forgets, after_act, life, has_left, acts_in, Stands}
+use Rattle.hs_agent.specs.Runs.{AgentRun, bare_run, state_of}
+use Rattle.hs_intake.specs.Intakes.{PlainIntake, IntakeAct, TakesChunk, TakesCrumb, TakesTrigger, TakesAsk, Turns, LetsGo, Forgets, after_act, life, has_left, acts_in, Stands}
 
 -- ---- acts in the agent's model
 
 -- the run of a node's agent after these acts, and its state
-abbrev pub run_by : PlainSettings → ℕ → List Act → Run Leased
+abbrev pub run_by : PlainSettings → ℕ → List IntakeAct → AgentRun Leased
 run_by settings node acts = life (bare_run settings node) acts
 
-abbrev pub state_by : PlainSettings → ℕ → List Act → AgentState
+abbrev pub state_by : PlainSettings → ℕ → List IntakeAct → AgentState
 state_by settings node acts = state_of (run_by settings node acts)
 
 -- A group that an act forgets has no pinned chunk.
-abbrev pub IsSettledAt : Run Leased → Act → Type 0
+abbrev pub IsSettledAt : AgentRun Leased → IntakeAct → Type 0
 IsSettledAt run (TakesChunk client buffer) = Unit {0}
 IsSettledAt run (TakesCrumb client crumb) = Unit {0}
 IsSettledAt run (TakesTrigger client trigger) = Unit {0}
@@ -42,12 +42,12 @@ IsSettledAt run Turns = Unit {0}
 IsSettledAt run (LetsGo answer back) = Unit {0}
 IsSettledAt run (Forgets group) = is_settled group (state_of run) ≡ true
 
-abbrev pub AreSettled : Run Leased → List Act → Type 0
+abbrev pub AreSettled : AgentRun Leased → List IntakeAct → Type 0
 AreSettled run [] = Unit {0}
 AreSettled run (act ∷ acts) = IsSettledAt run act × AreSettled (after_act run act) acts
 
 -- An act is one of the model, or none: a trigger for which no number is left is not seen.
-abbrev pub model_of : Run Leased → Act → List model.Act
+abbrev pub model_of : AgentRun Leased → IntakeAct → List model.Act
 model_of run (TakesChunk client buffer) = model.Does (Took (steps.Chunk client (sheet_in buffer))) ∷ []
 model_of run (TakesCrumb client crumb) = model.Does (Took (steps.Crumbed client crumb)) ∷ []
 model_of run (TakesTrigger client trigger) = if has_left run then model.Does (Took (steps.Triggered client trigger)) ∷ [] else []
@@ -56,7 +56,7 @@ model_of run Turns = model.Does (Took steps.Turn) ∷ []
 model_of run (LetsGo answer back) = model.Does (Gave answer) ∷ []
 model_of run (Forgets group) = model.Forgets group ∷ []
 
-abbrev pub model_in : Run Leased → List Act → List model.Act
+abbrev pub model_in : AgentRun Leased → List IntakeAct → List model.Act
 model_in run [] = []
 model_in run (act ∷ acts) = model_of run act ++ model_in (after_act run act) acts
 
@@ -66,7 +66,7 @@ pub record Taking : Type 0 where
   pub client : ℕ
   pub buffer : Buffer Leased
 
-abbrev pub taking_of : Act → Option Taking
+abbrev pub taking_of : IntakeAct → Option Taking
 taking_of (TakesChunk client buffer) = Some (record { client = client; buffer = buffer })
 taking_of (TakesCrumb client crumb) = None
 taking_of (TakesTrigger client trigger) = None
@@ -76,7 +76,7 @@ taking_of (LetsGo answer back) = None
 taking_of (Forgets group) = None
 
 -- the chunks that acts take, in order
-abbrev pub takings : List Act → List Taking
+abbrev pub takings : List IntakeAct → List Taking
 takings acts = filter_map taking_of acts
 
 abbrev pub page_of : Taking → Sheet
@@ -86,7 +86,7 @@ page_of taking = sheet_in taking.buffer
 abbrev pub of_client : ℕ → Taking → Option (Buffer Leased)
 of_client client taking = if taking.client == client then Some taking.buffer else None
 
-abbrev pub chunks_of : ℕ → List Act → List (Buffer Leased)
+abbrev pub chunks_of : ℕ → List IntakeAct → List (Buffer Leased)
 chunks_of client acts = filter_map (of_client client) (takings acts)
 
 -- the chunk of a client that waits at the front, if one does
@@ -101,7 +101,7 @@ received_of client d = option_map_or (λ (r : Incoming (Buffer Leased) Key). r.r
 
 -- These are the acts of the agent since the node was made: the node stands where they lead, each group was settled when it was forgotten, and of
 -- each client the chunks that came are those that were taken, and then the one that waits at the front.
-pub record HasLived (settings : PlainSettings) (node : ℕ) (acts : List Act) (d : PlainIntake) : Type 0 where
+pub record HasLived (settings : PlainSettings) (node : ℕ) (acts : List IntakeAct) (d : PlainIntake) : Type 0 where
   pub stands : Stands (run_by settings node acts) d
   pub settled : AreSettled (bare_run settings node) acts
   pub took : (client : ℕ) → received_of client d ≡ chunks_of client acts ++ front_of client d
@@ -131,14 +131,14 @@ pub record IsFound (settings : PlainSettings) (state : AgentState) (place : ℕ)
 
 -- What the agent did is a life of its model, which leads to a good state. The model's chunks are those that were taken, in order, and each has its
 -- fate.
-pub record IsWell (settings : PlainSettings) (node : ℕ) (acts : List Act) : Type 0 where
+pub record IsWell (settings : PlainSettings) (node : ℕ) (acts : List IntakeAct) : Type 0 where
   pub model_is : state_by settings node acts ≡ model.life settings node (model_in (bare_run settings node) acts)
   pub good : IsGood settings (state_by settings node acts)
   pub pages : sheets_of (state_by settings node acts).taken ≡ map page_of (takings acts)
   pub each : (place : ℕ) (taking : Taking) → slice_get (takings acts) place ≡ Some taking → IsFound settings (state_by settings node acts) place taking
 
 -- An act does not forget the group.
-abbrev pub Keeps : Group → Act → Type 0
+abbrev pub Keeps : Group → IntakeAct → Type 0
 Keeps group (TakesChunk client buffer) = Unit {0}
 Keeps group (TakesCrumb client crumb) = Unit {0}
 Keeps group (TakesTrigger client trigger) = Unit {0}
@@ -155,14 +155,14 @@ pub record IsSpared (trace : TraceId) (group : Group) (old new : AgentState) : T
 -- ---- examples
 
 -- of two clients' chunks, each has its own
-abbrev three : Buffer Leased → List Act
+abbrev three : Buffer Leased → List IntakeAct
 three buffer = TakesChunk 1 buffer ∷ Turns ∷ TakesChunk 2 buffer ∷ TakesChunk 1 buffer ∷ []
 
 each_its_own : (buffer : Buffer Leased) → (chunks_of 1 (three buffer) ≡ buffer ∷ buffer ∷ []) × (chunks_of 2 (three buffer) ≡ buffer ∷ []) × (chunks_of 0 (three buffer) ≡ [])
 each_its_own buffer = (refl, refl, refl)
 
 -- a group is forgotten in a life only where it is settled
-settled_first : (run : Run Leased) (group : Group) → AreSettled run (Turns ∷ Forgets group ∷ []) → is_settled group (state_of (after_act run Turns)) ≡ true
+settled_first : (run : AgentRun Leased) (group : Group) → AreSettled run (Turns ∷ Forgets group ∷ []) → is_settled group (state_of (after_act run Turns)) ≡ true
 settled_first run group settled = settled.1.0
 
 -- a chunk of a trace that nobody claims is indexed, and one of a claimed trace is pinned for the group

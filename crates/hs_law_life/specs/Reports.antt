@@ -10,9 +10,9 @@ use Rattle.hs_law_agent.specs.Laws.{given_places}
 use Rattle.hs_law_agent.specs.Stepping.{AgentEvent, Answered, Given, Missed, Unread, after}
 use Rattle.hs_law_agent.specs.Samples.{settings_with, chunk, trigger, turned, missed, given}
 use Rattle.hs_agent.specs.Leaving.{came_back}
-use Rattle.hs_agent.specs.Runs.{Run, offered_next, state_of}
+use Rattle.hs_agent.specs.Runs.{AgentRun, offered_next, state_of}
 use Rattle.hs_intake.specs.Handing.{page_if}
-use Rattle.hs_intake.specs.Intakes.{Act, TakesChunk, TakesCrumb, TakesTrigger, TakesAsk, Turns, LetsGo, Forgets, after_act}
+use Rattle.hs_intake.specs.Intakes.{IntakeAct, TakesChunk, TakesCrumb, TakesTrigger, TakesAsk, Turns, LetsGo, Forgets, after_act}
 
 -- ---- what was offered
 
@@ -37,11 +37,11 @@ abbrev pub report_in : List Taken → List (Buffer Leased) → ℕ → Option Pl
 report_in taken buffers place =
     option_and_then (λ (chunk : Taken). option_and_then (λ (buffer : Buffer Leased). page_if chunk.standing buffer.lease.mark chunk.sheet) (slice_get buffers place)) (slice_get taken place)
 
-abbrev pub report_at : Run Leased → ℕ → Option PlainReported
+abbrev pub report_at : AgentRun Leased → ℕ → Option PlainReported
 report_at run place = report_in (state_of run).taken run.buffers place
 
 -- The model's reports are those that were offered and then those that wait in the hand. Each of the first ones has its page, and these are the pages.
-pub record AreFirst (run : Run Leased) (pages : List PlainReported) : Type 0 where
+pub record AreFirst (run : AgentRun Leased) (pages : List PlainReported) : Type 0 where
   pub reports : (state_of run).reported ≡ reported_among (state_of run) (offered_of (state_of run)) ++ reported_among (state_of run) (waiting_of (state_of run))
   pub pages_are : map Some pages ≡ map (report_at run) (reported_among (state_of run) (offered_of (state_of run)))
 
@@ -53,7 +53,7 @@ ComesBack buffer (Given stamp) back = back ≡ None
 ComesBack buffer (Missed stamp) back = (later : Buffer Leased) × (back ≡ Some later) × (later.lease ≡ buffer.lease)
 ComesBack buffer Unread back = (later : Buffer Leased) × (back ≡ Some later) × (later.lease ≡ buffer.lease)
 
-abbrev pub IsBackAt : Run Leased → Act → Type 0
+abbrev pub IsBackAt : AgentRun Leased → IntakeAct → Type 0
 IsBackAt run (TakesChunk client buffer) = Unit {0}
 IsBackAt run (TakesCrumb client crumb) = Unit {0}
 IsBackAt run (TakesTrigger client trigger) = Unit {0}
@@ -63,7 +63,7 @@ IsBackAt run (LetsGo answer back) = (buffer : Buffer Leased) × (offered_next ru
 IsBackAt run (Forgets group) = Unit {0}
 
 -- At each of these acts that offers a chunk, there is one in the hand, which is given or comes back so.
-abbrev pub AreBack : Run Leased → List Act → Type 0
+abbrev pub AreBack : AgentRun Leased → List IntakeAct → Type 0
 AreBack run [] = Unit {0}
 AreBack run (act ∷ acts) = IsBackAt run act × AreBack (after_act run act) acts
 

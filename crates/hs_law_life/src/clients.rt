@@ -21,8 +21,8 @@ ghost use Rattle.hs_node_client.specs.Fitting.{AreSizes};
 ghost use Rattle.hs_node_client.specs.Lives.{ClientLife, HasLife, Turns, with_op};
 ghost use Rattle.hs_node_client.specs.Making.{IsNewClient, PlainRules};
 ghost use Rattle.hs_node_client.specs.Paging.{place_in};
-ghost use Rattle.hs_node_client.specs.declared.called.Called.{Called};
-ghost use Rattle.hs_node_client.specs.declared.called.Called.TheVariants.{Done};
+ghost use Rattle.hs_node_client.specs.declared.answers.CallAnswer.{CallAnswer};
+ghost use Rattle.hs_node_client.specs.declared.answers.CallAnswer.TheVariants.{Done};
 ghost use Rattle.hs_node_client.specs.declared.limits.ClientLimits.{ClientLimits};
 ghost use Rattle.hs_node_client.specs.declared.segment.SegmentState.{SegmentState};
 ghost use Rattle.hs_node_client.specs.declared.segment.SegmentState.TheVariants.{Opened};
@@ -73,11 +73,11 @@ pub fn points_stand_on_pages()
 
 /// No call but a begin changes the sum of the null pages of a client's earlier cores.
 pub fn other_calls_keep_the_sum_of_null_pages()
-    ensures point { (by : Called) (old new : PlainNodeClient) → new.tally ≡ with_point by old.tally → KeepsNulls old new }
-    ensures crumb { (node : NodeId) (by : Called) (old new : PlainNodeClient) → new.tally ≡ with_crumb_called node by old.tally → KeepsNulls old new }
+    ensures point { (by : CallAnswer) (old new : PlainNodeClient) → new.tally ≡ with_point by old.tally → KeepsNulls old new }
+    ensures crumb { (node : NodeId) (by : CallAnswer) (old new : PlainNodeClient) → new.tally ≡ with_crumb_called node by old.tally → KeepsNulls old new }
     ensures late { (trace : TraceId) (state : SegmentState) (old new : PlainNodeClient) → NotesLate trace state old old.tally new → KeepsNulls old new }
     ensures refused { (trace : TraceId) (state : SegmentState) (old new : PlainNodeClient) → NotesLate trace state old (with_refused_late old.tally) new → KeepsNulls old new }
-    ensures trigger { (by : Called) (old new : PlainNodeClient) → new.tally ≡ if_full by with_refused_trigger old.tally → KeepsNulls old new }
+    ensures trigger { (by : CallAnswer) (old new : PlainNodeClient) → new.tally ≡ if_full by with_refused_trigger old.tally → KeepsNulls old new }
     ensures end { (old new : PlainNodeClient) → answers.EndsBy old.live Done new.live → NotesEnd old new → KeepsNulls old new }
 {}
 

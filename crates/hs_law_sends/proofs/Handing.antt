@@ -4,7 +4,7 @@ use Rattle.std.proofs.Common.{◌≡◌, ℕ, suc, ◌+◌, Bool, true, false, c
 use Rattle.hs_law_sends.proofs.Prelude.{is_some, flat_map, append-nil, ClientId, TraceId, sheet_for, Draw, PlainPage, segment_pages, pages_of, Sheet, drawn_from, sent_chunks, has_open_page, FirstOperationsSend, FirstChunksAreSent, pages_within, TimedPage, timed_pages}
 use Rattle.std.specs.Option.{option_to_list, option_and_then}
 use Rattle.hs_client.specs.Calls.{IsBook, AreSteps, after, pages_of_steps, draws_supplied, chunks_supplied, handed_out, filled, filled_chunks}
-use Rattle.hs_client.specs.Core.{Core, Current, Step, Began, Wrote, Needed, Supplied, Ended_, Refused, new_core, handed, draw_of}
+use Rattle.hs_client.specs.Core.{Core, Current, CoreStep, Began, Wrote, Needed, Supplied, Ended_, Refused, new_core, handed, draw_of}
 use Rattle.hs_words.specs.Buffers.{Buffer}
 use Rattle.hs_law_sends.specs.Drawn.{has_buffer}
 use Rattle.hs_law_sends.specs.HandedOut.{CoresHandOutSoFar, sheets_in, sheets_of_items}
@@ -59,7 +59,7 @@ module _ {L : Type 0} where
   none_keeps : (supplied : List (Option (Buffer L))) → Keeps supplied None
   none_keeps supplied c is = let no : None ≡ Some c = is in absurd cc
 
-  last_kept : (client : ClientId) (size calls : ℕ) (steps : List (Step L)) → Keeps (chunks_supplied steps) (after (new_core client size calls) steps).current
+  last_kept : (client : ClientId) (size calls : ℕ) (steps : List (CoreStep L)) → Keeps (chunks_supplied steps) (after (new_core client size calls) steps).current
   last_kept client size calls [] = none_keeps []
   last_kept client size calls (Began trace ∷ earlier) = last_kept client size calls earlier
   last_kept client size calls (Wrote moment payload more ∷ earlier) =
@@ -89,7 +89,7 @@ module _ {L : Type 0} where
   more_agree (b ∷ buffers) [] buffer draw h one = absurd h
   more_agree (b ∷ buffers) (d ∷ draws) buffer draw h one = (h.0, more_agree buffers draws buffer draw h.1 one)
 
-  all_agree : (steps : List (Step L)) → Agree (chunks_supplied steps) (draws_supplied steps)
+  all_agree : (steps : List (CoreStep L)) → Agree (chunks_supplied steps) (draws_supplied steps)
   all_agree [] = tt
   all_agree (Supplied buffer stamp moment payload more ∷ earlier) = more_agree (chunks_supplied earlier) (draws_supplied earlier) buffer (draw_of buffer stamp) (all_agree earlier) (one_agrees buffer stamp)
   all_agree (Began trace ∷ earlier) = all_agree earlier
@@ -126,7 +126,7 @@ module _ {L : Type 0} where
       (filled_last client (number + 1) pages page before last (omega (arith, e))
       ∙ ap (λ (n : ℕ). filled_chunks client (number + 1) pages (before ++ last ∷ []) ++ option_to_list (option_map (filled client n page) last)) more)
 
-  module _ (client : ClientId) (size calls : ℕ) (steps : List (Step L)) where
+  module _ (client : ClientId) (size calls : ℕ) (steps : List (CoreStep L)) where
     abbrev core : Core L
     core = after (new_core client size calls) steps
 
@@ -181,7 +181,7 @@ module _ {L : Type 0} where
   same_count (buffer ∷ buffers) (draw ∷ draws) h = ap suc (same_count buffers draws h.1)
 
   -- without the page that is with the core, if one is
-  handed_is : (client : ClientId) (size calls : ℕ) (steps : List (Step L)) (all pages kept : List PlainPage) (is_open : Bool) → Whole client size calls steps all → length (chunks_supplied steps) ≡ length all → all ≡ pages ++ kept
+  handed_is : (client : ClientId) (size calls : ℕ) (steps : List (CoreStep L)) (all pages kept : List PlainPage) (is_open : Bool) → Whole client size calls steps all → length (chunks_supplied steps) ≡ length all → all ≡ pages ++ kept
       → length kept ≡ cond is_open 1 0 → is_some (core client size calls steps).current ≡ is_open → out client size calls steps ≡ filled_chunks client 0 pages (chunks_supplied steps)
   handed_is client size calls steps all pages kept true whole each are one some =
       let last = one_page kept one in
@@ -191,7 +191,7 @@ module _ {L : Type 0} where
       let whole_is : all ≡ pages = are ∙ ap (λ (kept : List PlainPage). pages ++ kept) (no_page kept one) ∙ append-nil pages in
       none_with_core client size calls steps pages (whole ∙ ap (λ (all : List PlainPage). filled_chunks client 0 all (chunks_supplied steps)) whole_is) some
 
-  pub cores_hand_out_so_far : ((client : ClientId) (size calls : ℕ) (steps : List (Step L)) → AreSteps (new_core client size calls) steps → IsBook (new_core client size calls) steps) → FirstOperationsSend → FirstChunksAreSent
+  pub cores_hand_out_so_far : ((client : ClientId) (size calls : ℕ) (steps : List (CoreStep L)) → AreSteps (new_core client size calls) steps → IsBook (new_core client size calls) steps) → FirstOperationsSend → FirstChunksAreSent
       → CoresHandOutSoFar L
   cores_hand_out_so_far books sends first client size calls front rest steps least h are =
       let n = length front in

@@ -4,7 +4,7 @@ use Rattle.std.specs.Prelude.{◌≡◌, ℕ, ◌≤◌, false, List, [], ◌∷
 use Rattle.hs_base.specs.declared.ids.ClientId.{ClientId}
 use Rattle.hs_base.specs.declared.limits.TheConstants.{MIN_SIZE}
 use Rattle.hs_client.specs.Calls.{AreSteps, after, segments_of_steps, draws_supplied, chunks_supplied, handed_out, filled_chunks, t1, clear, new_64}
-use Rattle.hs_client.specs.Core.{Core, Step, Began, Needed, Supplied, Ended_, new_core}
+use Rattle.hs_client.specs.Core.{Core, CoreStep, Began, Needed, Supplied, Ended_, new_core}
 use Rattle.hs_records.specs.declared.journal.Draw.{Draw}
 use Rattle.hs_records.specs.Plain.{Operation, Point, End}
 use Rattle.hs_records.specs.Records.{AreBracketed, segments_of}
@@ -17,7 +17,7 @@ use Rattle.hs_law_sends.specs.SoFar.{has_open_page, started_within, pages_within
 use Rattle.hs_law_sends.specs.Timing.{TimedPage, timed_pages}
 
 -- These steps of a new core, the last of which stands first, have recorded these operations, and each page that was needed was drawn for.
-pub record HaveRecorded {L : Type 0} (new : Core L) (ops : List Operation) (steps : List (Step L)) : Type 0 where
+pub record HaveRecorded {L : Type 0} (new : Core L) (ops : List Operation) (steps : List (CoreStep L)) : Type 0 where
   pub may : AreSteps new steps
   pub segments : reverse (segments_of_steps steps) ≡ segments_of new.size ops
   -- the core has a page exactly where a trace is open that has a point
@@ -32,7 +32,7 @@ abbrev pub sheets_of_items : List (Sent Sheet) → List (Option Sheet)
 sheets_of_items items = map (λ (item : Sent Sheet). Some item.item) items
 
 -- What such steps have drawn and handed out, where further operations follow.
-pub record HandsOutSoFar {L : Type 0} (client : ClientId) (size calls : ℕ) (front rest : List Operation) (steps : List (Step L)) : Type 0 where
+pub record HandsOutSoFar {L : Type 0} (client : ClientId) (size calls : ℕ) (front rest : List Operation) (steps : List (CoreStep L)) : Type 0 where
   -- one draw for each page that the first operations start
   pub drawn : length (draws_supplied steps) ≡ length (started_within (length front) (timed_pages size (front ++ rest)))
   -- the chunks of the pages that they send, each filled with its page
@@ -44,7 +44,7 @@ pub record HandsOutSoFar {L : Type 0} (client : ClientId) (size calls : ℕ) (fr
 
 abbrev pub CoresHandOutSoFar : Type 0 → Type 0
 CoresHandOutSoFar L =
-    (client : ClientId) (size calls : ℕ) (front rest : List Operation) (steps : List (Step L)) → MIN_SIZE ≤ size → AreBracketed false (front ++ rest)
+    (client : ClientId) (size calls : ℕ) (front rest : List Operation) (steps : List (CoreStep L)) → MIN_SIZE ≤ size → AreBracketed false (front ++ rest)
     → HaveRecorded (new_core client size calls) front steps → HandsOutSoFar client size calls front rest steps
 
 -- ---- examples, with pages of 64 bytes, which a record of 30 bytes fills
@@ -53,7 +53,7 @@ abbrev full : Operation
 full = Point 5 (replicate 30 9)
 
 -- two records of 30 bytes: the second needs the next page, and so hands out the first
-abbrev two_pages : List (Step ℕ)
+abbrev two_pages : List (CoreStep ℕ)
 two_pages = Supplied (Some (clear 3)) 1 5 (replicate 30 9) false ∷ Needed 30 ∷ Supplied (Some (clear 2)) 0 5 (replicate 30 9) false ∷ Needed 30 ∷ Began t1 ∷ []
 
 abbrev numbers_of : List (Buffer ℕ) → List ℕ

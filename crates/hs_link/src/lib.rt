@@ -5,8 +5,8 @@
 #![tactic(auto)]
 
 mod board;
-mod cursor;
 mod ends;
+mod entry_cursor;
 mod laws;
 mod plays;
 mod receiver;

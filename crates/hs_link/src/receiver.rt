@@ -5,7 +5,7 @@ ghost use Rattle.hs_link.specs.Contents.{IsBeginning, OneBegins, IsSameReceiver,
 ghost use Rattle.hs_link.specs.Ring.{IsSender, IsReceiver, IsSameSeat, IsCounted, put_of, heard_of, received_of, told_of};
 
 use crate::board::{Board, Entries, Fact, Place};
-use crate::cursor::Cursor;
+use crate::entry_cursor::EntryCursor;
 use crate::sender::Sender;
 use crate::steps::{take, tell_put};
 use std::marker::Model;
@@ -18,7 +18,7 @@ use std::sync::Arc;
 pub struct Receiver<T, F: Fact<T>> {
     board: Arc<Board<T, F>>,
     place: Place<T, F>,
-    cursor: Cursor,
+    cursor: EntryCursor,
 }
 
 impl<T, F: Fact<T>> Model for Receiver<T, F> {
@@ -42,7 +42,7 @@ impl<T, F: Fact<T>> Model for Receiver<T, F> {
 fn take_next<T, F: Fact<T>>(
     entries: &Entries<T, F>,
     place: &mut Place<T, F>,
-    cursor: &mut Cursor,
+    cursor: &mut EntryCursor,
 ) -> Option<T>
     requires seat { IsReceiver entries.now.table_id entries.now.key place.old (received_of place.old) (told_of place.old) }
     requires cursor { IsCounted entries.now.table_id cursor.old.capacity cursor.old.count (received_of place.old) }
@@ -69,7 +69,7 @@ impl<T, F: Fact<T>> Receiver<T, F> {
         Receiver {
             board,
             place,
-            cursor: Cursor::new(capacity),
+            cursor: EntryCursor::new(capacity),
         }
     }
 

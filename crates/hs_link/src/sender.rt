@@ -8,7 +8,7 @@ ghost use Rattle.hs_link.specs.Ring.{AllHold, IsSender, IsReceiver, IsSameSeat, 
 ghost use Rattle.hs_link.specs.declared.sender.Sent.TheVariants.{Through, Kept};
 
 use crate::board::{Board, Entries, Fact, Place};
-use crate::cursor::Cursor;
+use crate::entry_cursor::EntryCursor;
 use crate::receiver::Receiver;
 use crate::steps::{look_to_put, put, tell_taken};
 use std::collections::VecDeque;
@@ -46,7 +46,7 @@ const MOST_ITEMS: u64 = 1 << 62;
 pub struct Sender<T, F: Fact<T>> {
     pub(crate) board: Arc<Board<T, F>>,
     pub(crate) place: Place<T, F>,
-    cursor: Cursor,
+    cursor: EntryCursor,
     pub(crate) outbox: VecDeque<T>,
     room: u32,
 }
@@ -78,7 +78,7 @@ impl<T, F: Fact<T>> Model for Sender<T, F> {
 fn put_outbox<T, F: Fact<T>>(
     entries: &Entries<T, F>,
     place: &mut Place<T, F>,
-    cursor: &mut Cursor,
+    cursor: &mut EntryCursor,
     outbox: &mut VecDeque<T>,
 )
     requires seat { IsSender entries.now.table_id entries.now.key place.old (put_of place.old) (heard_of place.old) }
@@ -108,7 +108,7 @@ fn put_outbox<T, F: Fact<T>>(
 fn put_or_keep<T, F: Fact<T>>(
     entries: &Entries<T, F>,
     place: &mut Place<T, F>,
-    cursor: &mut Cursor,
+    cursor: &mut EntryCursor,
     outbox: &mut VecDeque<T>,
     item: T,
 ) -> Sent
@@ -152,7 +152,7 @@ impl<T, F: Fact<T>> Sender<T, F> {
         Sender {
             board,
             place,
-            cursor: Cursor::new(capacity),
+            cursor: EntryCursor::new(capacity),
             outbox,
             room,
         }

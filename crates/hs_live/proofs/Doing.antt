@@ -1,6 +1,6 @@
 -- A client that has done some operations does one more.
 use Rattle.std.proofs.Common.{◌≡◌, ℕ, ◌+◌, Bool, true, false, List, [], ◌∷◌, ◌++◌, reverse, Option, Some, None, IsSome, refl, sym, ap, ap₂, ◌∙◌, subst, append_assoc, arith, ◌<◌}
-use Rattle.hs_live.proofs.Prelude.{append-nil, reverse-append, is_some, ClientId, TraceId, Crumb, Trigger, Operation, Begin, Point, End, Fire, Piece, Segment, numbered_of, record_pieces, segments_from, segments_of, Watch, HasSampled, Core, Current, Step, Began, after_step, AreSteps, IsBook, May, with_all, Outgoing, sent, Leased, trigger_in, Key, PlainClient, Made, new_of, Writing, IsWriting, WritesPieces, writing_of, HasDone, AreWatching, OneMore, Does, DoesNothing, made_of, Buffer}
+use Rattle.hs_live.proofs.Prelude.{append-nil, reverse-append, is_some, ClientId, TraceId, Crumb, Trigger, Operation, Begin, Point, End, Fire, Piece, Segment, numbered_of, record_pieces, segments_from, segments_of, Watch, HasSampled, Core, Current, CoreStep, Began, after_step, AreSteps, IsBook, May, with_all, Outgoing, sent, Leased, trigger_in, Key, PlainClient, Made, new_of, Writing, IsWriting, WritesPieces, writing_of, HasDone, AreWatching, OneMore, Does, DoesNothing, made_of, Buffer}
 use Rattle.hs_base.specs.declared.ids.NodeId.{NodeId}
 use Rattle.hs_records.specs.Plain as plain
 use Rattle.hs_records.specs.Records.{NumberedOperation, open_behind, pieces_until_end, coming}
@@ -72,10 +72,10 @@ done_now laws made ops op old new h d =
 
 -- what is known of the steps of a core
 abbrev pub Books : Type 0
-Books = (client : ClientId) (size calls : ℕ) (steps : List (Step Leased)) → AreSteps (new_core client size calls) steps → IsBook (new_core client size calls) steps
+Books = (client : ClientId) (size calls : ℕ) (steps : List (CoreStep Leased)) → AreSteps (new_core client size calls) steps → IsBook (new_core client size calls) steps
 
 -- what the steps of a client's core make of it, whether it keeps its book or not
-pub book_of : Books → (made : Made) (steps : List (Step Leased)) → AreSteps (new_of made) steps → IsBook (new_of made) steps
+pub book_of : Books → (made : Made) (steps : List (CoreStep Leased)) → AreSteps (new_of made) steps → IsBook (new_of made) steps
 book_of books made steps may = book_bare made.keeps made.renewed (new_core made.client made.size made.calls) steps (books made.client made.size made.calls steps) may
 
 -- where no trace is open, the core has no page

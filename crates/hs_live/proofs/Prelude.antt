@@ -6,7 +6,7 @@ pub use Rattle.hs_base.specs.declared.ids.TraceId.{TraceId}
 pub use Rattle.hs_base.specs.declared.told.Crumb.{Crumb}
 pub use Rattle.hs_base.specs.declared.told.Trigger.{Trigger}
 pub use Rattle.hs_client.specs.Calls.{after, AreSteps, IsBook, May, segments_of_steps, with_all}
-pub use Rattle.hs_client.specs.Core.{after_step, Began, closed, Core, Current, handed, Step, supplied}
+pub use Rattle.hs_client.specs.Core.{after_step, Began, closed, Core, Current, handed, CoreStep, supplied}
 pub use Rattle.hs_law_sends.proofs.Adding.{OneMore}
 pub use Rattle.hs_law_sends.specs.OneMore.{AreWatching}
 pub use Rattle.hs_law_sends.specs.Sending.{trigger_in}

@@ -1,6 +1,6 @@
 -- What was sent, from the steps of the core.
 use Rattle.std.proofs.Common.{◌≡◌, ℕ, ◌+◌, Bool, true, false, List, [], ◌∷◌, ◌++◌, map, reverse, Option, Some, None, refl, sym, ap, ap₂, ◌∙◌, append_assoc}
-use Rattle.hs_live.proofs.Prelude.{append-nil, map-append, is_some, option_to_list, ClientId, TraceId, Operation, Begin, Point, End, Fire, Sample, segments_of, PoolEvent, Got, Empty, Answer, Buffer, Core, Step, handed, AreSteps, IsBook, after, segments_of_steps, with_all, sent, Leased, PlainClient, Made, new_of, noted, buffer_got, buffers_by, HasDone}
+use Rattle.hs_live.proofs.Prelude.{append-nil, map-append, is_some, option_to_list, ClientId, TraceId, Operation, Begin, Point, End, Fire, Sample, segments_of, PoolEvent, Got, Empty, Answer, Buffer, Core, CoreStep, handed, AreSteps, IsBook, after, segments_of_steps, with_all, sent, Leased, PlainClient, Made, new_of, noted, buffer_got, buffers_by, HasDone}
 use Rattle.std.specs.List.{flat_map}
 use Rattle.hs_records.specs.declared.journal.Draw.{Draw}
 use Rattle.hs_records.specs.Plain as plain
@@ -19,7 +19,7 @@ use Rattle.hs_law_sends.specs.OneMore.{open_after, items_of}
 use Rattle.hs_live.specs.Writing.{draws_by}
 use Rattle.hs_live.specs.Done.{HasSent, HasSentAll}
 
-pub has_sent : (made : Made) (ops : List Operation) (client : PlainClient) (h : HasDone made ops client) → ((steps : List (Step Leased)) → AreSteps (new_of made) steps → IsBook (new_of made) steps) → HasSent made ops client
+pub has_sent : (made : Made) (ops : List Operation) (client : PlainClient) (h : HasDone made ops client) → ((steps : List (CoreStep Leased)) → AreSteps (new_of made) steps → IsBook (new_of made) steps) → HasSent made ops client
 has_sent made ops client h books =
     let is = h.writes [] in
     let s = is.comes in

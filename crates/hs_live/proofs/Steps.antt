@@ -1,6 +1,6 @@
 -- What each call of a client's parts does to the steps of its core.
 use Rattle.std.proofs.Common.{◌≡◌, ℕ, Bool, List, [], ◌∷◌, ◌++◌, reverse, Option, Some, None, refl, sym, ap, ap₂, ◌∙◌, subst, append_assoc}
-use Rattle.hs_live.proofs.Prelude.{reverse-append, option_to_list, TraceId, Piece, Segment, Drawn, Contents, PoolEvent, Got, Empty, Answer, Buffer, buffer_of, Core, Step, Began, after_step, handed, supplied, May, after, segments_of_steps, with_all, sent, Leased, Drawing, after_draw, Made, Writing, new_of, noted, buffer_got, buffers_by, IsWriting, DrawsAs}
+use Rattle.hs_live.proofs.Prelude.{reverse-append, option_to_list, TraceId, Piece, Segment, Drawn, Contents, PoolEvent, Got, Empty, Answer, Buffer, buffer_of, Core, CoreStep, Began, after_step, handed, supplied, May, after, segments_of_steps, with_all, sent, Leased, Drawing, after_draw, Made, Writing, new_of, noted, buffer_got, buffers_by, IsWriting, DrawsAs}
 use Rattle.hs_words.specs.declared.token.Drawn.TheVariants as drawn
 use Rattle.hs_client.specs.Core.{Wrote, Needed, Supplied, Ended_, Refused, draw_of, number_after}
 use Rattle.hs_client.specs.Calls.{next_number, with_last, chunks_supplied, draws_supplied, handed_out}
@@ -11,11 +11,11 @@ use Rattle.hs_live.specs.Writing.{ComesBy}
 abbrev pub piece_of : ℕ → ℕ → List ℕ → Piece
 piece_of number moment payload = record { number = number; moment = moment; payload = payload }
 
-abbrev Unsupplied : Step Leased → List (Step Leased) → Type 0
+abbrev Unsupplied : CoreStep Leased → List (CoreStep Leased) → Type 0
 Unsupplied step steps = (draws_supplied (step ∷ steps) ≡ draws_supplied steps) × (chunks_supplied (step ∷ steps) ≡ chunks_supplied steps)
 
 -- a step without a draw
-comes_on : (made : Made) (steps : List (Step Leased)) (old new : Writing) (step : Step Leased) → ComesBy made steps old → May old.core step → new.core ≡ after_step old.core step → new.drawer ≡ old.drawer
+comes_on : (made : Made) (steps : List (CoreStep Leased)) (old new : Writing) (step : CoreStep Leased) → ComesBy made steps old → May old.core step → new.core ≡ after_step old.core step → new.drawer ≡ old.drawer
     → (after_step old.core step).number ≡ next_number (step ∷ steps) → sent new.chunks ≡ made.before ++ handed_out (new_of made) (step ∷ steps) → Unsupplied step steps → ComesBy made (step ∷ steps) new
 comes_on made steps old new step s may core drawer number chunks none =
     record {
@@ -30,7 +30,7 @@ comes_on made steps old new step s may core drawer number chunks none =
     }
 
 -- what was sent where the chunk of the current page is handed out
-hands_out : (made : Made) (steps : List (Step Leased)) (old new : Writing) → ComesBy made steps old → sent new.chunks ≡ sent old.chunks ++ option_to_list (handed old.core)
+hands_out : (made : Made) (steps : List (CoreStep Leased)) (old new : Writing) → ComesBy made steps old → sent new.chunks ≡ sent old.chunks ++ option_to_list (handed old.core)
     → sent new.chunks ≡ made.before ++ (handed_out (new_of made) steps ++ option_to_list (handed (after (new_of made) steps)))
 hands_out made steps old new s chunks =
     chunks ∙ ap₂ (λ (k : List (Buffer Leased)) (c : Core Leased). k ++ option_to_list (handed c)) s.chunks s.core
@@ -62,7 +62,7 @@ needed made pieces later all old new len may core drawer chunks is =
     }
 
 -- the core has the number of the renewal
-renewal : (made : Made) (steps : List (Step Leased)) (w : Writing) → ComesBy made steps w → w.core.renewed ≡ made.renewed
+renewal : (made : Made) (steps : List (CoreStep Leased)) (w : Writing) → ComesBy made steps w → w.core.renewed ≡ made.renewed
 renewal made steps w s = ap (λ (c : Core Leased). c.renewed) s.core ∙ after_renewed (new_of made) steps
 
 supplied_page : (made : Made) (pieces : List Piece) (later all : List Segment) (old new : Writing) (buffer : Option (Buffer Leased)) (event : PoolEvent) (stamp moment : ℕ) (payload : List ℕ) (more : Bool)
@@ -70,7 +70,7 @@ supplied_page : (made : Made) (pieces : List Piece) (later all : List Segment) (
     → new.drawer ≡ after_draw old.drawer stamp event → draw_of buffer stamp ≡ noted stamp event → buffer ≡ buffer_got old.drawer.pool old.drawer.size old.core.renewed stamp event → sent new.chunks ≡ sent old.chunks
     → IsWriting made (piece_of old.core.number moment payload ∷ pieces) later all old → IsWriting made pieces later all new
 supplied_page made pieces later all old new buffer event stamp moment payload more may core drawer note got chunks is =
-    let step : Step Leased = Supplied buffer stamp moment payload more in
+    let step : CoreStep Leased = Supplied buffer stamp moment payload more in
     let s = is.comes in
     let answer : Answer = record { stamp = stamp; event = event; draw = 0 } in
     record {
@@ -149,7 +149,7 @@ writing_kept made pieces later all old new core answers pool size chunks is =
     }
 
 -- the steps do not change what the client was made with
-after-size : (new : Core Leased) (steps : List (Step Leased)) → (after new steps).size ≡ new.size
+after-size : (new : Core Leased) (steps : List (CoreStep Leased)) → (after new steps).size ≡ new.size
 after-size new [] = refl
 after-size new (Began trace ∷ earlier) = after-size new earlier
 after-size new (Wrote moment payload more ∷ earlier) = after-size new earlier
@@ -161,7 +161,7 @@ after-size new (Refused ∷ earlier) = after-size new earlier
 pub made_size : (made : Made) (pieces : List Piece) (later all : List Segment) (w : Writing) → IsWriting made pieces later all w → w.core.size ≡ made.size
 made_size made pieces later all w is = ap (λ (c : Core Leased). c.size) is.comes.core ∙ after-size (new_of made) is.steps
 
-after-client : (new : Core Leased) (steps : List (Step Leased)) → (after new steps).client ≡ new.client
+after-client : (new : Core Leased) (steps : List (CoreStep Leased)) → (after new steps).client ≡ new.client
 after-client new [] = refl
 after-client new (Began trace ∷ earlier) = after-client new earlier
 after-client new (Wrote moment payload more ∷ earlier) = after-client new earlier

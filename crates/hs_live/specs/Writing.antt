@@ -14,7 +14,7 @@ use Rattle.hs_words.specs.PoolHistory.{PoolEvent, Got, Empty, Given, Missed}
 use Rattle.hs_words.specs.Ends.{Answer}
 use Rattle.hs_words.specs.Chunks.{clear_chunk}
 use Rattle.hs_words.specs.Buffers.{Buffer}
-use Rattle.hs_client.specs.Core.{Core, Step, new_core, handed}
+use Rattle.hs_client.specs.Core.{Core, CoreStep, new_core, handed}
 use Rattle.hs_client.specs.Calls.{AreSteps, after, next_number, segments_of_steps, chunks_supplied, draws_supplied, handed_out, with_all}
 use Rattle.hs_link.specs.Contents.{Outgoing, sent}
 use Rattle.hs_ring.specs.Parts.{Leased, Drawing}
@@ -78,7 +78,7 @@ buffers_by pool size mark (answer ∷ earlier) = buffers_by pool size mark earli
 -- ---- the steps of the core
 
 -- The client comes by these steps of its core, the last of which stands first.
-pub record ComesBy (made : Made) (steps : List (Step Leased)) (w : Writing) : Type 0 where
+pub record ComesBy (made : Made) (steps : List (CoreStep Leased)) (w : Writing) : Type 0 where
   pub may : AreSteps (new_of made) steps
   pub core : w.core ≡ after (new_of made) steps
   pub number : w.core.number ≡ next_number steps
@@ -94,7 +94,7 @@ pub record ComesBy (made : Made) (steps : List (Step Leased)) (w : Writing) : Ty
 
 -- With these pieces more in the open trace and these segments behind it, the client has recorded all of these segments.
 pub record IsWriting (made : Made) (pieces : List Piece) (later all : List Segment) (w : Writing) : Type 0 where
-  pub steps : List (Step Leased)
+  pub steps : List (CoreStep Leased)
   pub comes : ComesBy made steps w
   pub gives : reverse (with_all pieces (segments_of_steps steps)) ++ later ≡ all
 

@@ -24,7 +24,7 @@ pub enum Called {
 
 /// What a client has left: calls that its core may count, draws, and items that each link takes whatever the agent does.
 #[derive(Clone, Copy)]
-pub struct Left {
+pub struct ClientLeft {
     pub calls: u32,
     pub draws: u32,
     pub chunks: u32,

@@ -16,7 +16,7 @@ ghost use Rattle.hs_live.specs.Writing.{Spends, writing_of};
 ghost use Rattle.hs_live.specs.Done.{HasDone, Does, DoesNothing};
 ghost use Rattle.hs_live.specs.Calls.{IsNew, made_of, BeginsBy, PointsBy, NotesBy, EndsBy, RenewsBy, begun, renewed, counts, Renews, IsAutoOf, WritesOnly, AreMates, MeetsAt};
 
-use crate::called::{Called, Closed, Left, Parted};
+use crate::called::{Called, ClientLeft, Closed, Parted};
 use crate::key::ClientKey;
 use crate::laws::what_was_done_was_sent;
 use crate::links::meet_at;
@@ -268,7 +268,7 @@ impl Client {
     }
 
     /// What the client has left. Each call asks for some of it.
-    pub fn left(&self) -> Left
+    pub fn left(&self) -> ClientLeft
         ensures calls { self.now.core.counted + result.calls ≡ self.now.core.calls }
         ensures draws { result.draws ≡ self.now.drawer.left }
         ensures chunks { HasPlaces result.chunks self.now.chunks }
@@ -278,7 +278,7 @@ impl Client {
         let chunks = self.writer.chunks.places();
         let crumbs = self.crumbs.places();
         let triggers = self.triggers.places();
-        Left {
+        ClientLeft {
             calls: self.writer.core.left(),
             draws: self.writer.drawer.left(),
             chunks,

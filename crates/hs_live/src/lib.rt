@@ -10,7 +10,7 @@ mod links;
 mod port;
 mod writer;
 
-pub use called::{Called, Closed, Left, Parted};
+pub use called::{Called, ClientLeft, Closed, Parted};
 pub use client::Client;
 pub use key::ClientKey;
 pub use laws::{all_was_sent, ends_go_on, sent_chunks_are_told_apart, what_was_done_was_sent};

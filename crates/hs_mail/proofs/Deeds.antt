@@ -4,20 +4,20 @@ use Rattle.std.specs.List.{Contains}
 use Rattle.std.proofs.lemmas.List.Elements.{Contains-append_left, Contains-append_right, Contains-append_cases}
 use Rattle.std.proofs.lemmas.Bool.{cond_both, cases_eq}
 use Rattle.hs_base.specs.declared.ids.NodeId.{NodeId}
-use Rattle.hs_outbox.specs.Queue.{Pending, Queue, Act, Puts, pending_of, has_number, empty}
+use Rattle.hs_outbox.specs.Queue.{Pending, Queue, OutboxAct, Puts, pending_of, has_number, empty}
 use Rattle.hs_outbox.specs.Queue as queue
 use Rattle.hs_outbox.specs.Lives.{IsAccounted}
 use Rattle.hs_outbox.specs.Lives as outbox
 use Rattle.hs_outbox.proofs.Accounts.{stays}
 use Rattle.hs_outbox.proofs.Handed.{accounted}
 use Rattle.hs_mail.specs.declared.mail.Room.{Room}
-use Rattle.hs_mail.specs.Letters.{Letters, Deed, Says, HandsOut, Acknowledges, OffersAgain, after, both, no_letters, first_offered, is_page, message_of}
+use Rattle.hs_mail.specs.Letters.{Letters, MailDeed, Says, HandsOut, Acknowledges, OffersAgain, after, both, no_letters, first_offered, is_page, message_of}
 use Rattle.hs_mail.specs.Lives.{life, acts_by, acts_of, waiting, IsInOrder}
 use Rattle.hs_mail.proofs.Pairs.{IsGood, good_swap, good_puts, good_hands, good_less, good_again, in_order}
 
 -- ---- each outbox has its part
 
-life_append : (xs ys : List Act) (q : Queue) → outbox.life q (xs ++ ys) ≡ outbox.life (outbox.life q xs) ys
+life_append : (xs ys : List OutboxAct) (q : Queue) → outbox.life q (xs ++ ys) ≡ outbox.life (outbox.life q xs) ys
 life_append [] ys q = refl
 life_append (x ∷ xs) ys q = life_append xs ys (queue.after q x)
 
@@ -41,25 +41,25 @@ word_handed : (m : Letters) (n : ℕ) (b : Bool) → (cond b (both m (queue.Hand
 word_handed m n true = refl
 word_handed m n false = refl
 
-page_by : (m : Letters) (deed : Deed) → (after m deed).pages ≡ outbox.life m.pages (acts_by true m deed)
+page_by : (m : Letters) (deed : MailDeed) → (after m deed).pages ≡ outbox.life m.pages (acts_by true m deed)
 page_by m (Says said) = page_said m (pending_of (message_of m said)) (is_page said)
 page_by m (HandsOut n) = page_handed m n (has_number (first_offered m) n)
 page_by m (Acknowledges n) = refl
 page_by m OffersAgain = refl
 
-word_by : (m : Letters) (deed : Deed) → (after m deed).words ≡ outbox.life m.words (acts_by false m deed)
+word_by : (m : Letters) (deed : MailDeed) → (after m deed).words ≡ outbox.life m.words (acts_by false m deed)
 word_by m (Says said) = word_said m (pending_of (message_of m said)) (is_page said)
 word_by m (HandsOut n) = word_handed m n (has_number (first_offered m) n)
 word_by m (Acknowledges n) = refl
 word_by m OffersAgain = refl
 
-pages_after : (deeds : List Deed) (m : Letters) → (life m deeds).pages ≡ outbox.life m.pages (acts_of true m deeds)
+pages_after : (deeds : List MailDeed) (m : Letters) → (life m deeds).pages ≡ outbox.life m.pages (acts_of true m deeds)
 pages_after [] m = refl
 pages_after (deed ∷ deeds) m =
     pages_after deeds (after m deed) ∙ ap (λ (q : Queue). outbox.life q (acts_of true (after m deed) deeds)) (page_by m deed)
     ∙ sym (life_append (acts_by true m deed) (acts_of true (after m deed) deeds) m.pages)
 
-words_after : (deeds : List Deed) (m : Letters) → (life m deeds).words ≡ outbox.life m.words (acts_of false m deeds)
+words_after : (deeds : List MailDeed) (m : Letters) → (life m deeds).words ≡ outbox.life m.words (acts_of false m deeds)
 words_after [] m = refl
 words_after (deed ∷ deeds) m =
     words_after deeds (after m deed) ∙ ap (λ (q : Queue). outbox.life q (acts_of false (after m deed) deeds)) (word_by m deed)
@@ -82,7 +82,7 @@ kept_said node epoch m p false is kept =
       epoch_is = kept.epoch_is;
     }
 
-kept_after : (node : NodeId) (epoch : ℕ) (m : Letters) (deed : Deed) → IsKept node epoch m → IsKept node epoch (after m deed)
+kept_after : (node : NodeId) (epoch : ℕ) (m : Letters) (deed : MailDeed) → IsKept node epoch m → IsKept node epoch (after m deed)
 kept_after node epoch m (Says said) kept = kept_said node epoch m (pending_of (message_of m said)) (is_page said) refl kept
 kept_after node epoch m (HandsOut n) kept =
     cond_both (has_number (first_offered m) n) (both m (queue.HandsOut n)) m (λ (r : Letters). IsKept node epoch r)
@@ -90,14 +90,14 @@ kept_after node epoch m (HandsOut n) kept =
 kept_after node epoch m (Acknowledges n) kept = record { good = good_less m.fresh n m.pages m.words kept.good; node_is = kept.node_is; epoch_is = kept.epoch_is }
 kept_after node epoch m OffersAgain kept = record { good = good_again m.fresh m.pages m.words kept.good; node_is = kept.node_is; epoch_is = kept.epoch_is }
 
-kept_life : (node : NodeId) (epoch : ℕ) (deeds : List Deed) (m : Letters) → IsKept node epoch m → IsKept node epoch (life m deeds)
+kept_life : (node : NodeId) (epoch : ℕ) (deeds : List MailDeed) (m : Letters) → IsKept node epoch m → IsKept node epoch (life m deeds)
 kept_life node epoch [] m kept = kept
 kept_life node epoch (deed ∷ deeds) m kept = kept_life node epoch deeds (after m deed) (kept_after node epoch m deed kept)
 
 nothing_in : (p : Pending) → Contains [] p → ⊥
 nothing_in p there = let within = there.1 in omega (arith, within)
 
-pub is_in_order : (node : NodeId) (epoch : ℕ) (pages words : Room) (deeds : List Deed) → IsInOrder node epoch pages words deeds (life (no_letters node epoch pages words) deeds)
+pub is_in_order : (node : NodeId) (epoch : ℕ) (pages words : Room) (deeds : List MailDeed) → IsInOrder node epoch pages words deeds (life (no_letters node epoch pages words) deeds)
 is_in_order node epoch pages words deeds =
     let start = no_letters node epoch pages words in
     let m = life start deeds in
@@ -132,7 +132,7 @@ is_in_order node epoch pages words deeds =
 
 -- in two outboxes of which each has had something else than the acknowledgement of a message
 
-in_either : (m r : Letters) (act : Act) (p : Pending) → (act ≡ queue.Acknowledges p.number → ⊥) → r.pages ≡ queue.after m.pages act → r.words ≡ queue.after m.words act
+in_either : (m r : Letters) (act : OutboxAct) (p : Pending) → (act ≡ queue.Acknowledges p.number → ⊥) → r.pages ≡ queue.after m.pages act → r.words ≡ queue.after m.words act
     → Contains (waiting m) p → Contains (waiting r) p
 in_either m r act p other pages words there =
     ⊎_elim
@@ -163,7 +163,7 @@ said_stays m new p false there =
     (λ (word : Contains m.words.pending p). Contains-append_right m.pages.pending (queue.after m.words (Puts new)).pending p (kept_put m.words new p word))
     (Contains-append_cases m.pages.pending m.words.pending p there)
 
-pub letter_stays : (m : Letters) (deed : Deed) (p : Pending) → Contains (waiting m) p → (deed ≡ Acknowledges p.number) ⊎ Contains (waiting (after m deed)) p
+pub letter_stays : (m : Letters) (deed : MailDeed) (p : Pending) → Contains (waiting m) p → (deed ≡ Acknowledges p.number) ⊎ Contains (waiting (after m deed)) p
 letter_stays m (Says said) p there = inr (said_stays m (pending_of (message_of m said)) p (is_page said) there)
 letter_stays m (HandsOut n) p there =
     inr

@@ -3,7 +3,7 @@
 use Rattle.std.specs.Prelude.{◌≡◌, ℕ, ◌+◌, ◌<◌, ◌≤◌, ◌^◌, nat_lt, Bool, true, false, List, Option, Some, None, Result, Ok, Err, OnOk, OnErr, if◌then◌else◌}
 use Rattle.hs_base.specs.declared.ids.NodeId.{NodeId}
 use Rattle.hs_wire.specs.Messages.{Said, SaysHello, SaysTold, SaysAsk, SaysReported, SaysStanding, PlainMessage}
-use Rattle.hs_outbox.specs.Queue.{Pending, Queue, Act, pending_of, has_number, empty}
+use Rattle.hs_outbox.specs.Queue.{Pending, Queue, OutboxAct, pending_of, has_number, empty}
 use Rattle.hs_outbox.specs.Queue as queue
 use Rattle.hs_outbox.specs.declared.outbox.Put.{Put}
 use Rattle.hs_outbox.specs.declared.outbox.Put.TheVariants as puts
@@ -67,13 +67,13 @@ oldest_in m = lower (queue.oldest_in m.pages) (queue.oldest_in m.words)
 
 -- ---- what calls do
 
-pub data Deed : Type 0 where
-  Says : (said : Said) → Deed
-  HandsOut : (number : ℕ) → Deed
-  Acknowledges : (number : ℕ) → Deed
-  OffersAgain : Deed
+pub data MailDeed : Type 0 where
+  Says : (said : Said) → MailDeed
+  HandsOut : (number : ℕ) → MailDeed
+  Acknowledges : (number : ℕ) → MailDeed
+  OffersAgain : MailDeed
 
-abbrev pub both : Letters → Act → Letters
+abbrev pub both : Letters → OutboxAct → Letters
 both m act = record m { pages = queue.after m.pages act; words = queue.after m.words act }
 
 -- a message waits last in its outbox, and the next one has the next number
@@ -83,7 +83,7 @@ with_said m said =
     then record m { fresh = m.fresh + 1; pages = queue.after m.pages (queue.Puts (pending_of (message_of m said))) }
     else record m { fresh = m.fresh + 1; words = queue.after m.words (queue.Puts (pending_of (message_of m said))) }
 
-abbrev pub after : Letters → Deed → Letters
+abbrev pub after : Letters → MailDeed → Letters
 after m (Says said) = with_said m said
 after m (HandsOut number) = if has_number (first_offered m) number then both m (queue.HandsOut number) else m
 after m (Acknowledges number) = both m (queue.Acknowledges number)

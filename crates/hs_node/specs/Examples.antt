@@ -9,18 +9,18 @@ use Rattle.hs_ring.specs.Parts.{Leased}
 use Rattle.hs_wire.specs.Messages.{PlainReported, SaysTold, SaysReported}
 use Rattle.hs_agent.specs.declared.hand.Left.{Left}
 use Rattle.hs_agent.specs.declared.hand.Left.TheVariants.{Reported, Evicted}
-use Rattle.hs_agent.specs.Runs.{Run}
+use Rattle.hs_agent.specs.Runs.{AgentRun}
 use Rattle.hs_law_agent.specs.Standings as standings
 use Rattle.hs_law_agent.specs.Samples.{group}
 use Rattle.hs_mail.specs.declared.mail.Unposted.{Unposted}
 use Rattle.hs_mail.specs.declared.mail.Unposted.TheVariants.{TooLong}
-use Rattle.hs_node_client.specs.declared.segment.Segment.{Segment}
+use Rattle.hs_node_client.specs.declared.segment.SegmentNote.{SegmentNote}
 use Rattle.hs_node_client.specs.declared.segment.SegmentState.TheVariants.{Opened}
 use Rattle.hs_whole.specs.declared.answers.Loss.TheVariants.{EvictedPages, AbandonedPages}
 use Rattle.hs_whole.specs.Pages.{p}
 use Rattle.hs_whole.specs.Notes.{PlainNotes, no_notes_in, looked}
 use Rattle.hs_whole.specs.History.{Opens, Loses, HandsOut, Misses, Drops}
-use Rattle.hs_intake.specs.declared.took.Parted.{Parted}
+use Rattle.hs_intake.specs.declared.took.PartedChunk.{PartedChunk}
 use Rattle.hs_intake.specs.Intakes.{TakesAsk, Turns}
 use Rattle.hs_node.specs.Nodes.{told_of, page_of, parts_in, AreParted, note_of, HearsAs, Note, Gone, note_in, parted_in, AreHeard, deed_for}
 
@@ -30,11 +30,11 @@ said_in_order : (told : Told) (page : PlainReported)
 said_in_order told page = (refl, refl)
 
 -- A turn and an ask let nothing go.
-nothing_leaves : (run : Run Leased) (ask : Ask) → parts_in run (TakesAsk ask ∷ Turns ∷ []) ≡ []
+nothing_leaves : (run : AgentRun Leased) (ask : Ask) → parts_in run (TakesAsk ask ∷ Turns ∷ []) ≡ []
 nothing_leaves run ask = refl
 
 -- page 3 of core 1 of client 2, which left so
-abbrev left_as : TraceId → Left → Option Unposted → Parted
+abbrev left_as : TraceId → Left → Option Unposted → PartedChunk
 left_as trace left unposted = record { trace = trace; client = 2; core = 1; page = 3; left = left; unposted = unposted }
 
 -- A reported page was posted, and an evicted one has no page to post.
@@ -52,7 +52,7 @@ heard_of_them : (deed_for (left_as (t 7) (Reported (group 0 0 1 7)) None) ≡ Ha
 heard_of_them = (refl, (refl, refl))
 
 -- A note that opens a segment of client 2.
-abbrev opens : Segment
+abbrev opens : SegmentNote
 opens = record { number = 5; trace = t 9; core = 1; page = 3; state = Opened }
 
 -- Where the node has three clients it is heard so, or dropped; where it has two it is missed, and never heard.

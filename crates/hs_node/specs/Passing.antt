@@ -4,13 +4,13 @@ use Rattle.std.specs.Option.{option_to_list}
 use Rattle.hs_base.specs.declared.limits.TheConstants.{MAX_TAKEN}
 use Rattle.hs_node.specs.declared.pass.TheConstants.{MOST_NOTES, MOST_OFFERS}
 use Rattle.hs_ring.specs.Parts.{Leased}
-use Rattle.hs_agent.specs.Runs.{Run, state_of}
-use Rattle.hs_claimed.specs.declared.answers.Claim.{Claim}
+use Rattle.hs_agent.specs.Runs.{AgentRun, state_of}
+use Rattle.hs_claimed.specs.declared.answers.StatedClaim.{StatedClaim}
 use Rattle.hs_claimed.specs.Claims.{current, is_above, advanced}
 use Rattle.hs_link.specs.Contents.{Incoming, IsBeginning}
 use Rattle.hs_live.specs.Live.{IsEnd}
 use Rattle.hs_mail.specs.declared.mail.Unposted.{Unposted}
-use Rattle.hs_node_client.specs.declared.segment.Segment.{Segment}
+use Rattle.hs_node_client.specs.declared.segment.SegmentNote.{SegmentNote}
 use Rattle.hs_node_client.specs.declared.segment.SegmentKey.{SegmentKey}
 use Rattle.hs_whole.specs.Kept.{more}
 use Rattle.hs_node.specs.Told.{node_standing}
@@ -18,7 +18,7 @@ use Rattle.hs_whole.specs.History.{after}
 use Rattle.hs_intake.specs.declared.took.Took.{Took}
 use Rattle.hs_intake.specs.declared.took.TookTriggers.{TookTriggers}
 use Rattle.hs_intake.specs.declared.took.Turned.{Turned}
-use Rattle.hs_intake.specs.declared.took.Parted.{Parted}
+use Rattle.hs_intake.specs.declared.took.PartedChunk.{PartedChunk}
 use Rattle.hs_intake.specs.declared.took.Handed.TheVariants as handed
 use Rattle.hs_intake.specs.declared.took.Stated.{Stated}
 use Rattle.hs_intake.specs.declared.took.Stated.TheVariants as stated
@@ -33,13 +33,13 @@ use Rattle.hs_node.specs.declared.pass.Offer.TheVariants as offers
 
 -- what a part does, from where the agent stands at a run
 abbrev pub Doing : Type 1
-Doing = Run Leased → PlainNode → PlainNode → Type 0
+Doing = AgentRun Leased → PlainNode → PlainNode → Type 0
 
 -- One part, and then the other, at whichever run the first leads to.
-pub record Then (first second : Doing) (run : Run Leased) (old new : PlainNode) : Type 0 where
+pub record Then (first second : Doing) (run : AgentRun Leased) (old new : PlainNode) : Type 0 where
   pub mid : PlainNode
   pub does : first run old mid
-  pub next : (later : Run Leased) → Stands later mid.intake → second later mid new
+  pub next : (later : AgentRun Leased) → Stands later mid.intake → second later mid new
 
 -- the part for each of so many numbers, from 0 on
 abbrev pub Each : (ℕ → Doing) → ℕ → Doing
@@ -47,22 +47,22 @@ Each part zero run old new = new ≡ old
 Each part (suc n) run old new = Then (Each part n) (part n) run old new
 
 -- A part that does something is made until one does not, or as often as this.
-pub record Until (part : Bool → Doing) (most : ℕ) (run : Run Leased) (old new : PlainNode) : Type 0 where
+pub record Until (part : Bool → Doing) (most : ℕ) (run : AgentRun Leased) (old new : PlainNode) : Type 0 where
   pub count : ℕ
   pub few : count ≤ most
   pub mid : PlainNode
   pub does : Each (λ n. part true) count run old mid
-  pub ends : ((count ≡ most) × (new ≡ mid)) ⊎ ((later : Run Leased) → Stands later mid.intake → part false later mid new)
+  pub ends : ((count ≡ most) × (new ≡ mid)) ⊎ ((later : AgentRun Leased) → Stands later mid.intake → part false later mid new)
 
 -- ---- what clients and the hub sent
 
 -- The next note of a client came and was heard, or missed; or none has come, or there is no such client.
 abbrev pub Hears : ℕ → Bool → Doing
 Hears client true run old new =
-    (segment : Segment) × Receives client segment old.segments new.segments × NotesIt old.notes client segment new.notes
+    (segment : SegmentNote) × Receives client segment old.segments new.segments × NotesIt old.notes client segment new.notes
     × (new ≡ record old { segments = new.segments; notes = new.notes })
 Hears client false run old new =
-    (new ≡ old) × ((old.clients ≤ client) ⊎ ((r : Incoming Segment SegmentKey) × IsEnd client old.segments r × IsBeginning r.told r.received))
+    (new ≡ old) × ((old.clients ≤ client) ⊎ ((r : Incoming SegmentNote SegmentKey) × IsEnd client old.segments r × IsBeginning r.told r.received))
 
 -- all that have come
 abbrev pub HearsFrom : ℕ → Doing
@@ -115,12 +115,12 @@ Turns run old new = (did : Turned) × (is_unspent did ≡ true) × MakesTurn run
 -- The first of the hand is offered, and it is heard what became of its page; or the hand is empty, or its first waits.
 abbrev pub OffersOne : Bool → Doing
 OffersOne true run old new =
-    (parted : Option Parted) × (given : Bool) × HandsOut run old.intake (handed.Offered parted given) new.intake × (new.notes ≡ fold after old.notes (map deed_for (option_to_list parted)))
+    (parted : Option PartedChunk) × (given : Bool) × HandsOut run old.intake (handed.Offered parted given) new.intake × (new.notes ≡ fold after old.notes (map deed_for (option_to_list parted)))
     × (new ≡ record old { intake = new.intake; notes = new.notes })
 OffersOne false run old new =
     (new ≡ old) × (HandsOut run old.intake handed.Empty new.intake ⊎ ((fault : Unposted) × HandsOut run old.intake (handed.Waits fault) new.intake))
 
-abbrev pub OffersBy : Run Leased → Offer → PlainNode → PlainNode → Type 0
+abbrev pub OffersBy : AgentRun Leased → Offer → PlainNode → PlainNode → Type 0
 OffersBy run offers.Offered old new = OffersOne true run old new
 OffersBy run offers.None old new = OffersOne false run old new
 OffersBy run offers.Spent old new = Unit {0}
@@ -138,11 +138,11 @@ is_stated (stated.Waits fault) = false
 -- A standing of the claim that is looked at is said, or is no news; or there is none, or it waits.
 abbrev pub StatesNext : Bool → Doing
 StatesNext true run old new =
-    (claim : Claim) × (did : Stated) × (is_stated did ≡ true) × (current old.intake.claims ≡ Some claim) × StatesIt old.intake (node_standing old.notes old.intake.claims claim) did new.intake
+    (claim : StatedClaim) × (did : Stated) × (is_stated did ≡ true) × (current old.intake.claims ≡ Some claim) × StatesIt old.intake (node_standing old.notes old.intake.claims claim) did new.intake
     × (new ≡ record old { intake = new.intake })
 StatesNext false run old new =
     (new ≡ old) × ((current old.intake.claims ≡ None)
-    ⊎ ((claim : Claim) × (fault : Unposted) × (current old.intake.claims ≡ Some claim) × StatesIt old.intake (node_standing old.notes old.intake.claims claim) (stated.Waits fault) new.intake))
+    ⊎ ((claim : StatedClaim) × (fault : Unposted) × (current old.intake.claims ≡ Some claim) × StatesIt old.intake (node_standing old.notes old.intake.claims claim) (stated.Waits fault) new.intake))
 
 abbrev pub LooksOn : Doing
 LooksOn run old new = new ≡ record old { intake = record old.intake { claims = advanced old.intake.claims } }

@@ -5,7 +5,7 @@ use Rattle.std.specs.Prelude.{◌≡◌, ℕ, Bool, true, false, ◌||◌, ◌==
 use Rattle.hs_base.specs.declared.node_set.NodeSet.{NodeSet}
 use Rattle.hs_base.specs.NodeSets.{has_node, either}
 use Rattle.hs_base.specs.Samples.{t}
-use Rattle.hs_claimed.specs.declared.answers.Claim.{Claim}
+use Rattle.hs_claimed.specs.declared.answers.StatedClaim.{StatedClaim}
 use Rattle.hs_claimed.specs.Claims.{PlainClaims, told_by, told_for, claim_of, g, both, after_named}
 use Rattle.hs_whole.specs.Notes.{PlainNotes, standing_of, crumbs_of, whole_9, led_on}
 use Rattle.hs_wire.specs.declared.message.Standing.{Standing}
@@ -17,11 +17,11 @@ abbrev pub are_told : NodeSet → NodeSet → Bool
 are_told crumbs told = (either crumbs told).0 == told.0
 
 -- whether each node to which a crumb of the claim's trace led was named for its group, or for a group that claims the trace
-abbrev pub is_told : PlainNotes → PlainClaims → Claim → Bool
+abbrev pub is_told : PlainNotes → PlainClaims → StatedClaim → Bool
 is_told notes claims claim = are_told (crumbs_of notes claim.trace) (told_by claims claim.group) || are_told (crumbs_of notes claim.trace) (told_for claims claim.trace)
 
 -- whether this node was named so
-abbrev pub was_named : PlainClaims → Claim → ℕ → Bool
+abbrev pub was_named : PlainClaims → StatedClaim → ℕ → Bool
 was_named claims claim node = has_node (told_by claims claim.group) node || has_node (told_for claims claim.trace) node
 
 abbrev pub told_wholeness : Bool → Wholeness → Wholeness
@@ -34,15 +34,15 @@ told_wholeness told Open = Open
 abbrev pub told_standing : Bool → Standing → Standing
 told_standing told standing = record standing { wholeness = told_wholeness told standing.wholeness }
 
-abbrev pub node_standing : PlainNotes → PlainClaims → Claim → Standing
+abbrev pub node_standing : PlainNotes → PlainClaims → StatedClaim → Standing
 node_standing notes claims claim = told_standing (is_told notes claims claim) (standing_of notes claim.trace claim.group)
 
 -- ---- worked examples: group 7 claims traces 9 and 8, crumbs of both led to node 1, and trace 9 is whole otherwise
 
-abbrev nine : Claim
+abbrev nine : StatedClaim
 nine = claim_of (g 7) (t 9)
 
-abbrev eight : Claim
+abbrev eight : StatedClaim
 eight = claim_of (g 7) (t 8)
 
 -- no message named node 1, or one did

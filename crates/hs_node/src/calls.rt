@@ -9,14 +9,14 @@ ghost use Rattle.hs_node.specs.Nodes.{with_mail};
 
 use crate::node::Node;
 use hs_claimed::ClaimedTraces;
-use hs_inbox::Delivered;
+use hs_inbox::AskDelivered;
 use hs_mail::Unposted;
 use hs_wire::Hello;
 
 impl Node {
     /// Delivers a message. It waits for the next pass, behind all others, if it asks this node for a declared trigger id, and a place is
     /// free.
-    pub fn deliver(&mut self, bytes: &[u8]) -> Delivered
+    pub fn deliver(&mut self, bytes: &[u8]) -> AskDelivered
         ensures delivers { Delivers self.old.intake.inbox bytes.now result self.new.intake.inbox }
         ensures only { self.new ≡ record self.old { intake = record self.old.intake { inbox = self.new.intake.inbox } } }
     {

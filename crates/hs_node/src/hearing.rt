@@ -6,8 +6,8 @@ ghost use Rattle.hs_whole.specs.History.{after};
 ghost use Rattle.hs_node.specs.Nodes.{NotesIt, report_of, place_of, page_named, deed_for};
 
 use hs_agent::Left;
-use hs_intake::Parted;
-use hs_node_client::{Segment, SegmentCounts, SegmentState};
+use hs_intake::PartedChunk;
+use hs_node_client::{SegmentCounts, SegmentNote, SegmentState};
 use hs_whole::{Loss, PageName, SegmentNotes, SegmentReport};
 
 /// What a client says of a segment at its end. No point is refused for want of a buffer.
@@ -27,7 +27,7 @@ fn report_of(counts: &SegmentCounts) -> SegmentReport
 }
 
 /// Where the pages of a segment begin, or behind which it ends.
-fn place_of(segment: &Segment) -> PageName
+fn place_of(segment: &SegmentNote) -> PageName
     ensures { result ≡ place_of segment.now }
 {
     PageName {
@@ -37,7 +37,7 @@ fn place_of(segment: &Segment) -> PageName
 }
 
 /// The page of a chunk that left.
-fn page_of(parted: &Parted) -> PageName
+fn page_of(parted: &PartedChunk) -> PageName
     ensures { result ≡ page_named parted.now }
 {
     PageName {
@@ -47,7 +47,7 @@ fn page_of(parted: &Parted) -> PageName
 }
 
 /// Hears a note of a client, or that it was missed, where there was no memory for it.
-pub(crate) fn note(notes: &mut SegmentNotes, client: u16, segment: &Segment)
+pub(crate) fn note(notes: &mut SegmentNotes, client: u16, segment: &SegmentNote)
     ensures { NotesIt notes.old client segment.now notes.new }
 {
     let place = place_of(segment);
@@ -69,7 +69,7 @@ pub(crate) fn note(notes: &mut SegmentNotes, client: u16, segment: &Segment)
 }
 
 /// Hears what became of a chunk that left, if this is its first offer.
-pub(crate) fn part(notes: &mut SegmentNotes, parted: &Option<Parted>)
+pub(crate) fn part(notes: &mut SegmentNotes, parted: &Option<PartedChunk>)
     ensures { notes.new ≡ fold after notes.old (map deed_for (option_to_list parted.now)) }
 {
     let Some(parted) = parted else {

@@ -5,7 +5,7 @@ ghost use Rattle.std.specs.Prelude.{◌≡◌, length};
 use hs_base::List;
 use hs_intake::Intake;
 use hs_link::Receiver;
-use hs_node_client::{Segment, SegmentKey};
+use hs_node_client::{SegmentKey, SegmentNote};
 use hs_whole::SegmentNotes;
 use std::marker::Model;
 
@@ -15,7 +15,7 @@ pub struct Node {
     pub(crate) intake: Intake,
     pub(crate) notes: SegmentNotes,
     /// The ends that receive the notes of the clients.
-    pub(crate) segments: List<Receiver<Segment, SegmentKey>>,
+    pub(crate) segments: List<Receiver<SegmentNote, SegmentKey>>,
     pub(crate) clients: u16,
     /// So many claims are kept before settled groups are forgotten.
     pub(crate) limit: u32,
@@ -39,7 +39,7 @@ impl Node {
     pub(crate) fn of(
         intake: Intake,
         notes: SegmentNotes,
-        segments: List<Receiver<Segment, SegmentKey>>,
+        segments: List<Receiver<SegmentNote, SegmentKey>>,
         clients: u16,
         limit: u32,
     ) -> Node

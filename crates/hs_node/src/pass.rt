@@ -2,7 +2,7 @@
 
 ghost use Rattle.std.specs.Prelude.{◌≡◌, true, false};
 ghost use Rattle.hs_ring.specs.Parts.{Leased};
-ghost use Rattle.hs_agent.specs.Runs.{Run, IsSpent};
+ghost use Rattle.hs_agent.specs.Runs.{AgentRun, IsSpent};
 ghost use Rattle.hs_intake.specs.Intakes.{Stands};
 ghost use Rattle.hs_node.specs.Nodes.{GoesOn, GoesOnIf, OffersAs, PassesAs, is_unspent};
 ghost use Rattle.hs_node.specs.Told.{is_told, node_standing};
@@ -12,7 +12,7 @@ use crate::hearing::{note, part};
 use crate::node::Node;
 use crate::standing::{are_told, told_standing};
 use hs_base::limits::MAX_TAKEN;
-use hs_claimed::Claim;
+use hs_claimed::StatedClaim;
 use hs_intake::{Handed, Stated, Turned, receive_at};
 use hs_wire::{Standing, Wholeness};
 
@@ -62,8 +62,8 @@ fn is_unspent(turned: Turned) -> bool
 impl Node {
     /// Hears the next note of a client, if one has come.
     fn hear(&mut self, client: u16) -> bool
-        ensures on { (run : Run Leased) → Stands run self.old.intake → GoesOn run self.old self.new }
-        ensures does { (run : Run Leased) → Stands run self.old.intake → Hears client result run self.old self.new }
+        ensures on { (run : AgentRun Leased) → Stands run self.old.intake → GoesOn run self.old self.new }
+        ensures does { (run : AgentRun Leased) → Stands run self.old.intake → Hears client result run self.old self.new }
     {
         if client >= self.clients {
             return false;
@@ -77,8 +77,8 @@ impl Node {
 
     /// Hears the notes of a client that have come.
     fn hear_all(&mut self, client: u16)
-        ensures on { (run : Run Leased) → Stands run self.old.intake → GoesOn run self.old self.new }
-        ensures does { (run : Run Leased) → Stands run self.old.intake → HearsFrom client run self.old self.new }
+        ensures on { (run : AgentRun Leased) → Stands run self.old.intake → GoesOn run self.old self.new }
+        ensures does { (run : AgentRun Leased) → Stands run self.old.intake → HearsFrom client run self.old self.new }
     {
         for _ in 0..MOST_NOTES {
             if !self.hear(client) {
@@ -89,8 +89,8 @@ impl Node {
 
     /// Hears the notes of all clients that have come, one client after another.
     fn hear_each(&mut self)
-        ensures on { (run : Run Leased) → Stands run self.old.intake → GoesOn run self.old self.new }
-        ensures does { (run : Run Leased) → Stands run self.old.intake → HearsAll run self.old self.new }
+        ensures on { (run : AgentRun Leased) → Stands run self.old.intake → GoesOn run self.old self.new }
+        ensures does { (run : AgentRun Leased) → Stands run self.old.intake → HearsAll run self.old self.new }
     {
         for client in 0..self.clients {
             self.hear_all(client);
@@ -99,32 +99,32 @@ impl Node {
 
     /// The agent takes chunks of a client.
     fn take_chunks(&mut self, client: u16)
-        ensures on { (run : Run Leased) → Stands run self.old.intake → GoesOn run self.old self.new }
-        ensures does { (run : Run Leased) → Stands run self.old.intake → TakesChunks client run self.old self.new }
+        ensures on { (run : AgentRun Leased) → Stands run self.old.intake → GoesOn run self.old self.new }
+        ensures does { (run : AgentRun Leased) → Stands run self.old.intake → TakesChunks client run self.old self.new }
     {
         self.intake.chunks_of(client);
     }
 
     /// The agent takes crumbs of a client.
     fn take_crumbs(&mut self, client: u16)
-        ensures on { (run : Run Leased) → Stands run self.old.intake → GoesOn run self.old self.new }
-        ensures does { (run : Run Leased) → Stands run self.old.intake → TakesCrumbs client run self.old self.new }
+        ensures on { (run : AgentRun Leased) → Stands run self.old.intake → GoesOn run self.old self.new }
+        ensures does { (run : AgentRun Leased) → Stands run self.old.intake → TakesCrumbs client run self.old self.new }
     {
         self.intake.crumbs_of(client);
     }
 
     /// The agent takes crumbs of a client that are of traces that need not be open.
     fn take_lates(&mut self, client: u16)
-        ensures on { (run : Run Leased) → Stands run self.old.intake → GoesOn run self.old self.new }
-        ensures does { (run : Run Leased) → Stands run self.old.intake → TakesLates client run self.old self.new }
+        ensures on { (run : AgentRun Leased) → Stands run self.old.intake → GoesOn run self.old self.new }
+        ensures does { (run : AgentRun Leased) → Stands run self.old.intake → TakesLates client run self.old self.new }
     {
         self.intake.late_crumbs_of(client);
     }
 
     /// The agent takes triggers of a client.
     fn take_triggers(&mut self, client: u16)
-        ensures on { (run : Run Leased) → Stands run self.old.intake → GoesOn run self.old self.new }
-        ensures does { (run : Run Leased) → Stands run self.old.intake → TakesTriggersOf client run self.old self.new }
+        ensures on { (run : AgentRun Leased) → Stands run self.old.intake → GoesOn run self.old self.new }
+        ensures does { (run : AgentRun Leased) → Stands run self.old.intake → TakesTriggersOf client run self.old self.new }
     {
         let took = self.intake.triggers_of(client);
         self.limited = self.limited.saturating_add(u64::from(took.limited));
@@ -132,32 +132,32 @@ impl Node {
 
     /// The agent takes asks.
     fn take_asks(&mut self)
-        ensures on { (run : Run Leased) → Stands run self.old.intake → GoesOn run self.old self.new }
-        ensures does { (run : Run Leased) → Stands run self.old.intake → TakesAsked run self.old self.new }
+        ensures on { (run : AgentRun Leased) → Stands run self.old.intake → GoesOn run self.old self.new }
+        ensures does { (run : AgentRun Leased) → Stands run self.old.intake → TakesAsked run self.old self.new }
     {
         self.intake.take_asks();
     }
 
     /// Says what waits to be said.
     fn say(&mut self)
-        ensures on { (run : Run Leased) → Stands run self.old.intake → GoesOn run self.old self.new }
-        ensures does { (run : Run Leased) → Stands run self.old.intake → SaysFirst run self.old self.new }
+        ensures on { (run : AgentRun Leased) → Stands run self.old.intake → GoesOn run self.old self.new }
+        ensures does { (run : AgentRun Leased) → Stands run self.old.intake → SaysFirst run self.old self.new }
     {
         self.intake.say();
     }
 
     /// The agent takes what waits at the front.
     fn take_back(&mut self)
-        ensures on { (run : Run Leased) → Stands run self.old.intake → GoesOn run self.old self.new }
-        ensures does { (run : Run Leased) → Stands run self.old.intake → TakesFront run self.old self.new }
+        ensures on { (run : AgentRun Leased) → Stands run self.old.intake → GoesOn run self.old self.new }
+        ensures does { (run : AgentRun Leased) → Stands run self.old.intake → TakesFront run self.old self.new }
     {
         self.intake.take_back();
     }
 
     /// Takes what a client sent, its notes first.
     fn take_from(&mut self, client: u16)
-        ensures on { (run : Run Leased) → Stands run self.old.intake → GoesOn run self.old self.new }
-        ensures does { (run : Run Leased) → Stands run self.old.intake → TakesFrom client run self.old self.new }
+        ensures on { (run : AgentRun Leased) → Stands run self.old.intake → GoesOn run self.old self.new }
+        ensures does { (run : AgentRun Leased) → Stands run self.old.intake → TakesFrom client run self.old self.new }
     {
         self.hear_all(client);
         self.take_chunks(client);
@@ -168,8 +168,8 @@ impl Node {
 
     /// Takes what the clients sent, one after another.
     fn take_all(&mut self)
-        ensures on { (run : Run Leased) → Stands run self.old.intake → GoesOn run self.old self.new }
-        ensures does { (run : Run Leased) → Stands run self.old.intake → TakesAll run self.old self.new }
+        ensures on { (run : AgentRun Leased) → Stands run self.old.intake → GoesOn run self.old self.new }
+        ensures does { (run : AgentRun Leased) → Stands run self.old.intake → TakesAll run self.old self.new }
     {
         for client in 0..self.clients {
             self.take_from(client);
@@ -178,8 +178,8 @@ impl Node {
 
     /// Makes a fair turn, if the mail has a place for each chunk that is pinned. Answers whether the agent is not spent.
     fn turn(&mut self) -> bool
-        ensures on { (run : Run Leased) → Stands run self.old.intake → GoesOnIf run result self.old self.new }
-        ensures does { (run : Run Leased) → Stands run self.old.intake → result ≡ true → Turns run self.old self.new }
+        ensures on { (run : AgentRun Leased) → Stands run self.old.intake → GoesOnIf run result self.old self.new }
+        ensures does { (run : AgentRun Leased) → Stands run self.old.intake → result ≡ true → Turns run self.old self.new }
     {
         let turned = self.intake.turn();
         is_unspent(turned)
@@ -187,8 +187,8 @@ impl Node {
 
     /// Offers the first of the hand to the pool.
     fn offer(&mut self) -> Offer
-        ensures on { (run : Run Leased) → Stands run self.old.intake → OffersAs run result self.old self.new }
-        ensures does { (run : Run Leased) → Stands run self.old.intake → OffersBy run result self.old self.new }
+        ensures on { (run : AgentRun Leased) → Stands run self.old.intake → OffersAs run result self.old self.new }
+        ensures does { (run : AgentRun Leased) → Stands run self.old.intake → OffersBy run result self.old self.new }
     {
         match self.intake.hand_out() {
             Handed::Empty => Offer::None,
@@ -203,8 +203,8 @@ impl Node {
 
     /// Offers the chunks of the hand, until it is empty.
     fn offer_all(&mut self) -> bool
-        ensures on { (run : Run Leased) → Stands run self.old.intake → GoesOnIf run result self.old self.new }
-        ensures does { (run : Run Leased) → Stands run self.old.intake → result ≡ true → OffersAll run self.old self.new }
+        ensures on { (run : AgentRun Leased) → Stands run self.old.intake → GoesOnIf run result self.old self.new }
+        ensures does { (run : AgentRun Leased) → Stands run self.old.intake → result ≡ true → OffersAll run self.old self.new }
     {
         for _ in 0..MOST_OFFERS {
             match self.offer() {
@@ -218,7 +218,7 @@ impl Node {
 
     /// Whether each node to which a crumb of a claim's trace led, as far as the notes tell, was named by a message for its group, or for a group
     /// that claims the trace. Mostly its own group's messages name them all.
-    fn is_told(&self, claim: &Claim) -> bool
+    fn is_told(&self, claim: &StatedClaim) -> bool
         ensures { result ≡ is_told self.now.notes self.now.intake.claims claim.now }
     {
         let crumbs = self.notes.crumbs(claim.trace);
@@ -229,7 +229,7 @@ impl Node {
     }
 
     /// How the node stands to a claim. It is whole or unheard only where each crumb was told.
-    fn standing(&self, claim: &Claim) -> Standing
+    fn standing(&self, claim: &StatedClaim) -> Standing
         ensures { result ≡ node_standing self.now.notes self.now.intake.claims claim.now }
     {
         let standing = self.notes.standing(claim.trace, claim.group);
@@ -243,8 +243,8 @@ impl Node {
 
     /// Says how the node stands to the claim that is looked at, if that is news. Answers whether the next one may be looked at.
     fn state(&mut self) -> bool
-        ensures on { (run : Run Leased) → Stands run self.old.intake → GoesOn run self.old self.new }
-        ensures does { (run : Run Leased) → Stands run self.old.intake → StatesNext result run self.old self.new }
+        ensures on { (run : AgentRun Leased) → Stands run self.old.intake → GoesOn run self.old self.new }
+        ensures does { (run : AgentRun Leased) → Stands run self.old.intake → StatesNext result run self.old self.new }
     {
         let Some(claim) = self.intake.claims().current().copied() else {
             return false;
@@ -256,16 +256,16 @@ impl Node {
 
     /// Looks at the next claim.
     fn look_on(&mut self)
-        ensures on { (run : Run Leased) → Stands run self.old.intake → GoesOn run self.old self.new }
-        ensures does { (run : Run Leased) → Stands run self.old.intake → LooksOn run self.old self.new }
+        ensures on { (run : AgentRun Leased) → Stands run self.old.intake → GoesOn run self.old self.new }
+        ensures does { (run : AgentRun Leased) → Stands run self.old.intake → LooksOn run self.old self.new }
     {
         self.intake.look_on();
     }
 
     /// Says what is news of the next claims, at most 64, while no chunk is in the hand.
     fn state_all(&mut self)
-        ensures on { (run : Run Leased) → Stands run self.old.intake → GoesOn run self.old self.new }
-        ensures does { (run : Run Leased) → Stands run self.old.intake → StatesAll run self.old self.new }
+        ensures on { (run : AgentRun Leased) → Stands run self.old.intake → GoesOn run self.old self.new }
+        ensures does { (run : AgentRun Leased) → Stands run self.old.intake → StatesAll run self.old self.new }
     {
         if self.intake.in_hand() != 0 {
             return;
@@ -280,8 +280,8 @@ impl Node {
 
     /// Forgets the group that claimed first, if more claims are kept than the limit says and it is settled.
     fn forget(&mut self) -> bool
-        ensures on { (run : Run Leased) → Stands run self.old.intake → GoesOn run self.old self.new }
-        ensures does { (run : Run Leased) → Stands run self.old.intake → ForgetsOne result run self.old self.new }
+        ensures on { (run : AgentRun Leased) → Stands run self.old.intake → GoesOn run self.old self.new }
+        ensures does { (run : AgentRun Leased) → Stands run self.old.intake → ForgetsOne result run self.old self.new }
     {
         if !self.intake.claims().is_above(self.limit) {
             return false;
@@ -291,8 +291,8 @@ impl Node {
 
     /// Forgets the groups that claimed first and are settled, at most 64, while more claims are kept than the limit says.
     fn forget_all(&mut self)
-        ensures on { (run : Run Leased) → Stands run self.old.intake → GoesOn run self.old self.new }
-        ensures does { (run : Run Leased) → Stands run self.old.intake → ForgetsAll run self.old self.new }
+        ensures on { (run : AgentRun Leased) → Stands run self.old.intake → GoesOn run self.old self.new }
+        ensures does { (run : AgentRun Leased) → Stands run self.old.intake → ForgetsAll run self.old self.new }
     {
         for _ in 0..MAX_TAKEN {
             if !self.forget() {
@@ -304,8 +304,8 @@ impl Node {
     /// Takes what waits at the front, then what the clients sent and what the hub asks. At last the notes are heard that came meanwhile, so
     /// that of a page that a turn reports its segment was heard.
     fn take(&mut self)
-        ensures on { (run : Run Leased) → Stands run self.old.intake → GoesOn run self.old self.new }
-        ensures does { (run : Run Leased) → Stands run self.old.intake → Takes run self.old self.new }
+        ensures on { (run : AgentRun Leased) → Stands run self.old.intake → GoesOn run self.old self.new }
+        ensures does { (run : AgentRun Leased) → Stands run self.old.intake → Takes run self.old self.new }
     {
         self.say();
         self.take_back();
@@ -317,8 +317,8 @@ impl Node {
     /// Makes a pass: takes what waits at the front, of each client its notes, chunks, crumbs and triggers, and what the hub asks; hears the
     /// notes that came meanwhile; makes a turn; offers the hand to the pool; says what is news of claims; forgets settled groups.
     pub fn pass(&mut self) -> Passed
-        ensures on { (run : Run Leased) → Stands run self.old.intake → PassesAs run result self.old self.new }
-        ensures does { (run : Run Leased) → Stands run self.old.intake → result ≡ Passed.Done → Passes run self.old self.new }
+        ensures on { (run : AgentRun Leased) → Stands run self.old.intake → PassesAs run result self.old self.new }
+        ensures does { (run : AgentRun Leased) → Stands run self.old.intake → result ≡ Passed.Done → Passes run self.old self.new }
     {
         self.take();
         if !self.turn() {

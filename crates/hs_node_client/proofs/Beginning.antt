@@ -8,7 +8,7 @@ use Rattle.hs_node_client.proofs.Ends.{keeps_trans, keeps_same}
 use Rattle.hs_node_client.specs.Clients.{KeepsDraws}
 use Rattle.hs_node_client.specs.Lives.{HasHalf, TurnsInto}
 use Rattle.hs_node_client.specs.declared.client.NodeClient.TheInside.{Inside}
-use Rattle.hs_node_client.specs.declared.counts.Tally.{Tally}
+use Rattle.hs_node_client.specs.declared.counts.RunningCounts.{RunningCounts}
 use Rattle.hs_node_client.specs.declared.notebook.Notebook.{Notebook}
 
 -- a core in the place of another one of the same client
@@ -79,7 +79,7 @@ begin_keeps trace old mid kept new t draws only is =
     (subst (λ (c : PlainClient). KeepsEnds kept c) (sym is) (core_keeps kept (after_step kept.core (Began trace)) refl refl refl)))
 
 -- a client that has opened a trace
-pub begun_inside : (trace : TraceId) (s : Inside) (kept live : PlainClient) (notebook : Notebook) (tally : Tally) → IsNodeClient s → kept ≡ record s.live { drawer = kept.drawer } → live ≡ record kept { core = after_step kept.core (Began trace) }
+pub begun_inside : (trace : TraceId) (s : Inside) (kept live : PlainClient) (notebook : Notebook) (tally : RunningCounts) → IsNodeClient s → kept ≡ record s.live { drawer = kept.drawer } → live ≡ record kept { core = after_step kept.core (Began trace) }
     → 2 * s.live.core.counted ≤ s.live.core.calls → notebook.number ≡ s.notebook.number + 1 → s.notebook.number + 2 < 2 ^ 64 → tally.here.points ≡ 0
     → IsNodeClient (record { live = live; late = s.late; notebook = notebook; tally = tally; declared = s.declared; fires = s.fires; nodes = s.nodes; calls = s.calls })
 begun_inside trace s kept live notebook tally is only after half number more none =

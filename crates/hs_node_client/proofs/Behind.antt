@@ -8,7 +8,7 @@ use Rattle.hs_records.specs.Records.{piece_count}
 use Rattle.hs_node_client.proofs.Prelude.{Core, NeedsPage, PlainClient, Does, Spends, counts, writing_of, End, Point, Leased}
 use Rattle.hs_node_client.proofs.Paging.{point_open}
 use Rattle.hs_node_client.specs.Paging.{IsBehind, PointsTakePages, EndsTakeNone}
-use Rattle.hs_node_client.specs.declared.paged.Place.{Place}
+use Rattle.hs_node_client.specs.declared.paged.NextPage.{NextPage}
 
 pub pages_ended : (core : Core Leased) → core.current ≡ None → length (all_pages core) ≡ length core.pages
 pages_ended core none = ap (λ (o : Option (Current Leased)). length (all_pages (record core { current = o }))) none ∙ ap length (append-nil core.pages)
@@ -17,7 +17,7 @@ none_open : {A : Type 0} (o : Option A) → o ≡ None → IsSome o → ⊥
 none_open None none some = cc
 none_open (Some a) none some = cc
 
-pub ended_behind : EndsTakeNone → (answer : Called) (place : Place) (old new : PlainClient) → IsBehind place old → Does End answer old new → (answer ≡ called.Done → new.core.trace ≡ None)
+pub ended_behind : EndsTakeNone → (answer : Called) (place : NextPage) (old new : PlainClient) → IsBehind place old → Does End answer old new → (answer ≡ called.Done → new.core.trace ≡ None)
     → Spends (counts 1 answer) (writing_of old) (writing_of new) → IsBehind place new
 ended_behind takes called.Done place old new is does closes spends =
     let done = does is.made is.ops is.done in
@@ -37,7 +37,7 @@ ended_behind takes called.AlreadyOpen place old new is does closes spends = subs
 ended_behind takes called.NoTrace place old new is does closes spends = subst (IsBehind place) (sym does) is
 ended_behind takes called.TooWide place old new is does closes spends = subst (IsBehind place) (sym does) is
 
-pub pointed_behind : PointsTakePages → (moment : ℕ) (payload : List ℕ) (place place' : Place) (old new : PlainClient) → IsBehind place old → Does (Point moment payload) called.Done old new → IsSome old.core.trace
+pub pointed_behind : PointsTakePages → (moment : ℕ) (payload : List ℕ) (place place' : NextPage) (old new : PlainClient) → IsBehind place old → Does (Point moment payload) called.Done old new → IsSome old.core.trace
     → NeedsPage old.core (length payload) → MIN_SIZE ≤ old.core.size → old.core.counted + piece_count old.core.size (length payload) ≤ old.core.calls
     → Spends (piece_count old.core.size (length payload)) (writing_of old) (writing_of new) → place'.core ≡ place.core → place'.page ≡ place.page + piece_count old.core.size (length payload) → IsBehind place' new
 pointed_behind takes moment payload place place' old new is does opened needs least left spends core page =

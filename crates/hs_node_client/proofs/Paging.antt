@@ -7,7 +7,7 @@ use mathlib.Core.Logic.{dite}
 use native.Mathlib.Decide.{dec_le}
 use Rattle.hs_base.specs.declared.limits.TheConstants.{HEADER_COST, PIECE_COST, FRAME_COST, MIN_SIZE}
 use Rattle.hs_base.specs.declared.ids.TraceId.{TraceId}
-use Rattle.hs_client.specs.Core.{Step, Current, Began, Wrote, Needed, Supplied, Ended_, Refused, closed, draw_of, all_pages, piece, next_page, MaySupply}
+use Rattle.hs_client.specs.Core.{CoreStep, Current, Began, Wrote, Needed, Supplied, Ended_, Refused, closed, draw_of, all_pages, piece, next_page, MaySupply}
 use Rattle.hs_client.specs.Calls.{AreSteps, May, after, next_number, segments_of_steps, with_all, draws_supplied, pages_of_steps, note_of}
 use Rattle.hs_law_sends.proofs.Adding.{page_more}
 use Rattle.hs_law_sends.specs.SoFar.{has_open_page}
@@ -49,18 +49,18 @@ pieces_full cut (suc most) size payload least short =
 
 -- ---- steps that write each of these pieces on a page of its own
 
-abbrev turned : ℕ → List (List ℕ) → List (Step Leased) → List (Step Leased)
+abbrev turned : ℕ → List (List ℕ) → List (CoreStep Leased) → List (CoreStep Leased)
 turned moment [] steps = steps
 turned moment (p ∷ ps) steps = turned moment ps (Supplied None 0 moment p true ∷ Needed (length p) ∷ steps)
 
 abbrev numbered : ℕ → ℕ → List (List ℕ) → List Piece
 numbered number moment ps = map (λ (bytes : List ℕ). let p : Piece = record { number = number; moment = moment; payload = bytes } in p) ps
 
-turned_segments : (moment : ℕ) (ps : List (List ℕ)) (steps : List (Step Leased)) → segments_of_steps (turned moment ps steps) ≡ with_all (numbered (next_number steps) moment ps) (segments_of_steps steps)
+turned_segments : (moment : ℕ) (ps : List (List ℕ)) (steps : List (CoreStep Leased)) → segments_of_steps (turned moment ps steps) ≡ with_all (numbered (next_number steps) moment ps) (segments_of_steps steps)
 turned_segments moment [] steps = refl
 turned_segments moment (p ∷ ps) steps = turned_segments moment ps (Supplied None 0 moment p true ∷ Needed (length p) ∷ steps)
 
-turned_draws : (moment : ℕ) (ps : List (List ℕ)) (steps : List (Step Leased)) → length (draws_supplied (turned moment ps steps)) ≡ length (draws_supplied steps) + length ps
+turned_draws : (moment : ℕ) (ps : List (List ℕ)) (steps : List (CoreStep Leased)) → length (draws_supplied (turned moment ps steps)) ≡ length (draws_supplied steps) + length ps
 turned_draws moment [] steps = omega arith
 turned_draws moment (p ∷ ps) steps =
     let buffer : Option (Rattle.hs_words.specs.Buffers.Buffer Leased) = None in
@@ -99,7 +99,7 @@ rest_full : (limit : ℕ) (p : List ℕ) (ps : List (List ℕ)) → AreFull limi
 rest_full limit p [] full = tt
 rest_full limit p (next ∷ ps) full = full.1
 
-turned_may : (new : Core Leased) (limit moment : ℕ) (ps : List (List ℕ)) (steps : List (Step Leased)) → AreSteps new steps → IsSome (after new steps).trace
+turned_may : (new : Core Leased) (limit moment : ℕ) (ps : List (List ℕ)) (steps : List (CoreStep Leased)) → AreSteps new steps → IsSome (after new steps).trace
     → (after new steps).counted + length ps ≤ (after new steps).calls → FRAME_COST + limit ≡ (after new steps).size → AreFull limit ps → NeedsFirst (after new steps) ps → IsReady (after new steps) → AreSteps new (turned moment ps steps)
 turned_may new limit moment [] steps are opened left sized full needs ready = are
 turned_may new limit moment (p ∷ ps) steps are opened left sized full needs ready =
@@ -120,7 +120,7 @@ turned_may new limit moment (p ∷ ps) steps are opened left sized full needs re
 -- ---- the bytes of a page
 
 -- a page that is written has its header and a piece
-page_used : Books → (made : Made) (steps : List (Step Leased)) → AreSteps (new_of made) steps → IsSome (after (new_of made) steps).current → FRAME_COST ≤ (after (new_of made) steps).used
+page_used : Books → (made : Made) (steps : List (CoreStep Leased)) → AreSteps (new_of made) steps → IsSome (after (new_of made) steps).current → FRAME_COST ≤ (after (new_of made) steps).used
 page_used books made [] are some = absurd cc
 page_used books made (Began trace ∷ earlier) are some =
     let book = book_of books made earlier are.0 in
@@ -156,7 +156,7 @@ abbrev pub Sends : Type 0
 Sends = (made : Made) (ops : List Operation) (client : PlainClient) → HasDone made ops client → HasSent made ops client
 
 -- a core has as many pages as draws
-pub pages_drawn : Books → (made : Made) (steps : List (Step Leased)) (core : Core Leased) → AreSteps (new_of made) steps → core ≡ after (new_of made) steps → length (all_pages core) ≡ length (draws_supplied steps)
+pub pages_drawn : Books → (made : Made) (steps : List (CoreStep Leased)) (core : Core Leased) → AreSteps (new_of made) steps → core ≡ after (new_of made) steps → length (all_pages core) ≡ length (draws_supplied steps)
 pages_drawn books made steps core are is =
     let book = book_of books made steps are in
     ap (λ (c : Core Leased). length (all_pages c)) is ∙ ap length book.pages ∙ length-map (pages_of_steps made.size steps) note_of ∙ sym book.each

@@ -17,6 +17,6 @@ pub use Rattle.hs_node_client.specs.Inside.{HasCalls, IsNodeClient, node_client_
 pub use Rattle.hs_node_client.specs.Known.{AreDeclared, rules_in}
 pub use Rattle.hs_node_client.specs.Lives.{ClientLife, CoreLife, FollowsOn, HasLife, IsLow, Lives, LivesOn, Turns, with_op}
 pub use Rattle.hs_node_client.specs.Notes.{Lacks, Notes, PutsOn}
-pub use Rattle.hs_node_client.specs.declared.called.Called.{Called}
+pub use Rattle.hs_node_client.specs.declared.answers.CallAnswer.{CallAnswer}
 pub use Rattle.hs_records.specs.Plain.{Begin, End, Fire, Operation, Point, Sample}
 pub use Rattle.hs_ring.specs.Parts.{Drawing, Leased}

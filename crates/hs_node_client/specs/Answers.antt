@@ -12,8 +12,8 @@ use Rattle.hs_ring.specs.Parts.{Leased}
 use Rattle.hs_node_client.specs.Clients.{PlainNodeClient}
 use Rattle.hs_node_client.specs.Lives.{IsLow}
 use Rattle.hs_node_client.specs.Notes.{Lacks}
-use Rattle.hs_node_client.specs.declared.called.Called.{Called}
-use Rattle.hs_node_client.specs.declared.called.Called.TheVariants as called
+use Rattle.hs_node_client.specs.declared.answers.CallAnswer.{CallAnswer}
+use Rattle.hs_node_client.specs.declared.answers.CallAnswer.TheVariants as called
 
 -- ---- numbers
 
@@ -62,7 +62,7 @@ pieces_in client bytes = piece_count client.core.size bytes
 
 -- ---- answers
 
-abbrev pub BeginsBy : PlainNodeClient → Called → Type 0
+abbrev pub BeginsBy : PlainNodeClient → CallAnswer → Type 0
 BeginsBy old called.Done = (old.live.core.trace ≡ None) × MayBegin old
 BeginsBy old called.NoTrace = ⊥
 BeginsBy old called.AlreadyOpen = IsSome old.live.core.trace
@@ -72,7 +72,7 @@ BeginsBy old called.Unknown = ⊥
 BeginsBy old called.Spent = (old.live.core.trace ≡ None) × IsAtItsEnd old
 
 -- What is answered where numbers, and places for chunks, are wanted for so many pieces.
-abbrev pub PreparesBy : ℕ → PlainClient → Called → PlainClient → Type 0
+abbrev pub PreparesBy : ℕ → PlainClient → CallAnswer → PlainClient → Type 0
 PreparesBy pieces old called.Done new = MayHaveNumbers pieces old × HasNumbers pieces new × HasPlaces pieces new.chunks
 PreparesBy pieces old called.NoTrace new = ⊥
 PreparesBy pieces old called.AlreadyOpen new = ⊥
@@ -83,7 +83,7 @@ PreparesBy pieces old called.Spent new = LacksNumbers pieces old
 
 -- A point that the open page has room for is done. Any other needs numbers, and places for as many chunks as it has pieces. If only draws
 -- are wanting, the allowance is made whole first, where it can be.
-abbrev pub PointsBy : PlainClient → ℕ → Called → PlainClient → Type 0
+abbrev pub PointsBy : PlainClient → ℕ → CallAnswer → PlainClient → Type 0
 PointsBy old bytes called.Done new = IsSome old.core.trace × (bytes ≤ MAX_PAYLOAD) × (Fits old.core bytes ⊎ MayHaveNumbers (pieces_in old bytes) old)
 PointsBy old bytes called.NoTrace new = old.core.trace ≡ None
 PointsBy old bytes called.AlreadyOpen new = ⊥
@@ -92,7 +92,7 @@ PointsBy old bytes called.Full new = IsSome old.core.trace × (bytes ≤ MAX_PAY
 PointsBy old bytes called.Unknown new = ⊥
 PointsBy old bytes called.Spent new = IsSome old.core.trace × (bytes ≤ MAX_PAYLOAD) × NeedsPage old.core bytes × LacksNumbers (pieces_in old bytes) old
 
-abbrev pub CrumbsBy : PlainClient → NodeId → Called → PlainClient → Type 0
+abbrev pub CrumbsBy : PlainClient → NodeId → CallAnswer → PlainClient → Type 0
 CrumbsBy old node called.Done new = IsSome old.core.trace × (node.0 < old.crumbs.key.nodes)
 CrumbsBy old node called.NoTrace new = (old.core.trace ≡ None) × (node.0 < old.crumbs.key.nodes)
 CrumbsBy old node called.AlreadyOpen new = ⊥
@@ -102,7 +102,7 @@ CrumbsBy old node called.Unknown new = old.crumbs.key.nodes ≤ node.0
 CrumbsBy old node called.Spent new = ⊥
 
 -- A crumb of a trace that need not be open.
-abbrev pub LateBy : PlainNodeClient → NodeId → Called → PlainNodeClient → Type 0
+abbrev pub LateBy : PlainNodeClient → NodeId → CallAnswer → PlainNodeClient → Type 0
 LateBy old node called.Done new = node.0 < old.late.key.nodes
 LateBy old node called.NoTrace new = ⊥
 LateBy old node called.AlreadyOpen new = ⊥
@@ -111,7 +111,7 @@ LateBy old node called.Full new = (node.0 < old.late.key.nodes) × Lacks 1 old.l
 LateBy old node called.Unknown new = old.late.key.nodes ≤ node.0
 LateBy old node called.Spent new = ⊥
 
-abbrev pub TriggersBy : PlainClient → Trigger → Called → PlainClient → Type 0
+abbrev pub TriggersBy : PlainClient → Trigger → CallAnswer → PlainClient → Type 0
 TriggersBy old trigger called.Done new = is_declared old.triggers.key.rules trigger.trigger ≡ true
 TriggersBy old trigger called.NoTrace new = ⊥
 TriggersBy old trigger called.AlreadyOpen new = ⊥
@@ -120,7 +120,7 @@ TriggersBy old trigger called.Full new = (is_declared old.triggers.key.rules tri
 TriggersBy old trigger called.Unknown new = is_declared old.triggers.key.rules trigger.trigger ≡ false
 TriggersBy old trigger called.Spent new = ⊥
 
-abbrev pub SamplesBy : PlainClient → ℕ → Called → PlainClient → Type 0
+abbrev pub SamplesBy : PlainClient → ℕ → CallAnswer → PlainClient → Type 0
 SamplesBy old auto called.Done new = IsSome old.core.trace × (auto < length old.autos)
 SamplesBy old auto called.NoTrace new = (old.core.trace ≡ None) × (auto < length old.autos)
 SamplesBy old auto called.AlreadyOpen new = ⊥
@@ -129,7 +129,7 @@ SamplesBy old auto called.Full new = IsSome old.core.trace × (auto < length old
 SamplesBy old auto called.Unknown new = length old.autos ≤ auto
 SamplesBy old auto called.Spent new = ⊥
 
-abbrev pub EndsBy : PlainClient → Called → PlainClient → Type 0
+abbrev pub EndsBy : PlainClient → CallAnswer → PlainClient → Type 0
 EndsBy old called.Done new = IsSome old.core.trace
 EndsBy old called.NoTrace new = old.core.trace ≡ None
 EndsBy old called.AlreadyOpen new = ⊥

@@ -9,9 +9,9 @@ use Rattle.hs_live.specs.Keys.{Key}
 use Rattle.hs_live.specs.Live.{PlainClient, GoesOn}
 use Rattle.hs_live.specs.Writing.{DrawsOn}
 use Rattle.hs_ring.specs.Parts.{Leased, Drawing, Refills}
-use Rattle.hs_node_client.specs.declared.counts.Tally.{Tally}
+use Rattle.hs_node_client.specs.declared.counts.RunningCounts.{RunningCounts}
 use Rattle.hs_node_client.specs.declared.notebook.Notebook.{Notebook}
-use Rattle.hs_node_client.specs.declared.paged.Place.{Place}
+use Rattle.hs_node_client.specs.declared.paged.NextPage.{NextPage}
 use Rattle.hs_node_client.specs.declared.segment.SegmentState.{SegmentState}
 use Rattle.hs_node_client.specs.declared.segment.SegmentState.TheVariants.{Closed}
 use Rattle.hs_node_client.specs.Counting.{opened, closed, renewed, segment_counts, with_dropped}
@@ -22,7 +22,7 @@ pub record PlainNodeClient : Type 0 where
   pub live : PlainClient
   pub late : Outgoing Crumb Key
   pub notebook : Notebook
-  pub tally : Tally
+  pub tally : RunningCounts
 
 -- ---- what stays
 
@@ -57,12 +57,12 @@ pub record KeepsDraws (old new : Drawing) : Type 0 where
 -- ---- what is noted
 
 -- what a note leaves of the counts
-abbrev pub counted_note : Bool → Tally → Tally
+abbrev pub counted_note : Bool → RunningCounts → RunningCounts
 counted_note true tally = tally
 counted_note false tally = with_dropped tally
 
 -- It is noted, with the place of the client's next page. A note that is dropped is counted.
-abbrev pub NotesIt : TraceId → SegmentState → Place → Notebook → Tally → Notebook → Tally → Type 0
+abbrev pub NotesIt : TraceId → SegmentState → NextPage → Notebook → RunningCounts → Notebook → RunningCounts → Type 0
 NotesIt trace state place old counted new tally = (was_sent : Bool) × Notes place trace state old was_sent new × (tally ≡ counted_note was_sent counted)
 
 -- the null pages of a core
@@ -70,7 +70,7 @@ abbrev pub nulls_of : Core Leased → ℕ
 nulls_of core = count_by is_null core.draws
 
 -- the counts where a trace is opened: after a renewal, if fewer than half of the core's calls were left
-abbrev pub tally_at_begin : PlainNodeClient → Tally
+abbrev pub tally_at_begin : PlainNodeClient → RunningCounts
 tally_at_begin old =
     if nat_lt old.live.core.calls (2 * old.live.core.counted) then opened 0 0 (renewed (nulls_of old.live.core) old.tally) else opened (nulls_of old.live.core) (length old.live.core.pages) old.tally
 
@@ -79,7 +79,7 @@ abbrev pub NotesEnd : PlainNodeClient → PlainNodeClient → Type 0
 NotesEnd old new = IfSome old.live.core.trace (λ trace. NotesIt trace (Closed (segment_counts (nulls_of new.live.core) (length new.live.core.pages) old.tally)) (place_in new.live.core) old.notebook (closed old.tally) new.notebook new.tally)
 
 -- What became of a crumb of a trace that need not be open is noted, if a number is left beside that for the end of a segment. Else nothing is.
-pub record NotesLate (trace : TraceId) (state : SegmentState) (old : PlainNodeClient) (counted : Tally) (new : PlainNodeClient) : Type 0 where
+pub record NotesLate (trace : TraceId) (state : SegmentState) (old : PlainNodeClient) (counted : RunningCounts) (new : PlainNodeClient) : Type 0 where
   pub noted : old.notebook.number + 2 < 2 ^ 64 → NotesIt trace state (place_behind old.live.core) old.notebook counted new.notebook new.tally
   pub spent : 2 ^ 64 ≤ old.notebook.number + 2 → (new.notebook ≡ old.notebook) × (new.tally ≡ counted)
 

@@ -10,8 +10,8 @@ use Rattle.hs_records.specs.Plain.{Operation, Begin, End}
 use Rattle.hs_ring.specs.Parts.{Leased}
 use Rattle.hs_node_client.specs.Clients.{PlainNodeClient, nulls_of}
 use Rattle.hs_node_client.specs.Counting.{renewed}
-use Rattle.hs_node_client.specs.declared.called.Called.{Called}
-use Rattle.hs_node_client.specs.declared.called.Called.TheVariants as called
+use Rattle.hs_node_client.specs.declared.answers.CallAnswer.{CallAnswer}
+use Rattle.hs_node_client.specs.declared.answers.CallAnswer.TheVariants as called
 
 -- what a core was made or renewed with, and the operations since
 pub record CoreLife : Type 0 where
@@ -69,7 +69,7 @@ abbrev pub LivesOn : PlainClient → PlainClient → Type 0
 LivesOn old new = (life : ClientLife) → HasLife life old → HasLife life new
 
 -- An operation that is done joins those of the last core. Any other answer does none.
-abbrev pub Lives : Operation → Called → PlainClient → PlainClient → Type 0
+abbrev pub Lives : Operation → CallAnswer → PlainClient → PlainClient → Type 0
 Lives op called.Done old new = (life : ClientLife) → HasLife life old → HasLife (with_op op life) new
 Lives op called.NoTrace old new = LivesOn old new
 Lives op called.AlreadyOpen old new = LivesOn old new
@@ -92,7 +92,7 @@ pub record TurnsInto (old new : PlainNodeClient) : Type 0 where
 abbrev pub BeginsIn : TraceId → PlainClient → PlainClient → Type 0
 BeginsIn trace old new = (life : ClientLife) → HasLife life old → (life' : ClientLife) × Turns old.core life life' × HasLife (with_op (Begin trace) life') new
 
-abbrev pub LivesByBegin : TraceId → Called → PlainClient → PlainClient → Type 0
+abbrev pub LivesByBegin : TraceId → CallAnswer → PlainClient → PlainClient → Type 0
 LivesByBegin trace called.Done old new = BeginsIn trace old new
 LivesByBegin trace called.NoTrace old new = LivesOn old new
 LivesByBegin trace called.AlreadyOpen old new = LivesOn old new

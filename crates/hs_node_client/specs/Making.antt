@@ -20,7 +20,7 @@ use Rattle.hs_node_client.specs.declared.making.Made.{Made}
 use Rattle.hs_node_client.specs.declared.making.Joined.{Joined}
 use Rattle.hs_node_client.specs.declared.making.Receivers.{Receivers}
 use Rattle.hs_node_client.specs.declared.making.Senders.{Senders}
-use Rattle.hs_node_client.specs.declared.segment.Segment.{Segment}
+use Rattle.hs_node_client.specs.declared.segment.SegmentNote.{SegmentNote}
 use Rattle.hs_node_client.specs.declared.segment.SegmentKey.{SegmentKey}
 use Rattle.hs_node_client.specs.Clients.{PlainNodeClient}
 use Rattle.hs_node_client.specs.Counting.{no_counts}
@@ -81,7 +81,7 @@ pub record Ends : Type 0 where
   pub crumbs : Incoming Crumb Key
   pub triggers : Incoming Trigger Key
   pub late : Incoming Crumb Key
-  pub notes : Incoming Segment SegmentKey
+  pub notes : Incoming SegmentNote SegmentKey
 
 abbrev pub ends_of : Receivers → Ends
 ends_of r = record { chunks = incoming r.chunks; crumbs = r.crumbs; triggers = r.triggers; late = r.late; notes = r.notes }
@@ -110,7 +110,7 @@ pub record Receiving : Type 0 where
   pub crumbs : List (Incoming Crumb Key)
   pub triggers : List (Incoming Trigger Key)
   pub late : List (Incoming Crumb Key)
-  pub notes : List (Incoming Segment SegmentKey)
+  pub notes : List (Incoming SegmentNote SegmentKey)
 
 -- what receives of the client with this number
 pub record StandAt (number : ℕ) (receiving : Receiving) (ends : Ends) : Type 0 where

@@ -9,19 +9,19 @@ use Rattle.hs_live.specs.Writing.{Made}
 use Rattle.hs_records.specs.Plain.{Operation, Point, End}
 use Rattle.hs_records.specs.Records.{piece_count}
 use Rattle.hs_ring.specs.Parts.{Leased}
-use Rattle.hs_node_client.specs.declared.paged.Place.{Place}
+use Rattle.hs_node_client.specs.declared.paged.NextPage.{NextPage}
 
 -- where the next page of a core comes that keeps no page: behind those that ended
-abbrev pub place_in : Core Leased → Place
+abbrev pub place_in : Core Leased → NextPage
 place_in core = record { core = core.renewed; page = length core.pages }
 
 -- the same of any core: behind the page that is kept, too
-abbrev pub place_behind : Core Leased → Place
+abbrev pub place_behind : Core Leased → NextPage
 place_behind core = record { core = core.renewed; page = length (all_pages core) }
 
 -- The place is behind all pages of the client's core. As many calls were counted at least. The client did some operations since its core
 -- came, and where a trace is open that has no page, none of its bytes was used.
-pub record IsBehind (place : Place) (live : PlainClient) : Type 0 where
+pub record IsBehind (place : NextPage) (live : PlainClient) : Type 0 where
   pub made : Made
   pub ops : List Operation
   pub done : HasDone made ops live

@@ -8,13 +8,13 @@ use Rattle.hs_records.specs.declared.journal.Draw.{Draw}
 use Rattle.hs_records.specs.declared.journal.Draw.TheVariants as draws
 use Rattle.hs_ring.specs.Parts.{Leased}
 use Rattle.hs_node_client.specs.Clients.{nulls_of}
-use Rattle.hs_node_client.specs.declared.called.Called.{Called}
-use Rattle.hs_node_client.specs.declared.called.Called.TheVariants as called
-use Rattle.hs_node_client.specs.declared.called.Pointed.{Pointed}
-use Rattle.hs_node_client.specs.declared.called.Pointed.TheVariants as pointed
+use Rattle.hs_node_client.specs.declared.answers.CallAnswer.{CallAnswer}
+use Rattle.hs_node_client.specs.declared.answers.CallAnswer.TheVariants as called
+use Rattle.hs_node_client.specs.declared.answers.PointAnswer.{PointAnswer}
+use Rattle.hs_node_client.specs.declared.answers.PointAnswer.TheVariants as pointed
 
 -- the answer where nobody asks whether the pool was empty
-abbrev pub called_of : Pointed → Called
+abbrev pub called_of : PointAnswer → CallAnswer
 called_of pointed.Done = called.Done
 called_of pointed.Dry = called.Done
 called_of pointed.NoTrace = called.NoTrace
@@ -27,7 +27,7 @@ abbrev pub FoundDry : Core Leased → Core Leased → Type 0
 FoundDry old new = nulls_of old < nulls_of new
 
 -- A point that is done is dry if one of its draws found the pool empty, and only then. One that is not done changes no core.
-abbrev pub DriesBy : Pointed → Core Leased → Core Leased → Type 0
+abbrev pub DriesBy : PointAnswer → Core Leased → Core Leased → Type 0
 DriesBy pointed.Done old new = nulls_of new ≤ nulls_of old
 DriesBy pointed.Dry old new = FoundDry old new
 DriesBy pointed.NoTrace old new = new ≡ old

@@ -8,13 +8,13 @@ ghost use Rattle.hs_link.specs.Contents.{HasPlaces};
 ghost use Rattle.hs_live.specs.Done.{DoesNothing};
 ghost use Rattle.hs_live.specs.Keys.{IsTriggerOf};
 ghost use Rattle.hs_records.specs.Plain.{Point, Crumb as LeaveCrumb, End, Fire, Sample};
-ghost use Rattle.hs_node_client.specs.declared.called.Called.TheVariants.{Done};
+ghost use Rattle.hs_node_client.specs.declared.answers.CallAnswer.TheVariants.{Done};
 ghost use Rattle.hs_node_client.specs.Answers.{PointsBy, CrumbsBy, TriggersBy, SamplesBy, EndsBy, HasCallsFor, LacksCallsFor, PreparesBy, pieces_in};
 ghost use Rattle.hs_node_client.specs.Clients.{PutsThrough, KeepsEnds};
 ghost use Rattle.hs_node_client.specs.Known.{rules_in};
 ghost use Rattle.hs_node_client.specs.Lives.{Lives};
 
-use crate::called::Called;
+use crate::answers::CallAnswer;
 use crate::paged::Paged;
 use crate::places::{has_chunk_places, has_crumb_place, has_trigger_place};
 use hs_base::limits::{MAX_PAYLOAD, PIECE_COST};
@@ -47,7 +47,7 @@ fn has_calls(client: &Paged, pieces: u32) -> bool
 
 /// Sees to calls of the core, draws and places for so many pieces on new pages, and answers whether there are as many. Where draws alone
 /// are wanting, the allowance is made whole.
-fn prepare(client: &mut Paged, pieces: u32) -> Called
+fn prepare(client: &mut Paged, pieces: u32) -> CallAnswer
     ensures answer { PreparesBy pieces client.old result client.new }
     ensures refused { (result ≡ Done → ⊥) → PutsThrough client.old client.new }
     ensures keeps { KeepsEnds client.old client.new }
@@ -56,18 +56,18 @@ fn prepare(client: &mut Paged, pieces: u32) -> Called
     ensures does { DoesNothing client.old client.new }
 {
     if !has_calls(client, pieces) {
-        return Called::Spent;
+        return CallAnswer::Spent;
     }
     if client.draws_left() < pieces {
         if refill_for(client, pieces) {
-            return Called::Done;
+            return CallAnswer::Done;
         }
-        return Called::Spent;
+        return CallAnswer::Spent;
     }
     if has_chunk_places(client, pieces) {
-        return Called::Done;
+        return CallAnswer::Done;
     }
-    Called::Full
+    CallAnswer::Full
 }
 
 /// Makes the allowance of draws whole for so many pieces, if it has as many and the outbox has as many places, and answers whether all of
@@ -94,7 +94,7 @@ fn refill_for(client: &mut Paged, pieces: u32) -> bool
 }
 
 /// Records a payload that the open page has no room for.
-pub(crate) fn point(client: &mut Paged, moment: u64, payload: &[u8]) -> Called
+pub(crate) fn point(client: &mut Paged, moment: u64, payload: &[u8]) -> CallAnswer
     requires { NeedsPage client.old.core (length payload.now) }
     ensures answer { PointsBy client.old (length payload.now) result client.new }
     ensures does { Lives (Point moment payload.now) result client.old client.new }
@@ -107,26 +107,27 @@ pub(crate) fn point(client: &mut Paged, moment: u64, payload: &[u8]) -> Called
     ensures some { result ≡ Done → 1 ≤ pieces_in client.old (length payload.now) }
 {
     if client.trace().is_none() {
-        return Called::NoTrace;
+        return CallAnswer::NoTrace;
     }
     if payload.len() > MAX_PAYLOAD {
-        return Called::TooWide;
+        return CallAnswer::TooWide;
     }
     let pieces = pieces_of(client, payload.len());
     match prepare(client, pieces) {
-        Called::Done => {}
-        Called::Full => return Called::Full,
-        Called::Spent => return Called::Spent,
-        Called::NoTrace | Called::AlreadyOpen | Called::TooWide | Called::Unknown => unreachable!(),
+        CallAnswer::Done => {}
+        CallAnswer::Full => return CallAnswer::Full,
+        CallAnswer::Spent => return CallAnswer::Spent,
+        CallAnswer::NoTrace | CallAnswer::AlreadyOpen | CallAnswer::TooWide | CallAnswer::Unknown =>
+            unreachable!(),
     }
     match client.point(moment, payload) {
-        Live::Done => Called::Done,
+        Live::Done => CallAnswer::Done,
         Live::Spent | Live::AlreadyOpen | Live::NoTrace | Live::TooWide => unreachable!(),
     }
 }
 
 /// Leaves a crumb to one of the nodes.
-pub(crate) fn crumb(client: &mut Paged, node: NodeId) -> Called
+pub(crate) fn crumb(client: &mut Paged, node: NodeId) -> CallAnswer
     requires { node.0 < client.old.crumbs.key.nodes }
     ensures answer { CrumbsBy client.old node result client.new }
     ensures does { Lives (LeaveCrumb node) result client.old client.new }
@@ -136,19 +137,19 @@ pub(crate) fn crumb(client: &mut Paged, node: NodeId) -> Called
     ensures core { client.new.core ≡ client.old.core }
 {
     if client.trace().is_none() {
-        return Called::NoTrace;
+        return CallAnswer::NoTrace;
     }
     if !has_crumb_place(client) {
-        return Called::Full;
+        return CallAnswer::Full;
     }
     match client.crumb(node) {
-        Live::Done => Called::Done,
+        Live::Done => CallAnswer::Done,
         Live::Spent | Live::AlreadyOpen | Live::NoTrace | Live::TooWide => unreachable!(),
     }
 }
 
 /// Fires a trigger of a declared id.
-pub(crate) fn trigger(client: &mut Paged, trigger: &Trigger) -> Called
+pub(crate) fn trigger(client: &mut Paged, trigger: &Trigger) -> CallAnswer
     requires { IsTriggerOf client.old.triggers.key trigger.now }
     ensures answer { TriggersBy client.old trigger.now result client.new }
     ensures does { Lives (Fire trigger.now) result client.old client.new }
@@ -158,10 +159,10 @@ pub(crate) fn trigger(client: &mut Paged, trigger: &Trigger) -> Called
     ensures core { client.new.core ≡ client.old.core }
 {
     if !has_trigger_place(client) {
-        return Called::Full;
+        return CallAnswer::Full;
     }
     let _ = client.trigger(*trigger);
-    Called::Done
+    CallAnswer::Done
 }
 
 /// Gives an autotrigger a value of the open trace.
@@ -171,7 +172,7 @@ pub(crate) fn sample(
     auto: u32,
     value: u64,
     trigger: TriggerId,
-) -> Called
+) -> CallAnswer
     requires { IsAutoOf client.old auto trigger }
     ensures answer { SamplesBy client.old auto result client.new }
     ensures does { Lives (Sample moment auto value) result client.old client.new }
@@ -181,19 +182,19 @@ pub(crate) fn sample(
     ensures core { client.new.core ≡ client.old.core }
 {
     if client.trace().is_none() {
-        return Called::NoTrace;
+        return CallAnswer::NoTrace;
     }
     if !has_trigger_place(client) {
-        return Called::Full;
+        return CallAnswer::Full;
     }
     match client.sample(moment, auto, value, trigger) {
-        Live::Done => Called::Done,
+        Live::Done => CallAnswer::Done,
         Live::Spent | Live::AlreadyOpen | Live::NoTrace | Live::TooWide => unreachable!(),
     }
 }
 
 /// Closes the open trace, whose core has a call left.
-pub(crate) fn end(client: &mut Paged) -> Called
+pub(crate) fn end(client: &mut Paged) -> CallAnswer
     requires { IsSome client.old.core.trace → client.old.core.counted < client.old.core.calls }
     ensures answer { EndsBy client.old result client.new }
     ensures does { Lives End result client.old client.new }
@@ -204,13 +205,13 @@ pub(crate) fn end(client: &mut Paged) -> Called
     ensures counted { result ≡ Done → client.new.core.counted ≡ client.old.core.counted + 1 }
 {
     if client.trace().is_none() {
-        return Called::NoTrace;
+        return CallAnswer::NoTrace;
     }
     if !has_chunk_places(client, 1) {
-        return Called::Full;
+        return CallAnswer::Full;
     }
     match client.end() {
-        Live::Done => Called::Done,
+        Live::Done => CallAnswer::Done,
         Live::Spent | Live::AlreadyOpen | Live::NoTrace | Live::TooWide => unreachable!(),
     }
 }

@@ -7,7 +7,7 @@ ghost use Rattle.hs_base.specs.declared.limits.TheConstants.{MAX_SIZE, MOST_NODE
 ghost use Rattle.hs_client.specs.Core.{is_null, NeedsPage};
 ghost use Rattle.hs_live.specs.Live.{Sends};
 ghost use Rattle.hs_records.specs.Plain.{Point, Crumb as LeaveCrumb, End, Fire, Sample};
-ghost use Rattle.hs_node_client.specs.declared.called.Called.TheVariants.{Done, Full, Unknown};
+ghost use Rattle.hs_node_client.specs.declared.answers.CallAnswer.TheVariants.{Done, Full, Unknown};
 ghost use Rattle.hs_node_client.specs.declared.limits.TheConstants.{MIN_CALLS};
 ghost use Rattle.hs_node_client.specs.declared.segment.SegmentState.TheVariants.{Opened, Refused, Led};
 ghost use Rattle.hs_node_client.specs.Counting.{no_counts, all_counts, with_point, with_crumb_called, with_refused_late, with_refused_trigger, if_full};
@@ -20,12 +20,12 @@ ghost use Rattle.hs_node_client.specs.Pointing.{called_of, DriesBy};
 ghost use Rattle.hs_node_client.specs.Lives.{HasHalf, Lives, LivesByBegin, LivesOn, TurnsInto, RenewsInto};
 
 use crate::acts;
-use crate::called::{Called, Pointed};
-use crate::counts::{Counts, Tally};
+use crate::answers::{CallAnswer, PointAnswer};
+use crate::counts::{ClientCounts, RunningCounts};
 use crate::notebook::Notebook;
 use crate::paged::Paged;
 use crate::places::has_place;
-use crate::segment::{Segment, SegmentKey, SegmentState};
+use crate::segment::{SegmentKey, SegmentNote, SegmentState};
 use hs_base::{Crumb, List, NodeId, NodeSet, TraceId, Trigger, TriggerId};
 use hs_link::Sender;
 use hs_live::{Called as Live, ClientKey};
@@ -44,7 +44,7 @@ pub struct NodeClient {
     live: Paged,
     late: Sender<Crumb, ClientKey>,
     notebook: Notebook,
-    tally: Tally,
+    tally: RunningCounts,
     declared: [bool; IDS],
     fires: List<TriggerId>,
     nodes: u16,
@@ -68,7 +68,7 @@ impl NodeClient {
     pub(crate) fn make(
         live: Paged,
         late: Sender<Crumb, ClientKey>,
-        notes: Sender<Segment, SegmentKey>,
+        notes: Sender<SegmentNote, SegmentKey>,
         declared: [bool; IDS],
         fires: List<TriggerId>,
         nodes: u16,
@@ -90,7 +90,7 @@ impl NodeClient {
                 link: notes,
                 number: 0,
             },
-            tally: Tally::none(),
+            tally: RunningCounts::none(),
             declared,
             fires,
             nodes,
@@ -100,7 +100,7 @@ impl NodeClient {
 
     /// Opens a trace. Where fewer than half of the core's calls are left, the core is renewed first. Where fewer than half of the draws
     /// of its allowance are left, the allowance is made whole again, or stays where it cannot be.
-    pub fn begin(&mut self, trace: TraceId) -> Called
+    pub fn begin(&mut self, trace: TraceId) -> CallAnswer
         ensures answer { BeginsBy self.old result }
         ensures does { LivesByBegin trace result self.old.live self.new.live }
         ensures refused { (result ≡ Done → ⊥) → self.new ≡ self.old }
@@ -112,10 +112,10 @@ impl NodeClient {
         ensures late { self.new.late ≡ self.old.late }
     {
         if self.live.trace().is_some() {
-            return Called::AlreadyOpen;
+            return CallAnswer::AlreadyOpen;
         }
         if self.notebook.number >= MOST_NOTES || !self.has_calls() {
-            return Called::Spent;
+            return CallAnswer::Spent;
         }
         self.live.keep_draws();
         let place = self.live.place();
@@ -127,7 +127,7 @@ impl NodeClient {
         if !self.notebook.note(place, trace, SegmentState::Opened) {
             self.tally.drop_note();
         }
-        Called::Done
+        CallAnswer::Done
     }
 
     /// Whether half of the core's calls are left, or it could be renewed.
@@ -165,7 +165,7 @@ impl NodeClient {
 
     /// Records a payload at a moment, in microseconds. Where it needs more draws than are left, the allowance is made whole first, if it can
     /// be, so that a segment may be of any length.
-    pub fn point(&mut self, moment: u64, payload: &[u8]) -> Called
+    pub fn point(&mut self, moment: u64, payload: &[u8]) -> CallAnswer
         ensures answer { PointsBy self.old.live (length payload.now) result self.new.live }
         ensures does { Lives (Point moment payload.now) result self.old.live self.new.live }
         ensures refused { (result ≡ Done → ⊥) → PutsThrough self.old.live self.new.live }
@@ -179,7 +179,7 @@ impl NodeClient {
     /// Records a payload at a moment in microseconds, as `point` does, and also tells whether a draw of it found the pool empty.
     /// `Done` says that each page that it drew for got a buffer; `Dry` that one got none, so that what is written to that page is
     /// lost; any other answer is that of `point`, with its cause.
-    pub fn point_told(&mut self, moment: u64, payload: &[u8]) -> Pointed
+    pub fn point_told(&mut self, moment: u64, payload: &[u8]) -> PointAnswer
         ensures answer { PointsBy self.old.live (length payload.now) (called_of result) self.new.live }
         ensures dry { DriesBy result self.old.live.core self.new.live.core }
         ensures does { Lives (Point moment payload.now) (called_of result) self.old.live self.new.live }
@@ -191,7 +191,7 @@ impl NodeClient {
         if self.live.has_room(payload.len()) {
             self.live.point_here(moment, payload);
             self.tally.here.points += 1;
-            return Pointed::Done;
+            return PointAnswer::Done;
         }
         self.point_apart(moment, payload)
     }
@@ -199,7 +199,7 @@ impl NodeClient {
     /// Records a payload that the open page has no room for. It stands apart, since most payloads fit the open page.
     #[cold]
     #[inline(never)]
-    fn point_apart(&mut self, moment: u64, payload: &[u8]) -> Pointed
+    fn point_apart(&mut self, moment: u64, payload: &[u8]) -> PointAnswer
         requires { NeedsPage self.old.live.core (length payload.now) }
         ensures answer { PointsBy self.old.live (length payload.now) (called_of result) self.new.live }
         ensures dry { DriesBy result self.old.live.core self.new.live.core }
@@ -213,23 +213,23 @@ impl NodeClient {
         let called = acts::point(&mut self.live, moment, payload);
         self.tally.point(called);
         match called {
-            Called::Done => {
+            CallAnswer::Done => {
                 if nulls < self.live.nulls() {
-                    Pointed::Dry
+                    PointAnswer::Dry
                 } else {
-                    Pointed::Done
+                    PointAnswer::Done
                 }
             }
-            Called::NoTrace => Pointed::NoTrace,
-            Called::TooWide => Pointed::TooWide,
-            Called::Full => Pointed::Full,
-            Called::Spent => Pointed::Spent,
-            Called::AlreadyOpen | Called::Unknown => unreachable!(),
+            CallAnswer::NoTrace => PointAnswer::NoTrace,
+            CallAnswer::TooWide => PointAnswer::TooWide,
+            CallAnswer::Full => PointAnswer::Full,
+            CallAnswer::Spent => PointAnswer::Spent,
+            CallAnswer::AlreadyOpen | CallAnswer::Unknown => unreachable!(),
         }
     }
 
     /// Leaves a crumb: the open trace goes on to this node.
-    pub fn crumb(&mut self, node: NodeId) -> Called
+    pub fn crumb(&mut self, node: NodeId) -> CallAnswer
         ensures answer { CrumbsBy self.old.live node result self.new.live }
         ensures does { Lives (LeaveCrumb node) result self.old.live self.new.live }
         ensures refused { (result ≡ Done → ⊥) → PutsThrough self.old.live self.new.live }
@@ -239,24 +239,24 @@ impl NodeClient {
         ensures only { self.new ≡ record self.old { live = self.new.live; tally = self.new.tally } }
     {
         if node.0 >= self.nodes {
-            return Called::Unknown;
+            return CallAnswer::Unknown;
         }
         let called = acts::crumb(&mut self.live, node);
         match called {
-            Called::Done => self.tally.leave_crumb(node),
-            Called::Full => self.tally.refuse_crumb(),
-            Called::NoTrace
-            | Called::AlreadyOpen
-            | Called::TooWide
-            | Called::Unknown
-            | Called::Spent => {}
+            CallAnswer::Done => self.tally.leave_crumb(node),
+            CallAnswer::Full => self.tally.refuse_crumb(),
+            CallAnswer::NoTrace
+            | CallAnswer::AlreadyOpen
+            | CallAnswer::TooWide
+            | CallAnswer::Unknown
+            | CallAnswer::Spent => {}
         }
         called
     }
 
     /// Leaves a crumb of a trace that need not be open: it went on to this node. The crumb goes by a link of its own, and is none of
     /// the operations of the client's cores. It is noted where it led, or that it was refused for want of a place.
-    pub fn crumb_of(&mut self, trace: TraceId, node: NodeId) -> Called
+    pub fn crumb_of(&mut self, trace: TraceId, node: NodeId) -> CallAnswer
         ensures answer { LateBy self.old node result self.new }
         ensures sends { result ≡ Done → Sends (record { trace = trace; node = node }) self.old.late self.new.late }
         ensures refused { (result ≡ Done → ⊥) → PutsOn self.old.late self.new.late }
@@ -266,16 +266,16 @@ impl NodeClient {
         ensures only { self.new ≡ record self.old { late = self.new.late; notebook = self.new.notebook; tally = self.new.tally } }
     {
         if self.nodes <= node.0 {
-            return Called::Unknown;
+            return CallAnswer::Unknown;
         }
         if !has_place(&mut self.late) {
             self.tally.refuse_late();
             self.note_late(trace, SegmentState::Refused);
-            return Called::Full;
+            return CallAnswer::Full;
         }
         self.late.send_within(Crumb { trace, node });
         self.note_late(trace, SegmentState::Led(NodeSet::only(node)));
-        Called::Done
+        CallAnswer::Done
     }
 
     /// Notes what became of a crumb of a trace that need not be open, if a number is left beside that for the end of a segment.
@@ -293,7 +293,7 @@ impl NodeClient {
     }
 
     /// Fires a trigger. It needs no open trace.
-    pub fn trigger(&mut self, trigger: &Trigger) -> Called
+    pub fn trigger(&mut self, trigger: &Trigger) -> CallAnswer
         ensures answer { TriggersBy self.old.live trigger.now result self.new.live }
         ensures does { Lives (Fire trigger.now) result self.old.live self.new.live }
         ensures refused { (result ≡ Done → ⊥) → PutsThrough self.old.live self.new.live }
@@ -303,17 +303,17 @@ impl NodeClient {
         ensures only { self.new ≡ record self.old { live = self.new.live; tally = self.new.tally } }
     {
         if !self.declared[trigger.trigger.0 as usize] {
-            return Called::Unknown;
+            return CallAnswer::Unknown;
         }
         let called = acts::trigger(&mut self.live, trigger);
-        if let Called::Full = called {
+        if let CallAnswer::Full = called {
             self.tally.refuse_trigger();
         }
         called
     }
 
     /// Gives an autotrigger, by its number, a value of the open trace. Where it fires, a trigger of its id goes to the agent.
-    pub fn sample(&mut self, moment: u64, auto: u32, value: u64) -> Called
+    pub fn sample(&mut self, moment: u64, auto: u32, value: u64) -> CallAnswer
         ensures answer { SamplesBy self.old.live auto result self.new.live }
         ensures does { Lives (Sample moment auto value) result self.old.live self.new.live }
         ensures refused { (result ≡ Done → ⊥) → PutsThrough self.old.live self.new.live }
@@ -323,17 +323,17 @@ impl NodeClient {
         ensures only { self.new ≡ record self.old { live = self.new.live; tally = self.new.tally } }
     {
         let Some(trigger) = self.fires.get(auto as usize).copied() else {
-            return Called::Unknown;
+            return CallAnswer::Unknown;
         };
         let called = acts::sample(&mut self.live, moment, auto, value, trigger);
-        if let Called::Full = called {
+        if let CallAnswer::Full = called {
             self.tally.refuse_trigger();
         }
         called
     }
 
     /// Closes the open trace.
-    pub fn end(&mut self) -> Called
+    pub fn end(&mut self) -> CallAnswer
         ensures answer { EndsBy self.old.live result self.new.live }
         ensures does { Lives End result self.old.live self.new.live }
         ensures refused { (result ≡ Done → ⊥) → PutsThrough self.old.live self.new.live }
@@ -344,10 +344,10 @@ impl NodeClient {
         ensures late { self.new.late ≡ self.old.late }
     {
         let Some(trace) = self.live.trace() else {
-            return Called::NoTrace;
+            return CallAnswer::NoTrace;
         };
         let called = acts::end(&mut self.live);
-        if let Called::Done = called {
+        if let CallAnswer::Done = called {
             let place = self.live.place();
             let counts = self.tally.close(self.live.nulls(), place.page);
             if !self
@@ -376,7 +376,7 @@ impl NodeClient {
     }
 
     /// What the client did since it was made, and what it refused, by cause.
-    pub fn counts(&self) -> Counts
+    pub fn counts(&self) -> ClientCounts
         ensures { result ≡ all_counts (count_by is_null self.now.live.core.draws) self.now.tally }
     {
         self.tally.all(self.live.nulls())

@@ -4,14 +4,14 @@ ghost use Rattle.std.specs.Prelude.{◌≡◌, ◌<◌, ◌+◌, ◌^◌};
 ghost use Rattle.hs_base.specs.declared.limits.TheConstants.{MOST_NODES};
 ghost use Rattle.hs_node_client.specs.Counting.{more, more_in_segment, segment_counts, all_counts, no_counts, opened, closed, renewed, with_point, with_crumb, with_refused_crumb, with_refused_late, with_refused_trigger, with_dropped};
 
-use crate::called::Called;
+use crate::answers::CallAnswer;
 use crate::segment::SegmentCounts;
 use hs_base::{NodeId, NodeSet};
 
 /// What a client did since it was made and what it refused, by cause. A count stays at the greatest number of its type once it
 /// is there.
 #[derive(Clone, Copy, Debug, PartialEq, Eq)]
-pub struct Counts {
+pub struct ClientCounts {
     /// Points that were done.
     pub points: u64,
     /// Pages that were written to no buffer, since the pool was empty.
@@ -35,9 +35,9 @@ pub struct Counts {
 /// The counts of the segment that is open, or was open last, and those of all before. The points and null pages of `past` are
 /// those of closed segments and of cores before the last renewal.
 #[derive(Clone, Copy)]
-pub(crate) struct Tally {
+pub(crate) struct RunningCounts {
     pub(crate) here: SegmentCounts,
-    pub(crate) past: Counts,
+    pub(crate) past: ClientCounts,
     /// How many null pages the core had when the segment was opened.
     pub(crate) nulls: u32,
     /// How many pages the core had then: the number of the segment's first page.
@@ -69,7 +69,7 @@ const NONE_HERE: SegmentCounts = SegmentCounts {
     crumbs: NodeSet(0),
 };
 
-const NONE_PAST: Counts = Counts {
+const NONE_PAST: ClientCounts = ClientCounts {
     points: 0,
     null_pages: 0,
     stray_points: 0,
@@ -81,12 +81,12 @@ const NONE_PAST: Counts = Counts {
     dropped_notes: 0,
 };
 
-impl Tally {
+impl RunningCounts {
     /// The counts of a client that has done nothing: all are 0.
-    pub(crate) fn none() -> Tally
+    pub(crate) fn none() -> RunningCounts
         ensures { result ≡ no_counts }
     {
-        Tally {
+        RunningCounts {
             here: NONE_HERE,
             past: NONE_PAST,
             nulls: 0,
@@ -128,26 +128,26 @@ impl Tally {
     }
 
     /// A point that needed a page was answered so.
-    pub(crate) fn point(&mut self, called: Called)
+    pub(crate) fn point(&mut self, called: CallAnswer)
         requires { self.old.here.points + 1 < 2 ^ 32 }
         ensures { self.new ≡ with_point called self.old }
     {
         match called {
-            Called::Done => self.here.points += 1,
-            Called::NoTrace => self.past.stray_points = more(self.past.stray_points, 1),
-            Called::Full => {
+            CallAnswer::Done => self.here.points += 1,
+            CallAnswer::NoTrace => self.past.stray_points = more(self.past.stray_points, 1),
+            CallAnswer::Full => {
                 self.here.full_points = more_in_segment(self.here.full_points);
                 self.past.full_points = more(self.past.full_points, 1);
             }
-            Called::TooWide => {
+            CallAnswer::TooWide => {
                 self.here.long_points = more_in_segment(self.here.long_points);
                 self.past.long_points = more(self.past.long_points, 1);
             }
-            Called::Spent => {
+            CallAnswer::Spent => {
                 self.here.spent_points = more_in_segment(self.here.spent_points);
                 self.past.spent_points = more(self.past.spent_points, 1);
             }
-            Called::AlreadyOpen | Called::Unknown => {}
+            CallAnswer::AlreadyOpen | CallAnswer::Unknown => {}
         }
     }
 
@@ -193,10 +193,10 @@ impl Tally {
     }
 
     /// All counts, where the core has so many null pages.
-    pub(crate) fn all(&self, nulls: u32) -> Counts
+    pub(crate) fn all(&self, nulls: u32) -> ClientCounts
         ensures { result ≡ all_counts nulls self.now }
     {
-        Counts {
+        ClientCounts {
             points: more(self.past.points, u64::from(self.here.points)),
             null_pages: more(self.past.null_pages, u64::from(nulls)),
             ..self.past

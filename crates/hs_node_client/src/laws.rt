@@ -5,7 +5,7 @@ ghost use Rattle.hs_base.specs.declared.ids.TraceId.{TraceId};
 ghost use Rattle.hs_node_client.specs.Notes.{AreNumbered, Notes, PutsOn};
 ghost use Rattle.hs_node_client.specs.Paging.{PointsTakePages, EndsTakeNone};
 ghost use Rattle.hs_node_client.specs.Segments.{SegmentsHaveTheirPages};
-ghost use Rattle.hs_node_client.specs.declared.paged.Place.{Place};
+ghost use Rattle.hs_node_client.specs.declared.paged.NextPage.{NextPage};
 ghost use Rattle.hs_node_client.specs.declared.notebook.Notebook.{Notebook};
 ghost use Rattle.hs_node_client.specs.declared.segment.SegmentState.{SegmentState};
 
@@ -17,7 +17,7 @@ use hs_ring::Lease;
 /// The numbers of the notes that were sent rise, and lie below the next one. So where two numbers that come one after the other differ by
 /// more than one, those between them are of notes that were dropped.
 pub fn notes_are_numbered()
-    ensures { (place : Place) (trace : TraceId) (state : SegmentState) (old : Notebook) (was_sent : Bool) (new : Notebook) → Notes place trace state old was_sent new → AreNumbered old → AreNumbered new }
+    ensures { (place : NextPage) (trace : TraceId) (state : SegmentState) (old : Notebook) (was_sent : Bool) (new : Notebook) → Notes place trace state old was_sent new → AreNumbered old → AreNumbered new }
 {}
 
 /// The pages of a segment are those of its core with numbers between the ones that its notes name. Of what was sent until its end, a page of

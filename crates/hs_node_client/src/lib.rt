@@ -4,7 +4,7 @@
 #![tactic(auto)]
 
 mod acts;
-mod called;
+mod answers;
 mod checking;
 mod client;
 mod counts;
@@ -16,10 +16,10 @@ mod paged;
 mod places;
 mod segment;
 
-pub use called::{Called, Pointed};
+pub use answers::{CallAnswer, PointAnswer};
 pub use client::NodeClient;
-pub use counts::Counts;
+pub use counts::ClientCounts;
 pub use laws::{notes_are_numbered, segments_name_their_pages};
 pub use limits::{ClientLimits, MAX_BACKLOG, MIN_CALLS, MakeFault};
 pub use making::{Made, make_clients};
-pub use segment::{Segment, SegmentCounts, SegmentKey, SegmentState};
+pub use segment::{SegmentCounts, SegmentKey, SegmentNote, SegmentState};

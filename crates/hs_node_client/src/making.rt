@@ -11,7 +11,7 @@ use crate::checking::{check, fired_id};
 use crate::client::{IDS, NodeClient};
 use crate::limits::{ClientLimits, MakeFault};
 use crate::paged::Paged;
-use crate::segment::{Segment, SegmentKey};
+use crate::segment::{SegmentKey, SegmentNote};
 use hs_auto::Auto;
 use hs_base::limits::MOST_AHEAD;
 use hs_base::{AutoRule, ClientId, Crumb, List, Memory, Trigger, TriggerId, TriggerRule};
@@ -28,7 +28,7 @@ use std::alloc::Global;
 pub struct Made {
     pub port: AgentPort,
     pub late: List<Receiver<Crumb, ClientKey>>,
-    pub segments: List<Receiver<Segment, SegmentKey>>,
+    pub segments: List<Receiver<SegmentNote, SegmentKey>>,
     pub clients: List<NodeClient>,
 }
 
@@ -39,7 +39,7 @@ struct Senders {
     crumbs: Sender<Crumb, ClientKey>,
     triggers: Sender<Trigger, ClientKey>,
     late: Sender<Crumb, ClientKey>,
-    notes: Sender<Segment, SegmentKey>,
+    notes: Sender<SegmentNote, SegmentKey>,
 }
 
 /// The ends of the same links that receive.
@@ -49,7 +49,7 @@ struct Receivers {
     crumbs: Receiver<Crumb, ClientKey>,
     triggers: Receiver<Trigger, ClientKey>,
     late: Receiver<Crumb, ClientKey>,
-    notes: Receiver<Segment, SegmentKey>,
+    notes: Receiver<SegmentNote, SegmentKey>,
 }
 
 /// Clients, and the ends of all their links that receive.
@@ -59,7 +59,7 @@ struct Joined {
     crumbs: List<Receiver<Crumb, ClientKey>>,
     triggers: List<Receiver<Trigger, ClientKey>>,
     late: List<Receiver<Crumb, ClientKey>>,
-    notes: List<Receiver<Segment, SegmentKey>>,
+    notes: List<Receiver<SegmentNote, SegmentKey>>,
     clients: List<NodeClient>,
 }
 
@@ -268,7 +268,12 @@ fn links_of(
     let (triggers, trigger_end) = link::<Trigger, ClientKey>(alloc, most, most, key)?;
     let (late, late_end) = link::<Crumb, ClientKey>(alloc, most, most, key)?;
     let own = SegmentKey(id);
-    let (notes, note_end) = link::<Segment, SegmentKey>(alloc, limits.notes, limits.notes, &own)?;
+    let (notes, note_end) = link::<SegmentNote, SegmentKey>(
+        alloc,
+        limits.notes,
+        limits.notes,
+        &own,
+    )?;
     let senders = Senders {
         chunks,
         crumbs,

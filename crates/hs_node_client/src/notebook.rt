@@ -3,28 +3,28 @@
 ghost use Rattle.std.specs.Prelude.{◌≡◌, ◌+◌, ◌<◌, ◌≤◌, ◌^◌, IsTrue, length};
 ghost use Rattle.hs_node_client.specs.Notes.{Notes, PutsOn};
 
-use crate::paged::Place;
-use crate::segment::{Segment, SegmentKey, SegmentState};
+use crate::paged::NextPage;
+use crate::segment::{SegmentKey, SegmentNote, SegmentState};
 use hs_base::TraceId;
 use hs_link::Sender;
 
 /// The end of a client's link of notes that sends, and the number of the next note.
 #[derive(Drop)]
 pub(crate) struct Notebook {
-    pub(crate) link: Sender<Segment, SegmentKey>,
+    pub(crate) link: Sender<SegmentNote, SegmentKey>,
     pub(crate) number: u64,
 }
 
 impl Notebook {
     /// Notes what becomes of a trace, where the client's next page comes at this place. The answer is whether the note was sent. Where the outbox has no place it is dropped, and its number with it.
     #[inline(always)]
-    pub(crate) fn note(&mut self, place: Place, trace: TraceId, state: SegmentState) -> bool
+    pub(crate) fn note(&mut self, place: NextPage, trace: TraceId, state: SegmentState) -> bool
         requires { self.old.number + 1 < 2 ^ 64 }
         ensures { Notes place trace state self.old result self.new }
     {
         let number = self.number;
         self.number += 1;
-        self.link.send_or_drop(Segment {
+        self.link.send_or_drop(SegmentNote {
             number,
             trace,
             core: place.core,

@@ -30,7 +30,7 @@ use std::marker::Model;
 
 /// Where the next page of a client comes: the number of the core that writes it, and the page's number there.
 #[derive(Clone, Copy)]
-pub(crate) struct Place {
+pub(crate) struct NextPage {
     pub(crate) core: u64,
     pub(crate) page: u32,
 }
@@ -40,7 +40,7 @@ pub(crate) struct Place {
 #[derive(Drop)]
 pub(crate) struct Paged {
     live: Client,
-    place: Place,
+    place: NextPage,
 }
 
 impl Model for Paged {
@@ -74,13 +74,13 @@ impl Paged {
         let _ = core.left();
         Paged {
             live: Client::make(core, autos, drawer, chunks, crumbs, triggers),
-            place: Place { core: 0, page: 0 },
+            place: NextPage { core: 0, page: 0 },
         }
     }
 
     /// Where the next page comes: behind all pages, of which each has ended where no trace is open.
     #[inline(always)]
-    pub(crate) fn place(&self) -> Place
+    pub(crate) fn place(&self) -> NextPage
         ensures behind { result ≡ place_behind self.now.core }
         ensures ended { self.now.core.trace ≡ None → result ≡ place_in self.now.core }
     {
@@ -211,7 +211,7 @@ impl Paged {
     {
         let called = self.live.renew(calls);
         if let Called::Done = called {
-            self.place = Place {
+            self.place = NextPage {
                 core: self.place.core + 1,
                 page: 0,
             };

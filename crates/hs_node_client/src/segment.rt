@@ -39,7 +39,7 @@ pub enum SegmentState {
 /// A note of a client: a segment of a trace begins, or ends, or a crumb of the trace was left or refused outside of one. The numbers of a
 /// client's notes rise by one for each note, sent or not. So a gap tells how many were dropped.
 #[derive(Clone, Copy, Debug, PartialEq, Eq)]
-pub struct Segment {
+pub struct SegmentNote {
     pub number: u64,
     pub trace: TraceId,
     /// The core of the client that writes the segment's pages, by its number. The first core has the number 0, and each renewal brings the
@@ -56,6 +56,6 @@ pub struct Segment {
 pub struct SegmentKey(pub ClientId);
 
 /// A link of notes takes any note: nothing is claimed of it.
-impl Fact<Segment> for SegmentKey {
+impl Fact<SegmentNote> for SegmentKey {
     ghost holds = { λ key segment. Unit {0} };
 }

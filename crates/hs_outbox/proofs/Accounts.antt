@@ -8,7 +8,7 @@ use Rattle.std.proofs.lemmas.List.Sorted.{IsPermutation-refl, IsPermutation-tran
 use Rattle.std.proofs.lemmas.List.Elements.{All-contains, Contains-append_left, Contains-append_cases, filter_passes}
 use Rattle.std.proofs.lemmas.Bool.{cond_both, leb-true, ltb-true, eqb-true, and_parts}
 use Rattle.hs_lists.proofs.Filters.{filter_few}
-use Rattle.hs_outbox.specs.Queue.{Pending, Queue, Act, Puts, HandsOut, Acknowledges, OffersAgain, after, with, may_put, is_numbered, first_offered, has_number}
+use Rattle.hs_outbox.specs.Queue.{Pending, Queue, OutboxAct, Puts, HandsOut, Acknowledges, OffersAgain, after, with, may_put, is_numbered, first_offered, has_number}
 use Rattle.hs_outbox.specs.Lives.{Rises, put_by, left_by, life, all_put, all_left}
 use Rattle.hs_outbox.proofs.Rising.{rises_behind, rises_filter}
 
@@ -38,7 +38,7 @@ good_put places room q p good may =
       room_stays = good.room_stays;
     }
 
-pub good_after : (places room : ℕ) (q : Queue) (act : Act) → IsGood places room q → IsGood places room (after q act)
+pub good_after : (places room : ℕ) (q : Queue) (act : OutboxAct) → IsGood places room q → IsGood places room (after q act)
 good_after places room q (Puts p) good = cond_both (may_put q p) (with q p) q (λ (r : Queue). IsGood places room r) (good_put places room q p good) (λ no. good)
 good_after places room q (HandsOut n) good =
     cond_both (has_number (first_offered q) n) (record q { handed = n + 1 }) q (λ (r : Queue). IsGood places room r)
@@ -52,17 +52,17 @@ good_after places room q (Acknowledges n) good =
     }
 good_after places room q OffersAgain good = record { rising = good.rising; few = good.few; places_stay = good.places_stay; room_stays = good.room_stays }
 
-pub good_life : (places room : ℕ) (acts : List Act) (q : Queue) → IsGood places room q → IsGood places room (life q acts)
+pub good_life : (places room : ℕ) (acts : List OutboxAct) (q : Queue) → IsGood places room q → IsGood places room (life q acts)
 good_life places room [] q good = good
 good_life places room (act ∷ acts) q good = good_life places room acts (after q act) (good_after places room q act good)
 
 -- ---- what was put rises
 
-abbrev pub PutRises : List Act → Queue → Type 0
+abbrev pub PutRises : List OutboxAct → Queue → Type 0
 PutRises acts q = Rises q.fresh (life q acts).fresh (all_put q acts)
 
 -- what one call put, and the least number that may be put after it
-rises_by : (q : Queue) (act : Act) → Rises q.fresh (after q act).fresh (put_by q act)
+rises_by : (q : Queue) (act : OutboxAct) → Rises q.fresh (after q act).fresh (put_by q act)
 rises_by q (Puts p) = rises_put q p (may_put q p) refl
   where
     rises_put : (q : Queue) (p : Pending) (b : Bool) → may_put q p ≡ b → Rises q.fresh (cond b (with q p) q).fresh (cond b (p ∷ []) [])
@@ -72,7 +72,7 @@ rises_by q (HandsOut n) = cond_both (has_number (first_offered q) n) (record q {
 rises_by q (Acknowledges n) = omega arith
 rises_by q OffersAgain = omega arith
 
-pub put_rises : (acts : List Act) (q : Queue) → PutRises acts q
+pub put_rises : (acts : List OutboxAct) (q : Queue) → PutRises acts q
 put_rises [] q = omega arith
 put_rises (act ∷ acts) q =
     rises_behind (put_by q act) (all_put (after q act) acts) q.fresh (after q act).fresh (life (after q act) acts).fresh (rises_by q act) (put_rises acts (after q act))
@@ -87,7 +87,7 @@ once_put q p true = IsPermutation-refl (q.pending ++ p ∷ [])
 once_put q p false = same_pending q
 
 -- one call: what waited and what it put are what it took and what waits then
-once_by : (q : Queue) (act : Act) → IsPermutation (q.pending ++ put_by q act) (left_by q act ++ (after q act).pending)
+once_by : (q : Queue) (act : OutboxAct) → IsPermutation (q.pending ++ put_by q act) (left_by q act ++ (after q act).pending)
 once_by q (Puts p) = once_put q p (may_put q p)
 once_by q (HandsOut n) =
     cond_both (has_number (first_offered q) n) (record q { handed = n + 1 }) q (λ (r : Queue). IsPermutation (q.pending ++ []) r.pending) (λ yes. same_pending q) (λ no. same_pending q)
@@ -96,7 +96,7 @@ once_by q (Acknowledges n) =
     (IsPermutation-filter_both (is_numbered n) (λ p. not (is_numbered n p)) (λ p. refl) q.pending)
 once_by q OffersAgain = same_pending q
 
-pub put_once : (acts : List Act) (q : Queue) → IsPermutation (q.pending ++ all_put q acts) (all_left q acts ++ (life q acts).pending)
+pub put_once : (acts : List OutboxAct) (q : Queue) → IsPermutation (q.pending ++ all_put q acts) (all_left q acts ++ (life q acts).pending)
 put_once [] q = same_pending q
 put_once (act ∷ acts) q =
     let next = after q act in
@@ -118,7 +118,7 @@ put_once (act ∷ acts) q =
 
 -- ---- what waited waits on, or was acknowledged
 
-pub stays : (q : Queue) (act : Act) (p : Pending) → Contains q.pending p → (act ≡ Acknowledges p.number) ⊎ Contains (after q act).pending p
+pub stays : (q : Queue) (act : OutboxAct) (p : Pending) → Contains q.pending p → (act ≡ Acknowledges p.number) ⊎ Contains (after q act).pending p
 stays q (Puts new) p there = inr (cond_both (may_put q new) (with q new) q (λ (r : Queue). Contains r.pending p) (λ yes. Contains-append_left q.pending (new ∷ []) p there) (λ no. there))
 stays q (HandsOut n) p there =
     inr (cond_both (has_number (first_offered q) n) (record q { handed = n + 1 }) q (λ (r : Queue). Contains r.pending p) (λ yes. there) (λ no. there))

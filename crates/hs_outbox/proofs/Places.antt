@@ -7,12 +7,12 @@ use Rattle.std.proofs.lemmas.Bool.{ltb-true, ltb-false, eqb-true, eqb-false, ne_
 use Rattle.hs_outbox.specs.Queue.{Pending, is_numbered, has_number}
 use Rattle.hs_outbox.specs.Lives.{Rises}
 use Rattle.hs_outbox.specs.Layout.{entry_of, waiting_in, place_of}
-use Rattle.hs_outbox.specs.declared.outbox.Entry.{Entry}
+use Rattle.hs_outbox.specs.declared.outbox.OutboxEntry.{OutboxEntry}
 
 -- ---- entries
 
 -- each is at least the bound
-not_below : (es : List Entry) (from to : ℕ) → Rises from to (waiting_in es) → (j : ℕ) (d : Entry) → j < length es → from ≤ (get_or es j d).number
+not_below : (es : List OutboxEntry) (from to : ℕ) → Rises from to (waiting_in es) → (j : ℕ) (d : OutboxEntry) → j < length es → from ≤ (get_or es j d).number
 not_below [] from to rise j d within = absurd (omega arith)
 not_below (e ∷ es) from to rise zero d within = rise.0
 not_below (e ∷ es) from to rise (suc j) d within =
@@ -20,7 +20,7 @@ not_below (e ∷ es) from to rise (suc j) d within =
     let low = rise.0 in
     omega (arith, rest, low)
 
-pub never_falls : (es : List Entry) (from to : ℕ) → Rises from to (waiting_in es) → IsNonDecreasingBy (λ (e : Entry). e.number) es
+pub never_falls : (es : List OutboxEntry) (from to : ℕ) → Rises from to (waiting_in es) → IsNonDecreasingBy (λ (e : OutboxEntry). e.number) es
 never_falls [] from to rise i j d le within = absurd (omega arith)
 never_falls (e ∷ es) from to rise zero zero d le within = omega arith
 never_falls (e ∷ es) from to rise zero (suc j) d le within =
@@ -30,8 +30,8 @@ never_falls (e ∷ es) from to rise (suc i) zero d le within = absurd (omega ari
 never_falls (e ∷ es) from to rise (suc i) (suc j) d le within = never_falls es (e.number + 1) to rise.1 i j d (omega arith) (omega arith)
 
 -- where those below a number end
-pub place_is : (k : ℕ) (es : List Entry) (i : ℕ) → i ≤ length es
-    → IsPartitionPoint (λ (e : Entry). ltb e.number k ≡ true) (λ (e : Entry). ltb e.number k ≡ false) es i → i ≡ place_of k (waiting_in es)
+pub place_is : (k : ℕ) (es : List OutboxEntry) (i : ℕ) → i ≤ length es
+    → IsPartitionPoint (λ (e : OutboxEntry). ltb e.number k ≡ true) (λ (e : OutboxEntry). ltb e.number k ≡ false) es i → i ≡ place_of k (waiting_in es)
 place_is k [] i within at = omega arith
 place_is k (e ∷ es) zero within at = rw (at.1 zero e (omega arith) (omega arith)) refl
 place_is k (e ∷ es) (suc i) within at =
@@ -40,7 +40,7 @@ place_is k (e ∷ es) (suc i) within at =
     rw (at.0 zero e (omega arith) (omega arith)) (ap suc rest)
 
 -- an entry less
-pub waiting_without : (es : List Entry) (i : ℕ) → waiting_in (remove es i) ≡ remove (waiting_in es) i
+pub waiting_without : (es : List OutboxEntry) (i : ℕ) → waiting_in (remove es i) ≡ remove (waiting_in es) i
 waiting_without [] zero = refl
 waiting_without [] (suc i) = refl
 waiting_without (e ∷ es) zero = refl

@@ -1,6 +1,6 @@
 -- Worked examples of an outbox with two places of three bytes.
 use Rattle.std.specs.Prelude.{◌≡◌, List, [], ◌∷◌, Some, None, false, refl}
-use Rattle.hs_outbox.specs.Queue.{Pending, Queue, Act, Puts, HandsOut, Acknowledges, OffersAgain, empty, after, waits, first_offered, oldest_in}
+use Rattle.hs_outbox.specs.Queue.{Pending, Queue, OutboxAct, Puts, HandsOut, Acknowledges, OffersAgain, empty, after, waits, first_offered, oldest_in}
 use Rattle.hs_outbox.specs.Lives.{life, all_put, all_left, handed_out, not_handed_out}
 
 abbrev four : Pending
@@ -42,7 +42,7 @@ offered_again : (first_offered (after one OffersAgain) ≡ Some four) × (first_
 offered_again = (refl, refl)
 
 -- what was put and what left
-abbrev calls : List Act
+abbrev calls : List OutboxAct
 calls = Puts four ∷ Puts seven ∷ Puts nine ∷ Acknowledges 9 ∷ Acknowledges 7 ∷ Puts nine ∷ []
 
 accounts : (all_put start calls ≡ four ∷ seven ∷ nine ∷ []) × (all_left start calls ≡ seven ∷ []) × ((life start calls).pending ≡ four ∷ nine ∷ [])

@@ -8,13 +8,13 @@ use Rattle.hs_outbox.specs.Queue.{Pending, Queue}
 use Rattle.hs_outbox.specs.Lives.{Rises}
 use Rattle.hs_outbox.specs.declared.outbox.Put.{Put}
 use Rattle.hs_outbox.specs.declared.outbox.Put.TheVariants.{TooLong, NoSpelling}
-use Rattle.hs_outbox.specs.declared.outbox.Entry.{Entry}
+use Rattle.hs_outbox.specs.declared.outbox.OutboxEntry.{OutboxEntry}
 use Rattle.hs_outbox.specs.declared.outbox.Outbox.TheInside.{Inside}
 
-abbrev pub entry_of : Entry → Pending
+abbrev pub entry_of : OutboxEntry → Pending
 entry_of e = record { number = e.number; bytes = e.slot.bytes }
 
-abbrev pub waiting_in : List Entry → List Pending
+abbrev pub waiting_in : List OutboxEntry → List Pending
 waiting_in entries = map entry_of entries
 
 -- how many at the front have numbers below this one
@@ -29,8 +29,8 @@ AreRising = Rises 0 (2 ^ 64)
 abbrev pub HaveRoom : ℕ → List Written → Type 0
 HaveRoom room = AllByRecursion (λ (slot : Written). slot.room ≡ room)
 
-abbrev pub slots_of : List Entry → List Written
-slots_of entries = map (λ (e : Entry). e.slot) entries
+abbrev pub slots_of : List OutboxEntry → List Written
+slots_of entries = map (λ (e : OutboxEntry). e.slot) entries
 
 -- what a put answers for a fault of writing
 abbrev pub answer_for : WriteFault → Put

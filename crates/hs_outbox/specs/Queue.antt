@@ -56,11 +56,11 @@ has_number (Some p) number = is_numbered number p
 
 -- ---- what calls do
 
-pub data Act : Type 0 where
-  Puts : (message : Pending) → Act
-  HandsOut : (number : ℕ) → Act
-  Acknowledges : (number : ℕ) → Act
-  OffersAgain : Act
+pub data OutboxAct : Type 0 where
+  Puts : (message : Pending) → OutboxAct
+  HandsOut : (number : ℕ) → OutboxAct
+  Acknowledges : (number : ℕ) → OutboxAct
+  OffersAgain : OutboxAct
 
 -- whether there is a place for a message of this number and this length, and no earlier one had this number or a greater one
 abbrev pub may_put : Queue → Pending → Bool
@@ -69,7 +69,7 @@ may_put q p = nat_le q.fresh p.number && nat_lt (length q.pending) q.places && n
 abbrev pub with : Queue → Pending → Queue
 with q p = record q { pending = q.pending ++ p ∷ []; fresh = p.number + 1 }
 
-abbrev pub after : Queue → Act → Queue
+abbrev pub after : Queue → OutboxAct → Queue
 after q (Puts p) = if may_put q p then with q p else q
 after q (HandsOut number) = if has_number (first_offered q) number then record q { handed = number + 1 } else q
 after q (Acknowledges number) = record q { pending = filter (λ p. not (is_numbered number p)) q.pending }

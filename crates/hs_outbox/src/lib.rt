@@ -2,8 +2,8 @@
 #![tactic(auto)]
 
 mod laws;
+mod message_slot;
 mod outbox;
-mod slot;
 
 pub use laws::each_message_waits_until_it_is_acknowledged;
 pub use outbox::{Outbox, Put};

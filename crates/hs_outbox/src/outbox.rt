@@ -7,7 +7,7 @@ ghost use Rattle.hs_wire.specs.Messages.{IsMessage, plain};
 ghost use Rattle.hs_outbox.specs.Queue.{empty, pending_of, waits, first_offered, oldest_in, has_number, Puts, HandsOut, Acknowledges, OffersAgain, after, Causes};
 ghost use Rattle.hs_outbox.specs.Layout.{place_of, waiting_in, AreRising, HaveRoom, answer_for};
 
-use crate::slot::Slot;
+use crate::message_slot::MessageSlot;
 use hs_base::Memory;
 use hs_wire::{Message, WriteFault};
 use std::alloc::Global;
@@ -30,18 +30,18 @@ pub enum Put {
 
 /// A message that waits.
 #[derive(Drop)]
-pub struct Entry {
+pub struct OutboxEntry {
     number: u64,
-    slot: Slot,
+    slot: MessageSlot,
 }
 
 /// The messages that wait, each until it is acknowledged.
 #[derive(Drop)]
 pub struct Outbox {
     /// Those that wait, with rising numbers.
-    entries: Vec<Entry>,
+    entries: Vec<OutboxEntry>,
     /// The slots in which no message waits.
-    free: Vec<Slot>,
+    free: Vec<MessageSlot>,
     /// The number below which all are handed out.
     handed: u128,
     /// The least number that may still be put.
@@ -63,7 +63,7 @@ impl Model for Outbox {
 }
 
 /// How many messages have numbers below this one.
-fn place_of(entries: &[Entry], number: u128) -> usize
+fn place_of(entries: &[OutboxEntry], number: u128) -> usize
     requires { AreRising (waiting_in entries.now) }
     ensures { result ≡ place_of number (waiting_in entries.now) }
 {
@@ -71,7 +71,7 @@ fn place_of(entries: &[Entry], number: u128) -> usize
 }
 
 /// So many empty slots, each with memory for a message of `room` bytes.
-fn slots(alloc: Global, places: u32, room: u32) -> Result<Vec<Slot>, Memory>
+fn slots(alloc: Global, places: u32, room: u32) -> Result<Vec<MessageSlot>, Memory>
     ensures len { IfOk result (λ slots. length slots.items ≡ places) }
     ensures room { IfOk result (λ slots. HaveRoom room slots.items) }
     ensures capacity { IfOk result (λ slots. places ≤ vec_capacity slots) }
@@ -81,7 +81,7 @@ fn slots(alloc: Global, places: u32, room: u32) -> Result<Vec<Slot>, Memory>
         return Err(Memory);
     };
     for _place in 0..places {
-        slots.push_reserved(Slot::make(alloc, room)?);
+        slots.push_reserved(MessageSlot::make(alloc, room)?);
     }
     Ok(slots)
 }
@@ -134,7 +134,7 @@ impl Outbox {
         match spare.write(message) {
             Ok(()) => {
                 let number = message.head.number;
-                self.entries.push_reserved(Entry {
+                self.entries.push_reserved(OutboxEntry {
                     number,
                     slot: spare,
                 });
@@ -200,7 +200,7 @@ impl Outbox {
         if !has_at(&self.entries, place, number) {
             return false;
         }
-        let Entry { slot, .. } = self.entries.remove(place);
+        let OutboxEntry { slot, .. } = self.entries.remove(place);
         self.free.push_reserved(slot);
         true
     }
@@ -215,14 +215,14 @@ impl Outbox {
 }
 
 /// The entry at a place, if there is one.
-fn entry_at(entries: &[Entry], place: usize) -> Option<&Entry>
+fn entry_at(entries: &[OutboxEntry], place: usize) -> Option<&OutboxEntry>
     ensures { option_copied result ≡ slice_get entries.now place }
 {
     entries.get(place)
 }
 
 /// Whether the entry at this place has this number.
-fn has_at(entries: &[Entry], place: usize, number: u64) -> bool
+fn has_at(entries: &[OutboxEntry], place: usize, number: u64) -> bool
     ensures { result ≡ has_number (slice_get (waiting_in entries.now) place) number }
 {
     match entry_at(entries, place) {

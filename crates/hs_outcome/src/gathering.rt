@@ -58,14 +58,14 @@ fn journal(alloc: Global, books: Books) -> Result<Journal, Memory>
 
 /// What books come to, apart from their journal.
 #[derive(Drop)]
-struct Found {
+struct GatheredBooks {
     ledger: Ledger,
     claimed: List<TraceId>,
     collector: Collector,
 }
 
 /// What the books come to, apart from their journal. The one error is want of memory.
-fn found_in(alloc: Global, books: &Books) -> Result<Found, Memory>
+fn found_in(alloc: Global, books: &Books) -> Result<GatheredBooks, Memory>
     requires { (W : PlainWorkload) × (J : PlainJournal) × AreBooksOf W J books.now }
     ensures entries { IfOk result (λ found. (W : PlainWorkload) (J : PlainJournal) → AreBooksOf W J books.now
         → found.ledger.entries.items ≡ (outcome_of W J).entries) }
@@ -83,7 +83,7 @@ fn found_in(alloc: Global, books: &Books) -> Result<Found, Memory>
     let ledger = make_ledger(alloc, &books.clients, &books.agents)?;
     let claimed = claimed_traces(alloc, books.agents.as_slice())?;
     let collector = collected(alloc, books.agents.as_slice())?;
-    Ok(Found {
+    Ok(GatheredBooks {
         ledger,
         claimed,
         collector,
@@ -102,7 +102,7 @@ pub fn gather(alloc: Global, books: Books) -> Result<Outcome, Memory>
     let version = books.version;
     let found = found_in(alloc, &books)?;
     let journal = journal(alloc, books)?;
-    let Found {
+    let GatheredBooks {
         ledger,
         claimed,
         collector,

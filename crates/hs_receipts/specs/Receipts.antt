@@ -9,8 +9,8 @@ use Rattle.hs_base.specs.Ids.{same_trace}
 use Rattle.hs_base.specs.Samples.{t}
 use Rattle.hs_receipts.specs.declared.answers.MessageId.{MessageId}
 use Rattle.hs_receipts.specs.declared.answers.Waiting.{Waiting}
-use Rattle.hs_receipts.specs.declared.answers.Noted.{Noted as Answer}
-use Rattle.hs_receipts.specs.declared.answers.Noted.TheVariants.{Noted, Full, NothingOut}
+use Rattle.hs_receipts.specs.declared.answers.ReceiptOutcome.{ReceiptOutcome as Answer}
+use Rattle.hs_receipts.specs.declared.answers.ReceiptOutcome.TheVariants.{Noted, Full, NothingOut}
 use Rattle.hs_receipts.specs.declared.answers.ReceiptCounts.{ReceiptCounts}
 
 -- what waits for a trace that is not out, in the order of coming; the trace that is out, with the messages that it was served by; and

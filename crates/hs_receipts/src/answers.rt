@@ -20,7 +20,7 @@ pub struct Waiting {
 
 /// What became of a message that is to wait.
 #[derive(Clone, Copy, Debug, PartialEq, Eq)]
-pub enum Noted {
+pub enum ReceiptOutcome {
     /// It is kept, and waits.
     Noted,
     /// As many are kept as may be.

@@ -5,5 +5,5 @@
 mod answers;
 mod receipts;
 
-pub use answers::{MessageId, Noted, ReceiptCounts, Waiting};
+pub use answers::{MessageId, ReceiptCounts, ReceiptOutcome, Waiting};
 pub use receipts::Receipts;

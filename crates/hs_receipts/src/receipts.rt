@@ -5,7 +5,7 @@ ghost use Rattle.std.specs.VecDeque.{deque_len, deque_capacity};
 ghost use Rattle.std.specs.List.{list_any};
 ghost use Rattle.hs_receipts.specs.Receipts.{PlainReceipts, no_receipts, is_message, is_for, is_out, waits_for, is_noted, is_known, messages_for, since_of, answer_to_wait, after_wait, answer_to_join, after_join, after_offer, waits_elsewhere, after_saved, counts_of, kept};
 
-use crate::answers::{MessageId, Noted, ReceiptCounts, Waiting};
+use crate::answers::{MessageId, ReceiptCounts, ReceiptOutcome, Waiting};
 use hs_base::{Memory, TraceId};
 use std::alloc::Global;
 use std::collections::VecDeque;
@@ -69,34 +69,34 @@ impl Receipts {
     }
 
     /// Has a message wait until a trace is saved that is not out yet.
-    pub fn wait(&mut self, trace: TraceId, message: MessageId, since: u64) -> Noted
+    pub fn wait(&mut self, trace: TraceId, message: MessageId, since: u64) -> ReceiptOutcome
         ensures answer { result ≡ answer_to_wait self.old }
         ensures after { self.new ≡ after_wait self.old (record { trace = trace; message = message; since = since }) }
     {
         if self.is_full() {
-            return Noted::Full;
+            return ReceiptOutcome::Full;
         }
         self.waiting.push_reserved(Waiting {
             trace,
             message,
             since,
         });
-        Noted::Noted
+        ReceiptOutcome::Noted
     }
 
     /// Has a message wait until the trace that is out is saved.
-    pub fn join(&mut self, message: MessageId) -> Noted
+    pub fn join(&mut self, message: MessageId) -> ReceiptOutcome
         ensures answer { result ≡ answer_to_join self.old }
         ensures after { self.new ≡ after_join self.old message }
     {
         if self.out.is_none() {
-            return Noted::NothingOut;
+            return ReceiptOutcome::NothingOut;
         }
         if self.is_full() {
-            return Noted::Full;
+            return ReceiptOutcome::Full;
         }
         self.served.push_reserved(message);
-        Noted::Noted
+        ReceiptOutcome::Noted
     }
 
     /// Whether a message waits for this trace, be it out or not.

@@ -4,7 +4,7 @@ use Rattle.hs_replay.proofs.Prelude.{◌↔◌, range_with_len, option_and_then,
 use Rattle.std.proofs.lemmas.List.{length-drop}
 use Rattle.hs_lists.proofs.Parts.{length_map}
 use Rattle.hs_agent.specs.Placing.{place_of}
-use Rattle.hs_agent.specs.Runs.{Run, first_place}
+use Rattle.hs_agent.specs.Runs.{AgentRun, first_place}
 use Rattle.hs_records.specs.declared.journal.Step.TheVariants as steps
 use Rattle.hs_law_journal.specs.Pooled.{buffer_of, pool_events}
 use Rattle.hs_law_lockstep.specs.Lockstep.{give_steps}
@@ -67,7 +67,7 @@ module _ (W : PlainWorkload) (m : Machine) (n : ℕ) (start : NodeRun) (given : 
   held = giving.stands.agent.buffers
 
   -- the run of the agent before it offers
-  abbrev pub before_offer : Run (Unit {0})
+  abbrev pub before_offer : AgentRun (Unit {0})
   before_offer = run_of W.settings giving.run giving.stands.agent.buffers None
 
   hand_is : (state_of before_offer).hand ≡ now.state.hand

@@ -10,16 +10,16 @@ use Rattle.hs_law_journal.specs.Workloads.{one_point}
 use Rattle.hs_law_lockstep.specs.Lockstep.{lockstep}
 use Rattle.hs_law_outcome.specs.Outcomes.{client_books, agent_books}
 use Rattle.hs_records.specs.Plain.{PlainWorkload}
-use Rattle.hs_replay.specs.declared.books.Noted.{Noted}
+use Rattle.hs_replay.specs.declared.books.NotedBooks.{NotedBooks}
 
-pub record AreNoted (W : PlainWorkload) (noted : Noted) : Type 0 where
+pub record AreNoted (W : PlainWorkload) (noted : NotedBooks) : Type 0 where
   pub clients_are : map client_book_of noted.clients.items ≡ client_books W (lockstep W)
   pub agents_are : map agent_book_of noted.agents.items ≡ agent_books (followed W (lockstep W))
 
 -- ---- worked example
 
 -- the one client drew once and has a page with the record of a trace, and the one agent took its chunk, which lives
-abbrev of_one_point : Noted
+abbrev of_one_point : NotedBooks
 of_one_point =
     record {
       clients = listing (record {

@@ -50,7 +50,7 @@ pub record ReplayClientsStand (W : PlainWorkload) (m : Machine) (node : ℕ) (lo
 -- ---- the agent
 
 -- the run of the agent at a node's run, where the chunks came in these buffers
-abbrev pub run_of : PlainSettings → NodeRun → List (Buffer (Unit {0})) → Option ℕ → agents.Run (Unit {0})
+abbrev pub run_of : PlainSettings → NodeRun → List (Buffer (Unit {0})) → Option ℕ → agents.AgentRun (Unit {0})
 run_of settings run buffers offered = record { settings = settings; node = run.node; start = start settings; events = run.events; buffers = buffers; offered = offered; keeps = true }
 
 -- the buffer that the page of a chunk drew

@@ -14,13 +14,13 @@ use std::alloc::Global;
 
 /// The books of all clients, in the order of node and number, and those of all agents, in the order of node.
 #[derive(Drop)]
-pub(crate) struct Noted {
+pub(crate) struct NotedBooks {
     pub(crate) clients: List<ClientBook>,
     pub(crate) agents: List<AgentBook>,
 }
 
 /// The books of all nodes, where the schedule has ended.
-pub(crate) fn books_of(alloc: Global, nodes: List<ReplayNode>) -> Result<Noted, Memory>
+pub(crate) fn books_of(alloc: Global, nodes: List<ReplayNode>) -> Result<NotedBooks, Memory>
     requires { (W : PlainWorkload) × (coordinator : PlainCoordinator) × AllClosed W nodes.items coordinator }
     ensures { (W : PlainWorkload) (coordinator : PlainCoordinator) → AllClosed W nodes.items coordinator → IfOk result (λ noted. AreNoted W noted) }
 {
@@ -31,5 +31,5 @@ pub(crate) fn books_of(alloc: Global, nodes: List<ReplayNode>) -> Result<Noted, 
         let book = node.finish(&mut clients)?;
         agents.append(book)?;
     }
-    Ok(Noted { clients, agents })
+    Ok(NotedBooks { clients, agents })
 }

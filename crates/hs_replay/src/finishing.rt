@@ -2,7 +2,7 @@
 
 ghost use Rattle.std.specs.Prelude.{◌≡◌, ℕ, [], ◌++◌, map, None, IfOk, OnOk};
 ghost use Rattle.std.specs.List.{range_with_len};
-ghost use Rattle.hs_agent.specs.Runs.{Follows, Knows, Run, state_of};
+ghost use Rattle.hs_agent.specs.Runs.{Follows, Knows, AgentRun, state_of};
 ghost use Rattle.hs_records.specs.Books.{agent_book_of, client_book_of};
 ghost use Rattle.hs_law_lockstep.specs.Lockstep.{Machine};
 ghost use Rattle.hs_agent.specs.Points.{book_kept};
@@ -59,7 +59,7 @@ fn note_players(players: List<ReplayClient>, clients: &mut List<ClientBook>) -> 
 /// The book of this agent, which has nothing pinned.
 fn agent_book(agent: Agent<()>) -> Result<AgentBook, Memory>
     requires { Knows agent (λ run. ((state_of run).pinned ≡ []) × (run.offered ≡ None)) }
-    ensures { (run : Run (Unit {0})) → Follows agent run → IfOk result (λ book. agent_book_of book ≡ book_kept run.keeps run.node (state_of run)) }
+    ensures { (run : AgentRun (Unit {0})) → Follows agent run → IfOk result (λ book. agent_book_of book ≡ book_kept run.keeps run.node (state_of run)) }
 {
     let Finished { book, rest: _ } = agent.finish()?;
     Ok(book)

@@ -6,7 +6,7 @@ ghost use Rattle.hs_outcome.specs.Outcomes.{AreBooksOf, IsOutcome};
 ghost use Rattle.hs_records.specs.Validity.{IsValid};
 ghost use Rattle.hs_records.specs.Views.{workload_of};
 
-use crate::books::{Noted, books_of};
+use crate::books::{NotedBooks, books_of};
 use crate::schedule::{close, rounds};
 use crate::start::{make_coordinator, make_nodes};
 use hs_base::{List, Memory};
@@ -49,7 +49,7 @@ fn play(alloc: Global, workload: &Workload) -> Result<Books, Memory>
     let mut told = List::new(alloc);
     told.append_slice(coordinator.log().as_slice())?;
     let noted = books_of(alloc, nodes)?;
-    let Noted { clients, agents } = noted;
+    let NotedBooks { clients, agents } = noted;
     Ok(Books {
         version: workload.version,
         nodes: workload.settings.nodes,

@@ -1,6 +1,6 @@
 -- The book of a client that has done all its operations.
 use Rattle.std.proofs.Common.{◌≡◌, ℕ, true, List, [], ◌∷◌, length, map, take, Option, None, IsNone, refl, sym, ap, ◌∙◌, subst, arith}
-use Rattle.hs_replay_client.proofs.Prelude.{append-nil, take_all, is_some, flat_map, is_some_false, ClientId, TraceId, Core, Step, Began, Wrote, Needed, Supplied, Ended_, Refused, new_core, AreSteps, IsBook, after, Draw, Operation, PlainSettings, PlainReplayClient, new_of, Gone, HasDone, ReplayClientIsAt, IsDone, gone_of, made_for}
+use Rattle.hs_replay_client.proofs.Prelude.{append-nil, take_all, is_some, flat_map, is_some_false, ClientId, TraceId, Core, CoreStep, Began, Wrote, Needed, Supplied, Ended_, Refused, new_core, AreSteps, IsBook, after, Draw, Operation, PlainSettings, PlainReplayClient, new_of, Gone, HasDone, ReplayClientIsAt, IsDone, gone_of, made_for}
 use Rattle.hs_client.specs.Core.{all_pages}
 use Rattle.hs_client.specs.Calls.{note_of}
 use Rattle.hs_client.proofs.Bare.{after_keeps}
@@ -9,7 +9,7 @@ use Rattle.hs_records.specs.Pages.{pages_of, segment_pages}
 use Rattle.hs_law_sends.proofs.OneMore.{none_open}
 use Rattle.hs_replay_client.proofs.Standing.{recorded}
 
-after-client : (new : Core (Unit {0})) (steps : List (Step (Unit {0}))) → (after new steps).client ≡ new.client
+after-client : (new : Core (Unit {0})) (steps : List (CoreStep (Unit {0}))) → (after new steps).client ≡ new.client
 after-client new [] = refl
 after-client new (Began trace ∷ earlier) = after-client new earlier
 after-client new (Wrote moment payload more ∷ earlier) = after-client new earlier
@@ -43,7 +43,7 @@ closed_pages core none = sym (append-nil core.pages) ∙ ap (λ (c : Core (Unit 
     same : core ≡ record core { current = None }
     same = λ i. record core { current = none i }
 
-pub noted : ((client : ClientId) (size calls : ℕ) (steps : List (Step (Unit {0}))) → AreSteps (new_core client size calls) steps → IsBook (new_core client size calls) steps)
+pub noted : ((client : ClientId) (size calls : ℕ) (steps : List (CoreStep (Unit {0}))) → AreSteps (new_core client size calls) steps → IsBook (new_core client size calls) steps)
     → (settings : PlainSettings) (client : ClientId) (ops : List Operation) (drawn : List Draw) (k l m : ℕ) (player : PlainReplayClient) → ReplayClientIsAt settings client ops drawn (length ops) k l m player
     → (book : PlainClientBook) → book.client ≡ player.works.core.client → book.draws ≡ player.works.core.draws → book.pages ≡ player.works.core.pages
     → book ≡ record { client = client; draws = drawn; pages = map note_of (pages_of settings.size ops) }

@@ -8,7 +8,7 @@ pub use Rattle.hs_base.specs.declared.settings.AutoRule.{AutoRule}
 pub use Rattle.hs_base.specs.declared.told.Crumb.{Crumb}
 pub use Rattle.hs_base.specs.declared.told.Trigger.{Trigger}
 pub use Rattle.hs_client.specs.Calls.{after, AreSteps, draws_supplied, filled_chunks, IsBook, May, segments_of_steps, with_all}
-pub use Rattle.hs_client.specs.Core.{after_step, Began, Core, draw_of, Ended_, handed, Needed, new_core, number_after, Refused, Step, Supplied, supplied, Wrote}
+pub use Rattle.hs_client.specs.Core.{after_step, Began, Core, draw_of, Ended_, handed, Needed, new_core, number_after, Refused, CoreStep, Supplied, supplied, Wrote}
 pub use Rattle.hs_law_sends.proofs.Adding.{at, OneMore}
 pub use Rattle.hs_law_sends.proofs.Order.{length_next}
 pub use Rattle.hs_law_sends.specs.Drawn.{DrawnPage}

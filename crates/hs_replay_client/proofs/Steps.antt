@@ -1,6 +1,6 @@
 -- What each call of a client's parts does to the steps of its core.
 use Rattle.std.proofs.Common.{◌≡◌, ℕ, Bool, List, [], ◌∷◌, ◌++◌, map, reverse, Option, Some, None, refl, sym, ap, ap₂, ◌∙◌, subst, append_assoc}
-use Rattle.hs_replay_client.proofs.Prelude.{reverse-append, map-append, option_to_list, TraceId, Piece, Segment, Drawn, Contents, clear_chunk, buffer_of, Core, Step, Began, Wrote, Needed, Supplied, Ended_, Refused, after_step, handed, draw_of, number_after, supplied, May, after, segments_of_steps, draws_supplied, with_all, Unleased, IsClear, Made, Writing, new_of, buffer_got, IsWriting}
+use Rattle.hs_replay_client.proofs.Prelude.{reverse-append, map-append, option_to_list, TraceId, Piece, Segment, Drawn, Contents, clear_chunk, buffer_of, Core, CoreStep, Began, Wrote, Needed, Supplied, Ended_, Refused, after_step, handed, draw_of, number_after, supplied, May, after, segments_of_steps, draws_supplied, with_all, Unleased, IsClear, Made, Writing, new_of, buffer_got, IsWriting}
 use Rattle.hs_words.specs.declared.token.Drawn.TheVariants as drawn
 use Rattle.hs_client.specs.Calls.{next_number, with_last, chunks_supplied, handed_out}
 use Rattle.hs_client.proofs.AllSteps.{with_all-open}
@@ -9,11 +9,11 @@ use Rattle.hs_replay_client.specs.Writing.{ComesBy}
 abbrev pub piece_of : ℕ → ℕ → List ℕ → Piece
 piece_of number moment payload = record { number = number; moment = moment; payload = payload }
 
-abbrev Unsupplied : Step (Unit {0}) → List (Step (Unit {0})) → Type 0
+abbrev Unsupplied : CoreStep (Unit {0}) → List (CoreStep (Unit {0})) → Type 0
 Unsupplied step steps = (draws_supplied (step ∷ steps) ≡ draws_supplied steps) × (chunks_supplied (step ∷ steps) ≡ chunks_supplied steps)
 
 -- a step without a draw
-comes_on : (made : Made) (steps : List (Step (Unit {0}))) (gone : List Unleased) (old new : Writing) (step : Step (Unit {0})) → ComesBy made steps gone old → May old.core step → new.core ≡ after_step old.core step
+comes_on : (made : Made) (steps : List (CoreStep (Unit {0}))) (gone : List Unleased) (old new : Writing) (step : CoreStep (Unit {0})) → ComesBy made steps gone old → May old.core step → new.core ≡ after_step old.core step
     → (after_step old.core step).number ≡ next_number (step ∷ steps) → gone ++ new.chunks ≡ handed_out (new_of made) (step ∷ steps) → Unsupplied step steps → ComesBy made (step ∷ steps) gone new
 comes_on made steps gone old new step s may core number chunks none =
     record {
@@ -25,7 +25,7 @@ comes_on made steps gone old new step s may core number chunks none =
     }
 
 -- what waits where the chunk of the current page is handed out
-hands_out : (made : Made) (steps : List (Step (Unit {0}))) (gone : List Unleased) (old new : Writing) → ComesBy made steps gone old → new.chunks ≡ old.chunks ++ option_to_list (handed old.core)
+hands_out : (made : Made) (steps : List (CoreStep (Unit {0}))) (gone : List Unleased) (old new : Writing) → ComesBy made steps gone old → new.chunks ≡ old.chunks ++ option_to_list (handed old.core)
     → gone ++ new.chunks ≡ handed_out (new_of made) steps ++ option_to_list (handed (after (new_of made) steps))
 hands_out made steps gone old new s chunks =
     ap (λ (l : List Unleased). gone ++ l) chunks ∙ sym (append_assoc gone old.chunks (option_to_list (handed old.core)))
@@ -61,7 +61,7 @@ supplied_page : (made : Made) (gone : List Unleased) (pieces : List Piece) (late
     → buffer ≡ buffer_got made.size (draw_of buffer stamp) → new.chunks ≡ old.chunks
     → IsWriting made gone (piece_of old.core.number moment payload ∷ pieces) later all old → IsWriting made gone pieces later all new
 supplied_page made gone pieces later all old new buffer stamp moment payload more may core got chunks is =
-    let step : Step (Unit {0}) = Supplied buffer stamp moment payload more in
+    let step : CoreStep (Unit {0}) = Supplied buffer stamp moment payload more in
     let s = is.comes in
     record {
       steps = step ∷ is.steps;
@@ -79,7 +79,7 @@ supplied_page made gone pieces later all old new buffer stamp moment payload mor
     }
 
 -- the steps do not change what the client was made with
-after-size : (new : Core (Unit {0})) (steps : List (Step (Unit {0}))) → (after new steps).size ≡ new.size
+after-size : (new : Core (Unit {0})) (steps : List (CoreStep (Unit {0}))) → (after new steps).size ≡ new.size
 after-size new [] = refl
 after-size new (Began trace ∷ earlier) = after-size new earlier
 after-size new (Wrote moment payload more ∷ earlier) = after-size new earlier

@@ -8,7 +8,7 @@ use Rattle.hs_records.specs.Records.{Piece, Segment}
 use Rattle.hs_records.specs.declared.journal.Draw.{Draw}
 use Rattle.hs_records.specs.declared.journal.Draw.TheVariants as draws
 use Rattle.hs_words.specs.Chunks.{clear_chunk}
-use Rattle.hs_client.specs.Core.{Core, Step, new_core}
+use Rattle.hs_client.specs.Core.{Core, CoreStep, new_core}
 use Rattle.hs_client.specs.Calls.{AreSteps, after, next_number, segments_of_steps, chunks_supplied, draws_supplied, handed_out, with_all}
 use Rattle.hs_replay_client.specs.ReplayClients.{Unleased}
 use Rattle.hs_replay_client.specs.Wells.{Way, IsReadyFor, DrawsAll}
@@ -37,7 +37,7 @@ buffer_got size (draws.Got buffer stamp) = Some (record { chunk = clear_chunk si
 buffer_got size (draws.Empty stamp) = None
 
 -- The client comes by these steps of its core, the last of which stands first, where these chunks were taken.
-pub record ComesBy (made : Made) (steps : List (Step (Unit {0}))) (gone : List Unleased) (w : Writing) : Type 0 where
+pub record ComesBy (made : Made) (steps : List (CoreStep (Unit {0}))) (gone : List Unleased) (w : Writing) : Type 0 where
   pub may : AreSteps (new_of made) steps
   pub core : w.core ≡ after (new_of made) steps
   pub number : w.core.number ≡ next_number steps
@@ -48,7 +48,7 @@ pub record ComesBy (made : Made) (steps : List (Step (Unit {0}))) (gone : List U
 
 -- With these pieces more in the open trace and these segments behind it, the client has recorded all of these segments.
 pub record IsWriting (made : Made) (gone : List Unleased) (pieces : List Piece) (later all : List Segment) (w : Writing) : Type 0 where
-  pub steps : List (Step (Unit {0}))
+  pub steps : List (CoreStep (Unit {0}))
   pub comes : ComesBy made steps gone w
   pub gives : reverse (with_all pieces (segments_of_steps steps)) ++ later ≡ all
 

@@ -25,13 +25,13 @@ fn set_of(alloc: Global, traces: &[TraceId]) -> Result<HashSet<TraceId>, Memory>
 
 /// A trace, and whether it is in a set.
 #[derive(Clone, Copy)]
-struct Known {
+struct KnownTrace {
     trace: TraceId,
     is: bool,
 }
 
 /// What is known of a trace. Where it is that of which it was known before, nothing is looked up.
-fn look_up(set: &HashSet<TraceId>, known: Known, trace: TraceId) -> Known
+fn look_up(set: &HashSet<TraceId>, known: KnownTrace, trace: TraceId) -> KnownTrace
     requires { known.is ≡ contains same_trace set.now known.trace }
     ensures trace { result.trace ≡ trace }
     ensures is { result.is ≡ contains same_trace set.now trace }
@@ -39,7 +39,7 @@ fn look_up(set: &HashSet<TraceId>, known: Known, trace: TraceId) -> Known
     if known.trace == trace {
         return known;
     }
-    Known {
+    KnownTrace {
         trace,
         is: set.contains(&trace),
     }
@@ -69,7 +69,7 @@ pub(crate) fn kept_entries(
     }
     let set = set_of(alloc, claimed)?;
     let none = TraceId(0);
-    let mut known = Known {
+    let mut known = KnownTrace {
         trace: none,
         is: set.contains(&none),
     };

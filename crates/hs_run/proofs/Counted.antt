@@ -1,6 +1,6 @@
 -- What the counts behind a round come to.
 use Rattle.std.proofs.Common.{◌≡◌, ℕ, zero, suc, ◌+◌, ◌/◌, ◌%◌, ◌<◌, ◌≤◌, not, List, length, map, take, Option, Some, unwrap_or, [], refl, sym, ap, subst, ◌∙◌, arith, slice_get, sum_by, count_by, div-lt_iff_lt-mul, div-add-mod'}
-use Rattle.hs_run.proofs.Prelude.{mod-lt, range_with_len, get_there, Progress, is_null, PlainJournal, Draw, Step, is_point, is_chunk, is_given, done_after, points_after, nulls_after, steps_after, progress_after, Operation, PlainWorkload, NotesRounds, RunState, RunStands, Came, has_buffer, operations_at, place_of, IsValid, ClientCount, LogCount, Counts, AreCounts, log_count, progress_of}
+use Rattle.hs_run.proofs.Prelude.{mod-lt, range_with_len, get_there, Progress, is_null, PlainJournal, Draw, Step, is_point, is_chunk, is_given, done_after, points_after, nulls_after, steps_after, progress_after, Operation, PlainWorkload, NotesRounds, RunState, RunStands, Came, has_buffer, operations_at, place_of, IsValid, ClientCount, LogCount, PlainRunTally, AreCounts, log_count, progress_of}
 use Rattle.hs_lists.proofs.Counts.{count_alike}
 use Rattle.hs_records.specs.declared.journal.Draw.TheVariants as draws
 use Rattle.hs_run.specs.Progress.{draws_after}
@@ -24,7 +24,7 @@ module _ (W : PlainWorkload) (rounds : ℕ) (m : RunState) (came : Came W rounds
   stands_at zero low = came.begun.stands
   stands_at (suc k) low = (came.moves k (omega (arith, low))).stands
 
-  module _ (k : ℕ) (low : k ≤ rounds) (counts : Counts) (are : AreCounts W (came.at k) counts) where
+  module _ (k : ℕ) (low : k ≤ rounds) (counts : PlainRunTally) (are : AreCounts W (came.at k) counts) where
     -- the count of the client at a place, and that of a node, by the journal
     abbrev client_by : ℕ → ClientCount
     client_by place =

@@ -49,7 +49,7 @@ pub use Rattle.hs_records.specs.declared.operation.Workload.{Workload}
 pub use Rattle.hs_ring.specs.Parts.{AreAllEnds, Drawing, Giving, Leased}
 pub use Rattle.hs_run.specs.Changing.{EachChanged, FirstChanged}
 pub use Rattle.hs_run.specs.CountLaws.{TheseAreAllRounds}
-pub use Rattle.hs_run.specs.Counts.{AreCounts, client_count, Counts, log_count, progress_of}
+pub use Rattle.hs_run.specs.Counts.{AreCounts, client_count, PlainRunTally, log_count, progress_of}
 pub use Rattle.hs_run.specs.Ended.{CanFinish, HasFinished, HaveClosedLinks, HaveFinished, items_of, MayFinish}
 pub use Rattle.hs_run.specs.Finished.{AreBooksBehind, AreGathered}
 pub use Rattle.hs_run.specs.Going.{AllHaveGone, AllMayGo}

@@ -5,7 +5,7 @@ use Rattle.std.proofs.lemmas.List.Sums.{count_by-le-length}
 use Rattle.hs_lists.proofs.Filters.{filter_few}
 use Rattle.hs_run_client.specs.Standing.{sheets_in}
 use Rattle.hs_client.specs.Calls.{after}
-use Rattle.hs_client.specs.Core.{Core, Step, Began, Wrote, Needed, Supplied, Ended_, Refused, draw_of, new_core}
+use Rattle.hs_client.specs.Core.{Core, CoreStep, Began, Wrote, Needed, Supplied, Ended_, Refused, draw_of, new_core}
 use Rattle.hs_law_sends.specs.Drawn.{DrawnPage, drawn_from, drawn_pages}
 use Rattle.hs_law_sends.specs.Sending.{Sent, sends_of, sent_within, sheet_of}
 
@@ -19,10 +19,10 @@ counts done points nulls = record { done = done; points = points; nulls = nulls 
 -- ---- draws
 
 module _ (client : ClientId) (size calls : ℕ) where
-  core_after : List (Step Leased) → Core Leased
+  core_after : List (CoreStep Leased) → Core Leased
   core_after steps = after (new_core client size calls) steps
 
-  same_calls : (steps : List (Step Leased)) → (core_after steps).calls ≡ calls
+  same_calls : (steps : List (CoreStep Leased)) → (core_after steps).calls ≡ calls
   unfolding core_after
   same_calls [] = refl
   same_calls (Began trace ∷ earlier) = same_calls earlier
@@ -33,7 +33,7 @@ module _ (client : ClientId) (size calls : ℕ) where
   same_calls (Refused ∷ earlier) = same_calls earlier
 
   -- each draw counts as a call
-  counted_draws : (steps : List (Step Leased)) → length (core_after steps).draws ≤ (core_after steps).counted
+  counted_draws : (steps : List (CoreStep Leased)) → length (core_after steps).draws ≤ (core_after steps).counted
   unfolding core_after
   counted_draws [] = omega arith
   counted_draws (Began trace ∷ earlier) = let rest = counted_draws earlier in omega (arith, rest)

@@ -1,10 +1,10 @@
 -- Why what is shown to the watchers of a run goes on to be right, round by round, and what it comes to at the end.
 use Rattle.std.proofs.Common.{◌≡◌, inl, inr, ℕ, zero, suc, ◌+◌, ◌*◌, ◌-◌, ◌/◌, ◌%◌, ◌<◌, ◌≤◌, List, [], ◌∷◌, length, Option, Some, None, true, false, unwrap_or, ⊎_elim, refl, sym, ap, subst, ◌∙◌, arith, slice_get, div-lt_iff_lt-mul, div-add-mod'}
-use Rattle.hs_run.proofs.Prelude.{mod-lt, AllByRecursion, Result, Ok, Err, OnOk, slice_get_within, all_each, get_there, Progress, first, IsLast, Counts, AreCounts, progress_of, TheseAreAllRounds, IsTotal, IsTotalBehind, PlainCoordinatorActor, Operation, PlainWorkload, AllBegin, PlainNodeActors, RunState, IsBegun, Came, NoRoundsCome, operations_at, place_of, Showing, ActingNode, ActedTo, MetTo, MovedTo, CanBegin, DoneIn, RoundsMade, TellsLeft, FitTotals, MayCount, shown_on, RoundsWatched, AllWatched}
+use Rattle.hs_run.proofs.Prelude.{mod-lt, AllByRecursion, Result, Ok, Err, OnOk, slice_get_within, all_each, get_there, Progress, first, IsLast, PlainRunTally, AreCounts, progress_of, TheseAreAllRounds, IsTotal, IsTotalBehind, PlainCoordinatorActor, Operation, PlainWorkload, AllBegin, PlainNodeActors, RunState, IsBegun, Came, NoRoundsCome, operations_at, place_of, Showing, ActingNode, ActedTo, MetTo, MovedTo, CanBegin, DoneIn, RoundsMade, TellsLeft, FitTotals, MayCount, shown_on, RoundsWatched, AllWatched}
 use Rattle.hs_lists.proofs.Alls.{all_append}
 use Rattle.hs_run.proofs.Seeing.{end_of}
 use Rattle.hs_run_story.specs.Coming.{RoundsKeepWhatCame}
-use Rattle.hs_board.specs.Watching.{Totals, WatchStands, BothLookTimes, HaveLookedInAll, KnowLast}
+use Rattle.hs_board.specs.Watching.{ShownTotals, WatchStands, BothLookTimes, HaveLookedInAll, KnowLast}
 use Rattle.hs_records.specs.declared.setting.Setting.TheVariants as settings
 use Rattle.hs_run.specs.Watched.{MayShow, IsNeeded, WatchEnded}
 use Rattle.hs_run.proofs.Moments.{site_there}
@@ -36,7 +36,7 @@ follows keep sent_so W made nodes nodes1 nodes2 nodes3 c c1 c3 h a b d =
 -- ---- the totals that are shown
 
 -- the totals of the counts behind all rounds
-total_here : (W : PlainWorkload) (made : ℕ) (m : RunState) (came : Came W made m) (counts : Counts) → AreCounts W m counts → IsTotalBehind W made m came (progress_of made counts)
+total_here : (W : PlainWorkload) (made : ℕ) (m : RunState) (came : Came W made m) (counts : PlainRunTally) → AreCounts W m counts → IsTotalBehind W made m came (progress_of made counts)
 total_here W made m came counts are = record { round = made; low = omega arith; counts = counts; are = subst (λ (n : RunState). AreCounts W n counts) (sym came.last) are; is = refl }
 
 total_on : (W : PlainWorkload) (made : ℕ) (m m' : RunState) (came : Came W made m) (came' : Came W (suc made) m') → ((k : ℕ) → k < suc made → came'.at k ≡ came.at k) → (x : Progress) → IsTotal W made m came x
@@ -55,15 +55,15 @@ total_on W made m m' came came' keeps x total =
     }))
     total
 
-all_on : (P : Progress → Type 0) (made : ℕ) (counts : Counts) (shown : Totals) → AllByRecursion P shown → (1 ≤ made → P (progress_of made counts)) → AllByRecursion P (shown_on made counts shown)
+all_on : (P : Progress → Type 0) (made : ℕ) (counts : PlainRunTally) (shown : ShownTotals) → AllByRecursion P shown → (1 ≤ made → P (progress_of made counts)) → AllByRecursion P (shown_on made counts shown)
 all_on P zero counts shown all one = all
 all_on P (suc k) counts shown all one = all_append P shown (progress_of (suc k) counts ∷ []) all (one (omega arith), tt)
 
-last_on : (made : ℕ) (counts : Counts) (shown : Totals) → (made ≡ 0 → IsLast first shown) → (x : Progress) × IsLast x (shown_on made counts shown) × (x.rounds ≡ made)
+last_on : (made : ℕ) (counts : PlainRunTally) (shown : ShownTotals) → (made ≡ 0 → IsLast first shown) → (x : Progress) × IsLast x (shown_on made counts shown) × (x.rounds ≡ made)
 last_on zero counts shown none = (first, none refl, refl)
 last_on (suc k) counts shown none = (progress_of (suc k) counts, (shown, refl), refl)
 
-pub may_show : (W : PlainWorkload) (made : ℕ) (nodes : List ActingNode) (c : PlainCoordinatorActor) (counts : Counts) (watch : Showing) → RoundsWatched W made nodes c counts watch → MayShow made counts watch.shown
+pub may_show : (W : PlainWorkload) (made : ℕ) (nodes : List ActingNode) (c : PlainCoordinatorActor) (counts : PlainRunTally) (watch : Showing) → RoundsWatched W made nodes c counts watch → MayShow made counts watch.shown
 may_show W made nodes c counts watch w =
     record {
       fits = w.fits;
@@ -134,7 +134,7 @@ one_more s s1 s2 s3 s4 a b c d = (
 
 -- ---- round by round
 
-pub begin_watched : NoRoundsCome → (W : PlainWorkload) (nodes : List ActingNode) (c : PlainCoordinatorActor) → CanBegin W nodes c → (counts : Counts) (watch : Showing) → watch.shown ≡ first ∷ [] → WatchStands watch → HaveLookedInAll 0 watch → ((m : RunState) → IsBegun W m → AreCounts W m counts)
+pub begin_watched : NoRoundsCome → (W : PlainWorkload) (nodes : List ActingNode) (c : PlainCoordinatorActor) → CanBegin W nodes c → (counts : PlainRunTally) (watch : Showing) → watch.shown ≡ first ∷ [] → WatchStands watch → HaveLookedInAll 0 watch → ((m : RunState) → IsBegun W m → AreCounts W m counts)
     → RoundsWatched W 0 nodes c counts watch
 begin_watched none W nodes c b counts watch shown stands looks counted =
     let h = begin_made none W nodes c b in
@@ -151,7 +151,7 @@ begin_watched none W nodes c b counts watch shown stands looks counted =
       looks = looks;
     }
 
-module _ (W : PlainWorkload) (made : ℕ) (nodes : List ActingNode) (c : PlainCoordinatorActor) (counts : Counts) (watch : Showing) (w : RoundsWatched W made nodes c counts watch) where
+module _ (W : PlainWorkload) (made : ℕ) (nodes : List ActingNode) (c : PlainCoordinatorActor) (counts : PlainRunTally) (watch : Showing) (w : RoundsWatched W made nodes c counts watch) where
   pub may_count : (nodes' : List ActingNode) (c' : PlainCoordinatorActor) → Follows W made nodes c w.rounds nodes' c' → MayCount W nodes' counts
   may_count nodes' c' f =
       record {
@@ -161,7 +161,7 @@ module _ (W : PlainWorkload) (made : ℕ) (nodes : List ActingNode) (c : PlainCo
         counted = subst (λ (m : RunState). AreCounts W m counts) (sym (f.keeps made (omega arith) ∙ w.rounds.came.last)) w.counted;
       }
 
-  pub next_watched : (nodes' : List ActingNode) (c' : PlainCoordinatorActor) (f : Follows W made nodes c w.rounds nodes' c') (counts' : Counts) (watch' : Showing) → TellsLeft W nodes true → AreCounts W f.next.moment counts' → FitTotals counts'
+  pub next_watched : (nodes' : List ActingNode) (c' : PlainCoordinatorActor) (f : Follows W made nodes c w.rounds nodes' c') (counts' : PlainRunTally) (watch' : Showing) → TellsLeft W nodes true → AreCounts W f.next.moment counts' → FitTotals counts'
       → watch'.shown ≡ shown_on made counts watch.shown → WatchStands watch' → (1 ≤ made → KnowLast watch') → HaveLookedInAll (4 * made + 4) watch' → RoundsWatched W (suc made) nodes' c' counts' watch'
   next_watched nodes' c' f counts' watch' left counted fits shown stands knows looks =
       let totals = IsTotal W (suc made) f.next.moment f.next.came in
@@ -191,7 +191,7 @@ module _ (W : PlainWorkload) (made : ℕ) (nodes : List ActingNode) (c : PlainCo
         over = record { rounds = made; made = w.rounds; all = all_done W made nodes c w.rounds none };
         all = law W made w.rounds.here.stands.valid (λ place ops at. low_place W made nodes c w.rounds none place ops at (slice_get_within W.clients place ops at)) w.needed;
         shown = subst (AllByRecursion totals) (sym shown) (all_on totals made counts watch.shown w.shown (λ some. inr here));
-        last = subst (λ (l : Totals). (x : Progress) × IsLast x l × (x.rounds ≡ made)) (sym shown) (last_on made counts watch.shown w.begins);
+        last = subst (λ (l : ShownTotals). (x : Progress) × IsLast x l × (x.rounds ≡ made)) (sym shown) (last_on made counts watch.shown w.begins);
         ended = ended;
         looks = then_look (4 * made) 1 watch watch' w.looks more;
       }

@@ -8,12 +8,12 @@ use Rattle.hs_run_story.specs.Noting.{NotesRounds}
 use Rattle.hs_run_story.specs.RunStates.{RunState}
 use Rattle.hs_run_story.specs.Coming.{Came}
 use Rattle.hs_records.specs.Validity.{IsValid}
-use Rattle.hs_run.specs.Counts.{Counts, AreCounts, progress_of}
+use Rattle.hs_run.specs.Counts.{PlainRunTally, AreCounts, progress_of}
 
 -- Behind each round they come to how far the workload and the journal have come.
 abbrev pub CountsAreProgress : Type 0
 CountsAreProgress =
-    (W : PlainWorkload) (rounds : ℕ) (m : RunState) (came : Came W rounds m) (J : PlainJournal) → IsValid W → NotesRounds W rounds m came J → (k : ℕ) → k ≤ rounds → (counts : Counts) → AreCounts W (came.at k) counts
+    (W : PlainWorkload) (rounds : ℕ) (m : RunState) (came : Came W rounds m) (J : PlainJournal) → IsValid W → NotesRounds W rounds m came J → (k : ℕ) → k ≤ rounds → (counts : PlainRunTally) → AreCounts W (came.at k) counts
     → progress_of k counts ≡ progress_after W J k
 
 -- Rounds in which all operations can be done, and the last of which a client needs, are all rounds of the workload.

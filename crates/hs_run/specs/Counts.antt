@@ -14,7 +14,7 @@ use Rattle.hs_run_story.specs.RunStates.{PlainNodeActors, RunState}
 use Rattle.hs_law_sends.specs.Sending.{operations_at, place_of}
 
 -- of each client, in the order of node and number, and of each node
-pub record Counts : Type 0 where
+pub record PlainRunTally : Type 0 where
   pub clients : List ClientCount
   pub logs : List LogCount
 
@@ -25,7 +25,7 @@ abbrev pub log_count : List Step → LogCount
 log_count log = record { steps = length log; taken = count_by is_chunk log; given = count_by is_given log }
 
 -- These are the counts at a moment.
-pub record AreCounts (W : PlainWorkload) (m : RunState) (counts : Counts) : Type 0 where
+pub record AreCounts (W : PlainWorkload) (m : RunState) (counts : PlainRunTally) : Type 0 where
   pub clients_are : length counts.clients ≡ length W.clients
   pub logs_are : length counts.logs ≡ W.settings.nodes
   pub clients : (node client : ℕ) (site : PlainNodeActors) (caller : PlainClientActor) → slice_get m.standing.nodes node ≡ Some site → slice_get site.callers client ≡ Some caller
@@ -33,7 +33,7 @@ pub record AreCounts (W : PlainWorkload) (m : RunState) (counts : Counts) : Type
   pub logs : (node : ℕ) → node < W.settings.nodes → slice_get counts.logs node ≡ Some (log_count (steps_of (m.works node).events))
 
 -- what they come to behind so many rounds
-abbrev pub progress_of : ℕ → Counts → Progress
+abbrev pub progress_of : ℕ → PlainRunTally → Progress
 progress_of rounds counts =
     record {
       rounds = rounds;

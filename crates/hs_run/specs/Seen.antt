@@ -12,7 +12,7 @@ use Rattle.hs_run_story.specs.RunStates.{RunState}
 use Rattle.hs_run_story.specs.Coming.{Came}
 use Rattle.hs_board.specs.Watching.{IsRising, IsSeenOf}
 use Rattle.hs_records.specs.Validity.{IsValid}
-use Rattle.hs_run.specs.Counts.{Counts, AreCounts, progress_of}
+use Rattle.hs_run.specs.Counts.{PlainRunTally, AreCounts, progress_of}
 
 -- What one watcher saw, look by look: each how far the workload and the journal had come after its rounds, each of more rounds than those
 -- before, and the last of all rounds.
@@ -31,7 +31,7 @@ AreSeen W J all = (length all ≡ 2) × AllByRecursion (IsSeen W J) all
 pub record IsTotalBehind (W : PlainWorkload) (rounds : ℕ) (m : RunState) (came : Came W rounds m) (x : Progress) : Type 0 where
   pub round : ℕ
   pub low : round ≤ rounds
-  pub counts : Counts
+  pub counts : PlainRunTally
   pub are : AreCounts W (came.at round) counts
   pub is : x ≡ progress_of round counts
 

@@ -3,25 +3,25 @@ use Rattle.std.specs.Prelude.{◌≡◌, ℕ, zero, suc, ◌+◌, ◌*◌, ◌-�
 use Rattle.std.specs.List.{AllByRecursion}
 use Rattle.hs_board.specs.declared.progress.Progress.{Progress}
 use Rattle.hs_board.specs.Shown.{first, IsLast}
-use Rattle.hs_run.specs.Counts.{Counts, AreCounts, progress_of}
+use Rattle.hs_run.specs.Counts.{PlainRunTally, AreCounts, progress_of}
 use Rattle.hs_run.specs.Seen.{IsSeen, IsTotal}
 use Rattle.hs_run_agent.specs.Coordinators.{PlainCoordinatorActor}
 use Rattle.hs_records.specs.Journals.{PlainJournal}
 use Rattle.hs_law_journal.specs.Ends.{rounds_of}
 use Rattle.hs_records.specs.Plain.{Operation, PlainWorkload}
-use Rattle.hs_board.specs.Watching.{Totals, Showing, WatchStands, BothLookTimes, BothKnowLastSeen, HaveLookedInAll, IsLater, KnowLast, EndsAtLatest, IsSeenOf}
+use Rattle.hs_board.specs.Watching.{ShownTotals, Showing, WatchStands, BothLookTimes, BothKnowLastSeen, HaveLookedInAll, IsLater, KnowLast, EndsAtLatest, IsSeenOf}
 use Rattle.hs_run.specs.declared.node.ActingNode.{ActingNode}
 use Rattle.hs_run.specs.Moments.{RoundsMade, RoundsOver}
 use Rattle.hs_run.specs.Tallying.{FitTotals}
 
 -- what is shown when the totals behind so many rounds are published: they too, if there were any rounds
-abbrev pub shown_on : ℕ → Counts → Totals → Totals
+abbrev pub shown_on : ℕ → PlainRunTally → ShownTotals → ShownTotals
 shown_on zero counts shown = shown
 shown_on (suc made) counts shown = shown ++ progress_of (suc made) counts ∷ []
 
 -- Behind so many rounds, if there were any, the sums of these counts are numbers of a total, and the rounds are more than those of
 -- what is shown.
-pub record MayShow (made : ℕ) (counts : Counts) (shown : Totals) : Type 0 where
+pub record MayShow (made : ℕ) (counts : PlainRunTally) (shown : ShownTotals) : Type 0 where
   pub fits : 1 ≤ made → FitTotals counts
   pub later : 1 ≤ made → IsLater (progress_of made counts) shown
 
@@ -37,7 +37,7 @@ IsNeeded W made = (place : ℕ) × (ops : List Operation) × (slice_get W.client
 
 -- So many rounds led here, each of which a client needed, and these are the counts behind them. What is shown are totals behind earlier ones.
 -- Both watchers looked four times in each round, and from the second on they know what was shown at last.
-pub record RoundsWatched (W : PlainWorkload) (made : ℕ) (nodes : List ActingNode) (coordinator : PlainCoordinatorActor) (counts : Counts) (watch : Showing) : Type 0 where
+pub record RoundsWatched (W : PlainWorkload) (made : ℕ) (nodes : List ActingNode) (coordinator : PlainCoordinatorActor) (counts : PlainRunTally) (watch : Showing) : Type 0 where
   pub rounds : RoundsMade W made nodes coordinator
   pub needed : (before : ℕ) → made ≡ suc before → IsNeeded W before
   pub counted : AreCounts W rounds.moment counts

@@ -27,29 +27,29 @@ use std::marker::Model;
 
 /// Of each client, in the order of node and number, and of each agent what was counted so far.
 #[derive(Drop)]
-pub(crate) struct Tally {
+pub(crate) struct RunTally {
     clients: List<ClientCount>,
     logs: List<LogCount>,
 }
 
-impl Model for Tally {
-    ghost use Rattle.hs_run.specs.Counts.{Counts};
+impl Model for RunTally {
+    ghost use Rattle.hs_run.specs.Counts.{PlainRunTally};
     ghost use Rattle.hs_run.specs.TallyLayout.{tally_of};
 
-    ghost Value = { Counts };
+    ghost Value = { PlainRunTally };
 
     ghost view = { tally_of };
 }
 
-impl Tally {
+impl RunTally {
     /// Counts of 0 for each client and each agent of the workload.
-    pub(crate) fn make(alloc: Global, workload: &Workload) -> Result<Tally, Memory>
+    pub(crate) fn make(alloc: Global, workload: &Workload) -> Result<RunTally, Memory>
         requires { IsValid (workload_of workload.now) }
         ensures { IfOk result (λ tally. (m : RunState) → IsBegun (workload_of workload.now) m → AreCounts (workload_of workload.now) m tally) }
     {
         let clients = no_clients(alloc, workload.clients.len())?;
         let logs = no_logs(alloc, workload.settings.nodes as usize)?;
-        Ok(Tally { clients, logs })
+        Ok(RunTally { clients, logs })
     }
 
     /// Counts on behind a round: each operation and each step that was counted before is not looked at again.

@@ -15,7 +15,7 @@ use crate::laws::these_are_all_rounds;
 use crate::meeting::{meet_all, move_all};
 use crate::node::ActingNode;
 use crate::rounds::{act, has_left};
-use crate::tallying::Tally;
+use crate::tallying::RunTally;
 use hs_base::{Gate, List, Memory};
 use hs_board::{Progress, Watch};
 use hs_records::Workload;
@@ -43,7 +43,7 @@ pub(crate) fn watch_rounds<R: Threads + Wait + Sync, G: Gate>(
 {
     no_rounds_come();
     these_are_all_rounds();
-    let mut tally = Tally::make(alloc, workload)?;
+    let mut tally = RunTally::make(alloc, workload)?;
     let mut made = 0u32;
     'rounds: while has_left(nodes, workload) {
         watch_round(
@@ -69,7 +69,7 @@ fn watch_round<R: Threads + Wait + Sync, G: Gate>(
     nodes: &mut List<ActingNode>,
     coordinator: &mut CoordinatorActor,
     watch: &mut Watch,
-    tally: &mut Tally,
+    tally: &mut RunTally,
     made: u32,
 ) -> Result<(), Memory>
     requires left { TellsLeft (workload_of workload.now) nodes.old.items true }
@@ -107,7 +107,7 @@ fn act_watched<R: Threads + Wait + Sync, G: Gate>(
     nodes: &mut List<ActingNode>,
     coordinator: &mut CoordinatorActor,
     watch: &mut Watch,
-    tally: &Tally,
+    tally: &RunTally,
     made: u32,
 ) -> Result<(), Memory>
     requires act { CanAct (workload_of workload.now) nodes.old.items coordinator.old }
@@ -214,7 +214,7 @@ fn publish<R: Threads + Wait + Sync>(
 }
 
 /// Behind the last of so many rounds their totals are published, the watchers are told, and each looks once more.
-fn end_watch<R: Wait>(rt: &R, watch: &mut Watch, tally: &Tally, made: u32) -> Result<(), Memory>
+fn end_watch<R: Wait>(rt: &R, watch: &mut Watch, tally: &RunTally, made: u32) -> Result<(), Memory>
     requires show { MayShow made tally.now watch.old.shown }
     requires stands { WatchStands watch.old }
     ensures shown { OnOk result (watch.new.shown ≡ shown_on made tally.now watch.old.shown) }
@@ -229,7 +229,12 @@ fn end_watch<R: Wait>(rt: &R, watch: &mut Watch, tally: &Tally, made: u32) -> Re
 }
 
 /// The totals behind so many rounds are published, if there were any.
-fn publish_last<R: Wait>(rt: &R, watch: &mut Watch, tally: &Tally, made: u32) -> Result<(), Memory>
+fn publish_last<R: Wait>(
+    rt: &R,
+    watch: &mut Watch,
+    tally: &RunTally,
+    made: u32,
+) -> Result<(), Memory>
     requires show { MayShow made tally.now watch.old.shown }
     ensures shown { OnOk result (watch.new.shown ≡ shown_on made tally.now watch.old.shown) }
     ensures stands { WatchStands watch.old → WatchStands watch.new }

@@ -1,6 +1,6 @@
 -- The agent offers the first of its hand to the pool.
 use Rattle.std.proofs.Common.{◌≡◌, inl, inr, ℕ, zero, suc, ◌≤◌, true, false, List, [], ◌∷◌, ◌++◌, length, map, Option, Some, None, refl, sym, ap, ap₂, subst, ◌∙◌, arith, append-nil}
-use Rattle.hs_run_agent.proofs.Prelude.{same_Some, slice_get, slice_set, IsSome, AllByRecursion, flat_map, option_and_then, option_map_or, option_map, all_append, all_at, MAX_PUBLISHED, asks_in, IsStamped, AreTurns, PlainAgent, sheet_in, Run, Follows, Knows, after_offer, offered_next, state_of, Ask, Crumb, Trigger, EventsGoOn, StepsSayWhatTheyTell, brought_by, AgentState, start, Answered, Gave, PlainWorkload, Leased, Giving, Buffer, buffer_of, GiverTurn, answers_in, Held, AgentIs, IsPooled, IsPageThere, IsWithin, Label, label_of, run_at, state_at, Intake, Intakes, AreIntakesFor, PlainWorkingAgent, WorkingAgentStands, OffersNext, stamps_of, GiverGoesOn, IsOffer, lent_of, NodeWork, with_events}
+use Rattle.hs_run_agent.proofs.Prelude.{same_Some, slice_get, slice_set, IsSome, AllByRecursion, flat_map, option_and_then, option_map_or, option_map, all_append, all_at, MAX_PUBLISHED, asks_in, IsStamped, AreTurns, PlainAgent, sheet_in, AgentRun, Follows, Knows, after_offer, offered_next, state_of, Ask, Crumb, Trigger, EventsGoOn, StepsSayWhatTheyTell, brought_by, AgentState, start, Answered, Gave, PlainWorkload, Leased, Giving, Buffer, buffer_of, GiverTurn, answers_in, Held, AgentIs, IsPooled, IsPageThere, IsWithin, Label, label_of, run_at, state_at, Intake, Intakes, AreIntakesFor, PlainWorkingAgent, WorkingAgentStands, OffersNext, stamps_of, GiverGoesOn, IsOffer, lent_of, NodeWork, with_events}
 use Rattle.std.proofs.lemmas.Option.{slice_get-map}
 use Rattle.hs_law_journal.specs.Turns.{IsOffered, Offers}
 use Rattle.hs_agent.specs.Runs.{after_answer, first_place}
@@ -41,12 +41,12 @@ all_set P (x ∷ xs) (suc place) y all here = (all.0, all_set P xs place y all.1
 -- ---- the first of the hand
 
 -- the buffer that is offered, at its place
-pub record IsFirst (run : Run Leased) (buffer : Buffer Leased) : Type 0 where
+pub record IsFirst (run : AgentRun Leased) (buffer : Buffer Leased) : Type 0 where
   pub place : ℕ
   pub first : first_place (state_of run) ≡ Some place
   pub at : slice_get run.buffers place ≡ Some buffer
 
-pub first_is : (run : Run Leased) (buffer : Buffer Leased) → Some buffer ≡ offered_next run → IsFirst run buffer
+pub first_is : (run : AgentRun Leased) (buffer : Buffer Leased) → Some buffer ≡ offered_next run → IsFirst run buffer
 first_is run buffer e = at_place (first_place (state_of run)) refl e
   where
     at_place : (o : Option ℕ) → first_place (state_of run) ≡ o → Some buffer ≡ option_and_then (λ place. slice_get run.buffers place) o → IsFirst run buffer
@@ -59,7 +59,7 @@ none_first state e = ap (λ (l : List ℕ). slice_get l 0) e
 -- ---- an answer more
 
 module _ (W : PlainWorkload) (work : NodeWork) (desk : PlainWorkingAgent) (lines : Intakes) (stands : WorkingAgentStands W work desk lines) where
-  abbrev pub run : Run Leased
+  abbrev pub run : AgentRun Leased
   run = run_at W work stands.works.is.buffers None
 
   abbrev pub behind : Answered → NodeWork
@@ -92,7 +92,7 @@ module _ (W : PlainWorkload) (work : NodeWork) (desk : PlainWorkingAgent) (lines
                       is =
                           record {
                             buffers = stands.works.is.buffers;
-                            follows = subst (λ (r : Run Leased). Follows agent' r) same follows;
+                            follows = subst (λ (r : AgentRun Leased). Follows agent' r) same follows;
                             labels = stands.works.is.labels;
                             pooled = stands.works.is.pooled;
                             pages = stands.works.is.pages;
@@ -115,7 +115,7 @@ module _ (W : PlainWorkload) (work : NodeWork) (desk : PlainWorkingAgent) (lines
     pub pooled_first : IsPooled W work.pool buffer
     pooled_first = all_at (IsPooled W work.pool) stands.works.is.buffers first.place buffer stands.works.is.pooled first.at
 
-    pub is_offered : (agent' : PlainAgent Leased) → Follows agent' (after_offer run) → Knows agent' (λ (r : Run Leased). IsSome r.offered)
+    pub is_offered : (agent' : PlainAgent Leased) → Follows agent' (after_offer run) → Knows agent' (λ (r : AgentRun Leased). IsSome r.offered)
     is_offered agent' follows = λ working. (after_offer run, follows, subst (λ (o : Option ℕ). IsSome o) (sym first.first) refl)
 
     -- the agent behind an answer, where its chunks stand in these buffers

@@ -1,7 +1,7 @@
 -- What several proofs of this crate take from other crates and from its own specs: each imports it from here.
 pub use Rattle.hs_agent.specs.Keeping.{PlainAgent}
 pub use Rattle.hs_agent.specs.Points.{sheet_in}
-pub use Rattle.hs_agent.specs.Runs.{after_offer, Follows, Knows, offered_next, point_of, Run, state_of}
+pub use Rattle.hs_agent.specs.Runs.{after_offer, Follows, Knows, offered_next, point_of, AgentRun, state_of}
 pub use Rattle.hs_base.specs.Rules.{is_declared}
 pub use Rattle.hs_base.specs.declared.limits.TheConstants.{MAX_TAKEN}
 pub use Rattle.hs_base.specs.declared.told.Ask.{Ask}

@@ -1,6 +1,6 @@
 -- An agent whose links are closed: closing them, passes over what is left, and the end.
 use Rattle.std.proofs.Common.{◌≡◌, ℕ, zero, suc, ◌<◌, Bool, true, false, ◌&&◌, List, [], ◌∷◌, ◌++◌, length, map, Option, Some, None, refl, sym, ap, ap₂, subst, ◌∙◌, arith, append_assoc, length-append, eqb, eqb-true, eq-eqb}
-use Rattle.hs_run_agent.proofs.Prelude.{length-map, same_Some, slice_get_within, slice_get, AllByRecursion, option_map_or, get_there, get_map, all_at, Ask, Crumb, Trigger, crumbs_in, triggers_in, AreTurns, Run, point_of, Incoming, Outgoing, Remaining, AreEnds, sent, Key, IsEnd, AgentEvent, PlainWorkload, Leased, Giving, Buffer, buffer_of, PoolName, Held, IsPooled, IsAskable, run_at, state_at, Intake, closed, linked, AreIntakesFor, HandsOut, HandOutFirst, key_of, PlainAgentActor, IsAgentActor, working_agent_of, CanPass, MakesPass, AreEndsOf, AreRests, are_given, PlainClosedAgent, IsClosedAgent, IsClosedAgentBare, ClosedAgentPasses, AreMatesOf, PlainWorkingAgent, Helping, WorkingAgentStands, lent_of, NodeWork, IsFew, with_asks, with_events, with_moved, came_of}
+use Rattle.hs_run_agent.proofs.Prelude.{length-map, same_Some, slice_get_within, slice_get, AllByRecursion, option_map_or, get_there, get_map, all_at, Ask, Crumb, Trigger, crumbs_in, triggers_in, AreTurns, AgentRun, point_of, Incoming, Outgoing, Remaining, AreEnds, sent, Key, IsEnd, AgentEvent, PlainWorkload, Leased, Giving, Buffer, buffer_of, PoolName, Held, IsPooled, IsAskable, run_at, state_at, Intake, closed, linked, AreIntakesFor, HandsOut, HandOutFirst, key_of, PlainAgentActor, IsAgentActor, working_agent_of, CanPass, MakesPass, AreEndsOf, AreRests, are_given, PlainClosedAgent, IsClosedAgent, IsClosedAgentBare, ClosedAgentPasses, AreMatesOf, PlainWorkingAgent, Helping, WorkingAgentStands, lent_of, NodeWork, IsFew, with_asks, with_events, with_moved, came_of}
 use Rattle.std.proofs.lemmas.List.{nil_from_length}
 use Rattle.std.specs.Prelude.{filter_map}
 use Rattle.std.specs.List.{cons_option}
@@ -218,7 +218,7 @@ held_pool pool [] all = tt
 held_pool pool (x ∷ rest) all = (all.0, held_pool pool rest all.1)
 
 module _ (W : PlainWorkload) (work : NodeWork) (all : AllSent) (shut : PlainClosedAgent) (is : IsClosedAgent W work all shut) where
-  abbrev pub last_run : Run Leased
+  abbrev pub last_run : AgentRun Leased
   last_run = run_at W work is.stands.works.is.buffers None
 
   -- what the agent has left is of the pool

@@ -1,6 +1,6 @@
 -- The agent takes an input that may come.
 use Rattle.std.proofs.Common.{◌≡◌, ℕ, List, [], ◌∷◌, ◌++◌, map, Option, Some, None, refl, sym, ap, subst, ◌∙◌, arith, append_assoc}
-use Rattle.hs_run_agent.proofs.Prelude.{map-append, IsSome, slice_get, AllByRecursion, flat_map, option_to_list, all_append, PlainAgent, sheet_in, Run, Follows, Knows, point_of, Told, EventsGoOn, EventsAddFew, StepsSayWhatTheyTell, brought_by, AgentState, start, AgentEvent, Took, Gave, Answered, after_from, after_event, PlainSettings, PlainWorkload, Leased, Buffer, buffer_of, Sheet, AgentIs, AgentWorks, IsPageThere, IsPooled, IsWithin, Label, label_of, run_at, state_at, NodeWork}
+use Rattle.hs_run_agent.proofs.Prelude.{map-append, IsSome, slice_get, AllByRecursion, flat_map, option_to_list, all_append, PlainAgent, sheet_in, AgentRun, Follows, Knows, point_of, Told, EventsGoOn, EventsAddFew, StepsSayWhatTheyTell, brought_by, AgentState, start, AgentEvent, Took, Gave, Answered, after_from, after_event, PlainSettings, PlainWorkload, Leased, Buffer, buffer_of, Sheet, AgentIs, AgentWorks, IsPageThere, IsPooled, IsWithin, Label, label_of, run_at, state_at, NodeWork}
 use Rattle.hs_agent.specs.declared.input.Input.{Input}
 use Rattle.hs_agent.specs.declared.input.Input.TheVariants as inputs
 use Rattle.hs_agent.specs.Runs.{IsTakable, after_input, buffers_in, input_of, told_in}
@@ -80,7 +80,7 @@ module _ (W : PlainWorkload) (work : NodeWork) where
   is_within inputs.Turn may = tt
 
   module _ {g : _} (agent : PlainAgent Leased) (said : List Told) (input : Input Leased g) (works : AgentWorks W work agent said) (may : MayCome W work input) where
-    abbrev pub run : Run Leased
+    abbrev pub run : AgentRun Leased
     run = run_at W work works.is.buffers None
 
     pub takable : EventsAddFew → Knows agent (λ r. IsTakable (point_of r) input)

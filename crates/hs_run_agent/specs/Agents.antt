@@ -9,7 +9,7 @@ use Rattle.hs_agent.specs.declared.input.Input.{Input}
 use Rattle.hs_agent.specs.declared.input.Input.TheVariants as inputs
 use Rattle.hs_agent.specs.Keeping.{PlainAgent}
 use Rattle.hs_agent.specs.Points.{sheet_in}
-use Rattle.hs_agent.specs.Runs.{Run, Follows, input_of, buffers_in}
+use Rattle.hs_agent.specs.Runs.{AgentRun, Follows, input_of, buffers_in}
 use Rattle.hs_law_journal.specs.LoopPasses.{HandsReady}
 use Rattle.hs_law_agent.specs.Laws.{brought_by}
 use Rattle.hs_law_agent.specs.Leading.{IsToldBelow}
@@ -78,7 +78,7 @@ pub record IsPooled (W : PlainWorkload) (pool : PoolName) (buffer : Buffer Lease
   pub pool_is : buffer.lease.pool ≡ pool
 
 -- the run of the agent, where its chunks came last in these buffers
-abbrev pub run_at : PlainWorkload → NodeWork → List (Buffer Leased) → Option ℕ → Run Leased
+abbrev pub run_at : PlainWorkload → NodeWork → List (Buffer Leased) → Option ℕ → AgentRun Leased
 run_at W work buffers offered = record { settings = W.settings; node = work.node; start = start W.settings; events = work.events; buffers = buffers; offered = offered; keeps = true }
 
 abbrev pub state_at : PlainWorkload → NodeWork → AgentState

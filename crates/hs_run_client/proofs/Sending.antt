@@ -3,7 +3,7 @@ use Rattle.std.proofs.Common.{◌≡◌, ℕ, suc, ◌+◌, ◌≤◌, true, fal
 use Rattle.hs_run_client.proofs.Prelude.{append-nil, take-append-drop, is_some, slice_get, AllByRecursion, ClientId, Core, new_core, sent, PlainClient, Made, HasDone, HasSent, IsPlayable, Operation, PlainSettings, pages_of, Leased, Buffer, Answer, PoolName, client_pieces, PlainClientActor, ClientActorIsAt, made_for}
 use Rattle.std.proofs.lemmas.List.{length-take-le}
 use Rattle.hs_lists.proofs.Alls.{all_front}
-use Rattle.hs_client.specs.Core.{Step}
+use Rattle.hs_client.specs.Core.{CoreStep}
 use Rattle.hs_client.specs.Calls.{AreSteps, IsBook, after, draws_supplied, filled_chunks, segments_of_steps, sheet_for, with_all}
 use Rattle.hs_records.specs.declared.journal.Draw.{Draw}
 use Rattle.hs_records.specs.declared.journal.Draw.TheVariants as noted
@@ -23,7 +23,7 @@ use Rattle.hs_run_client.specs.Standing.{IsLeasedTo, HasSentSoFar, HasSentAll, s
 
 -- what is known of cores and of clients
 pub record Laws : Type 0 where
-  pub books : (client : ClientId) (size calls : ℕ) (steps : List (Step Leased)) → AreSteps (new_core client size calls) steps → IsBook (new_core client size calls) steps
+  pub books : (client : ClientId) (size calls : ℕ) (steps : List (CoreStep Leased)) → AreSteps (new_core client size calls) steps → IsBook (new_core client size calls) steps
   pub sent_is : (made : Made) (ops : List Operation) (client : PlainClient) → HasDone made ops client → HasSent made ops client
   pub handed : CoresHandOutSoFar Leased
   pub crumbs : FirstCrumbsAreSent

@@ -18,7 +18,7 @@ use Rattle.hs_text.specs.Text.{words_of}
 use Rattle.hs_text.specs.Steps.{first_that_holds}
 use Rattle.hs_text.specs.Opening.{words_say, line_reasons}
 use Rattle.hs_text.specs.Agreement.{NoneHolds, none_hold, agrees_ok, line_opened, opened_says}
-use Rattle.hs_settings.specs.declared.setting.Given.{Given}
+use Rattle.hs_settings.specs.declared.setting.GivenNumber.{GivenNumber}
 use Rattle.hs_settings.specs.Settings.{least_of, most_of}
 use Rattle.hs_settings.specs.Statements.{Statement, Nothing, Put, Declare, Watch, keyword_of, says, is_skipped, statement_of}
 use Rattle.hs_settings.specs.LookBack.{Past}
@@ -110,7 +110,7 @@ statement_kept : (p : Past) (s : Statement) → Keeps p → Allowed p s → Keep
 statement_kept p Nothing keeps a = keeps
 statement_kept p (Put given) keeps a =
     record {
-      givens = all_push (λ (g : Given). (least_of g.setting ≤ g.number) × (g.number ≤ most_of g.setting)) p.givens given keeps.givens (within (least_of given.setting) (most_of given.setting) given.number a.range);
+      givens = all_push (λ (g : GivenNumber). (least_of g.setting ≤ g.number) × (g.number ≤ most_of g.setting)) p.givens given keeps.givens (within (least_of given.setting) (most_of given.setting) given.number a.range);
       rules = keeps.rules;
       autos = keeps.autos;
     }

@@ -8,7 +8,7 @@ use Rattle.hs_base.specs.Ranges.{Within}
 use Rattle.hs_base.specs.declared.limits.TheConstants.{MOST_BUFFERS}
 use Rattle.hs_settings.specs.declared.setting.ServiceSetting.{ServiceSetting}
 use Rattle.hs_settings.specs.declared.setting.ServiceSetting.TheVariants as settings
-use Rattle.hs_settings.specs.declared.setting.Given.{Given}
+use Rattle.hs_settings.specs.declared.setting.GivenNumber.{GivenNumber}
 use Rattle.hs_settings.specs.declared.limits.TheConstants.{DEFAULT_BUFFERS}
 use Rattle.hs_settings.specs.Settings.{place_of, least_of, most_of, default_of, is_of, said_of, buffers_of, value_of, number_in}
 use Rattle.hs_settings.specs.LookBack.{Past, settings_said}
@@ -66,17 +66,17 @@ default_within settings.Groups b low high = (omega arith, omega arith)
 default_within settings.Hold b low high = (omega arith, omega arith)
 default_within settings.Bytes b low high = (omega arith, omega arith)
 
-found_within : (givens : List Given) (s : ServiceSetting) (d : ℕ) (o : Option Given) → AreWithin givens → InRange s d → find (is_of s) givens ≡ o → InRange s (unwrap_or (option_map (λ (given : Given). given.number) o) d)
+found_within : (givens : List GivenNumber) (s : ServiceSetting) (d : ℕ) (o : Option GivenNumber) → AreWithin givens → InRange s d → find (is_of s) givens ≡ o → InRange s (unwrap_or (option_map (λ (given : GivenNumber). given.number) o) d)
 found_within givens s d None all here e = here
 found_within givens s d (Some given) all here e =
     let same : given.setting ≡ s = same_setting given.setting s (eqb-true (place_of given.setting) (place_of s) (find_passes (is_of s) givens given e)) in
-    let in_range = all_find (λ (g : Given). InRange g.setting g.number) (is_of s) givens given all e in
+    let in_range = all_find (λ (g : GivenNumber). InRange g.setting g.number) (is_of s) givens given all e in
     subst (λ (t : ServiceSetting). InRange t given.number) same in_range
 
-said_within : (givens : List Given) (s : ServiceSetting) (d : ℕ) → AreWithin givens → InRange s d → InRange s (unwrap_or (said_of givens s) d)
+said_within : (givens : List GivenNumber) (s : ServiceSetting) (d : ℕ) → AreWithin givens → InRange s d → InRange s (unwrap_or (said_of givens s) d)
 said_within givens s d all here = found_within givens s d (find (is_of s) givens) all here refl
 
-pub value_within : (givens : List Given) (s : ServiceSetting) → AreWithin givens → Within (least_of s) (most_of s) (value_of givens s)
+pub value_within : (givens : List GivenNumber) (s : ServiceSetting) → AreWithin givens → Within (least_of s) (most_of s) (value_of givens s)
 value_within givens s all =
     let buffers = said_within givens settings.Buffers DEFAULT_BUFFERS all (omega arith, omega arith) in
     said_within givens s (default_of s (buffers_of givens)) all (default_within s (buffers_of givens) buffers.0 buffers.1)

@@ -13,7 +13,7 @@ use Rattle.hs_settings.specs.declared.refusal.SettingsReason.{SettingsReason}
 use Rattle.hs_settings.specs.declared.refusal.SettingsReason.TheVariants as reasons
 use Rattle.hs_settings.specs.declared.refusal.SettingsFault.{SettingsFault}
 use Rattle.hs_settings.specs.declared.refusal.SettingsFault.TheVariants as faults
-use Rattle.hs_settings.specs.declared.setting.Given.{Given}
+use Rattle.hs_settings.specs.declared.setting.GivenNumber.{GivenNumber}
 use Rattle.hs_settings.specs.declared.word.Keyword.{Keyword}
 use Rattle.hs_settings.specs.declared.word.Keyword.TheVariants as keywords
 use Rattle.hs_settings.specs.declared.numbers.Numbers.{Numbers}
@@ -102,5 +102,5 @@ abbrev pub line_step : Past → List ℕ → Result Past SettingsReason
 line_step p line = step_of p (is_skipped line) line
 
 -- the numbers that were given are in their ranges
-abbrev pub AreWithin : List Given → Type 0
-AreWithin givens = AllByRecursion (λ (given : Given). Within (least_of given.setting) (most_of given.setting) given.number) givens
+abbrev pub AreWithin : List GivenNumber → Type 0
+AreWithin givens = AllByRecursion (λ (given : GivenNumber). Within (least_of given.setting) (most_of given.setting) given.number) givens

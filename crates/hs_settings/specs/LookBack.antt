@@ -5,7 +5,7 @@ use Rattle.std.specs.List.{cons_option}
 use Rattle.hs_base.specs.declared.settings.TriggerRule.{TriggerRule}
 use Rattle.hs_base.specs.declared.settings.AutoRule.{AutoRule}
 use Rattle.hs_settings.specs.declared.setting.ServiceSetting.TheVariants as settings
-use Rattle.hs_settings.specs.declared.setting.Given.{Given}
+use Rattle.hs_settings.specs.declared.setting.GivenNumber.{GivenNumber}
 use Rattle.hs_settings.specs.Settings.{PlainService, value_of}
 use Rattle.hs_settings.specs.Statements.{Statement, Put, Declare, Watch, statement_of}
 
@@ -15,7 +15,7 @@ said [] = []
 said (line ∷ earlier) = cons_option (statement_of line) (said earlier)
 
 -- the numbers given so far
-abbrev pub givens_said : List Statement → List Given
+abbrev pub givens_said : List Statement → List GivenNumber
 givens_said [] = []
 givens_said (Put given ∷ earlier) = givens_said earlier ++ given ∷ []
 givens_said (_ ∷ earlier) = givens_said earlier
@@ -34,7 +34,7 @@ autos_said (_ ∷ earlier) = autos_said earlier
 
 -- all that the faults of the next line ask of the lines so far
 pub record Past : Type 0 where
-  pub givens : List Given
+  pub givens : List GivenNumber
   pub rules : List TriggerRule
   pub autos : List AutoRule
 

@@ -11,7 +11,7 @@ use Rattle.hs_base.specs.declared.limits.TheConstants.{MOST_NODES, MOST_CLIENTS,
 use Rattle.hs_settings.specs.declared.limits.TheConstants.{MOST_PLACES, LEAST_BYTES, MOST_BYTES, DEFAULT_CLIENTS, DEFAULT_BUFFERS, DEFAULT_SIZE, DEFAULT_BACKLOG, DEFAULT_CLAIMS, DEFAULT_REMEMBER, DEFAULT_GROUPS, DEFAULT_HOLD, DEFAULT_BYTES}
 use Rattle.hs_settings.specs.declared.setting.ServiceSetting.{ServiceSetting}
 use Rattle.hs_settings.specs.declared.setting.ServiceSetting.TheVariants as settings
-use Rattle.hs_settings.specs.declared.setting.Given.{Given}
+use Rattle.hs_settings.specs.declared.setting.GivenNumber.{GivenNumber}
 use Rattle.hs_settings.specs.declared.settings.ServiceSettings.{ServiceSettings}
 
 abbrev pub place_of : ServiceSetting → ℕ
@@ -65,18 +65,18 @@ default_of settings.Bytes buffers = DEFAULT_BYTES
 
 -- ---- what lines give
 
-abbrev pub is_of : ServiceSetting → Given → Bool
+abbrev pub is_of : ServiceSetting → GivenNumber → Bool
 is_of setting given = place_of given.setting == place_of setting
 
 -- the number that is given of a setting
-abbrev pub said_of : List Given → ServiceSetting → Option ℕ
-said_of givens setting = option_map (λ (given : Given). given.number) (find (is_of setting) givens)
+abbrev pub said_of : List GivenNumber → ServiceSetting → Option ℕ
+said_of givens setting = option_map (λ (given : GivenNumber). given.number) (find (is_of setting) givens)
 
-abbrev pub buffers_of : List Given → ℕ
+abbrev pub buffers_of : List GivenNumber → ℕ
 buffers_of givens = unwrap_or (said_of givens settings.Buffers) DEFAULT_BUFFERS
 
 -- the value of a setting
-abbrev pub value_of : List Given → ServiceSetting → ℕ
+abbrev pub value_of : List GivenNumber → ServiceSetting → ℕ
 value_of givens setting = unwrap_or (said_of givens setting) (default_of setting (buffers_of givens))
 
 -- ---- settings as plain data
@@ -144,7 +144,7 @@ pub record IsServiceSettings (s : PlainService) : Type 0 where
   pub room : s.threshold + s.pins + s.clients < s.buffers
 
 -- worked examples
-abbrev buffers_given : List Given
+abbrev buffers_given : List GivenNumber
 buffers_given = record { setting = settings.Pins; number = 7 } ∷ record { setting = settings.Buffers; number = 1000 } ∷ []
 
 values_given : (value_of buffers_given settings.Buffers ≡ 1000) × (value_of buffers_given settings.Pins ≡ 7) × (value_of buffers_given settings.Threshold ≡ 500)

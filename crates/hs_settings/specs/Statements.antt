@@ -8,7 +8,7 @@ use Rattle.hs_text.specs.Text.{words_of, number_of, numbers_of}
 use Rattle.hs_text.specs.Spelling.{spelled}
 use Rattle.hs_text.specs.Opening.{words_say}
 use Rattle.hs_settings.specs.declared.setting.ServiceSetting.TheVariants as settings
-use Rattle.hs_settings.specs.declared.setting.Given.{Given}
+use Rattle.hs_settings.specs.declared.setting.GivenNumber.{GivenNumber}
 use Rattle.hs_settings.specs.declared.word.Keyword.{Keyword}
 use Rattle.hs_settings.specs.declared.word.Keyword.TheVariants as keywords
 use Rattle.hs_settings.specs.declared.word.Kind.{Kind}
@@ -17,7 +17,7 @@ use Rattle.hs_settings.specs.declared.numbers.Numbers.{Numbers}
 
 pub data Statement : Type 0 where
   Nothing : Statement
-  Put : (given : Given) → Statement
+  Put : (given : GivenNumber) → Statement
   Declare : (rule : TriggerRule) → Statement
   Watch : (number : ℕ) (rule : AutoRule) → Statement
 

@@ -15,7 +15,7 @@ use crate::limits::DEFAULT_BUFFERS;
 use crate::numbers::{Numbers, numbers_in};
 use crate::refusal::SettingsReason;
 use crate::rules::{is_auto_out, is_out, is_rule_out, rule_of};
-use crate::setting::{Given, ServiceSetting};
+use crate::setting::{GivenNumber, ServiceSetting};
 use crate::settings::ServiceSettings;
 use crate::word::{Keyword, Kind};
 use hs_base::limits::MAX_AUTOS;
@@ -35,7 +35,7 @@ const LINE_REASONS: LineReasons<SettingsReason> = LineReasons {
 /// What the lines so far say.
 #[derive(Drop)]
 pub struct Reader {
-    givens: List<Given>,
+    givens: List<GivenNumber>,
     rules: List<TriggerRule>,
     autos: List<AutoRule>,
 }
@@ -121,7 +121,7 @@ impl Reader {
         if is_out(setting.least(), setting.most(), number) {
             return Err(Stop::Fault(SettingsReason::Range));
         }
-        self.givens.append(Given { setting, number })?;
+        self.givens.append(GivenNumber { setting, number })?;
         Ok(())
     }
 

@@ -30,7 +30,7 @@ pub enum ServiceSetting {
 
 /// A setting with the number that a line says of it.
 #[derive(Clone, Copy)]
-pub struct Given {
+pub struct GivenNumber {
     pub setting: ServiceSetting,
     pub number: u64,
 }

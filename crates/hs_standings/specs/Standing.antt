@@ -14,8 +14,8 @@ use Rattle.hs_wire.specs.declared.message.Losses.{Losses}
 use Rattle.hs_wire.specs.declared.message.Wholeness.TheVariants.{Open, WholeSince}
 use Rattle.hs_standings.specs.declared.answers.Life.{Life}
 use Rattle.hs_standings.specs.declared.answers.Latest.{Latest}
-use Rattle.hs_standings.specs.declared.answers.Noted.{Noted as Answer}
-use Rattle.hs_standings.specs.declared.answers.Noted.TheVariants.{Noted, Older, Full}
+use Rattle.hs_standings.specs.declared.answers.StandingOutcome.{StandingOutcome as Answer}
+use Rattle.hs_standings.specs.declared.answers.StandingOutcome.TheVariants.{Noted, Older, Full}
 
 -- whether two lives are one
 abbrev pub same_life : Life → Life → Bool

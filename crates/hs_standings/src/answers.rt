@@ -56,7 +56,7 @@ impl Latest {
 
 /// What became of a standing.
 #[derive(Clone, Copy, Debug, PartialEq, Eq)]
-pub enum Noted {
+pub enum StandingOutcome {
     /// It is the latest of its trace and life.
     Noted,
     /// One of a later message, or of the same, is noted.

@@ -6,5 +6,5 @@ mod answers;
 mod book;
 mod standings;
 
-pub use answers::{Latest, Life, Noted};
+pub use answers::{Latest, Life, StandingOutcome};
 pub use standings::Standings;

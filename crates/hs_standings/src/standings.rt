@@ -5,7 +5,7 @@ ghost use Rattle.std.specs.Map.{lookup};
 ghost use Rattle.hs_standings.specs.Standing.{same_id, PlainStandings, no_standings, lives_of, latest_of, count_of, answer_to, with_standing, without_trace, latest_at};
 ghost use Rattle.hs_standings.specs.Closing.{are_closed};
 
-use crate::answers::{Latest, Life, Noted};
+use crate::answers::{Latest, Life, StandingOutcome};
 use crate::book::Book;
 use hs_base::{Memory, TraceId};
 use hs_wire::Standing;
@@ -49,28 +49,33 @@ impl Standings {
     }
 
     /// Notes what a life says in a message with this number. After `Older` and `Full`, and after `Memory`, all is as it was.
-    pub fn note(&mut self, life: Life, number: u64, standing: Standing) -> Result<Noted, Memory>
+    pub fn note(
+        &mut self,
+        life: Life,
+        number: u64,
+        standing: Standing,
+    ) -> Result<StandingOutcome, Memory>
         ensures answer { IfOk result (λ noted. noted ≡ answer_to self.old standing.trace life number) }
-        ensures noted { IfOk result (λ noted. noted ≡ Noted.Noted
+        ensures noted { IfOk result (λ noted. noted ≡ StandingOutcome.Noted
             → self.new ≡ with_standing self.old standing.trace life (latest_at number standing)) }
-        ensures same { IfOk result (λ noted. noted ≢ Noted.Noted → self.new ≡ self.old) }
+        ensures same { IfOk result (λ noted. noted ≢ StandingOutcome.Noted → self.new ≡ self.old) }
         ensures memory { OnErr result (self.new ≡ self.old) }
     {
         match self.latest(standing.trace, life) {
             Some(latest) => {
                 if number <= latest.number {
-                    return Ok(Noted::Older);
+                    return Ok(StandingOutcome::Older);
                 }
                 self.renew(standing.trace, life, Latest { number, standing })?;
             }
             None => {
                 if self.count >= self.most {
-                    return Ok(Noted::Full);
+                    return Ok(StandingOutcome::Full);
                 }
                 self.begin(standing.trace, life, Latest { number, standing })?;
             }
         }
-        Ok(Noted::Noted)
+        Ok(StandingOutcome::Noted)
     }
 
     /// Puts a standing in place of the one of its trace and life.

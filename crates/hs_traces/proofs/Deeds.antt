@@ -12,7 +12,7 @@ use Rattle.hs_traces.specs.declared.answers.Offered.TheVariants.{Given, Unknown,
 use Rattle.hs_traces.specs.declared.key.PageKey.{PageKey}
 use Rattle.hs_traces.specs.Parts.{Pages, has_key, page_with, with_page}
 use Rattle.hs_traces.specs.Traces.{Parts, PlainTraces, part_of, has_page, has_page_in, is_full, answer_to, with_page_in, with_page_of, answer_of_offer}
-use Rattle.hs_traces.specs.History.{Coming, Deed, Comes, Offers, Saves, after_answer, after_offer, after, after_all, pages_of, HoldsNothing, HearsAll, Brings, AreSamePages}
+use Rattle.hs_traces.specs.History.{Coming, TraceDeed, Comes, Offers, Saves, after_answer, after_offer, after, after_all, pages_of, HoldsNothing, HearsAll, Brings, AreSamePages}
 use Rattle.hs_traces.proofs.Order.{same_trace-true, same_trace-refl, same_trace_laws}
 use Rattle.hs_traces.proofs.Parting.{joined, all_joined, wrapped, wrapped-new, unwrapped, brought_stand, one_part}
 
@@ -142,7 +142,7 @@ other_offer trace other s pages Unknown apart follows = follows
 other_offer trace other s pages Unsaved apart follows = follows
 other_offer trace other s pages Busy apart follows = follows
 
-all_follow : (trace : TraceId) (s : PlainTraces) (pages : Pages) (deeds : List Deed) → Follows trace s pages → HearsAll trace s deeds → Follows trace (after_all s deeds) (all_joined pages (pages_of trace deeds))
+all_follow : (trace : TraceId) (s : PlainTraces) (pages : Pages) (deeds : List TraceDeed) → Follows trace s pages → HearsAll trace s deeds → Follows trace (after_all s deeds) (all_joined pages (pages_of trace deeds))
 all_follow trace s pages [] follows heard = follows
 all_follow trace s pages (Comes page ∷ deeds) follows heard =
     by_answer (same_trace trace page.trace)
@@ -160,7 +160,7 @@ all_follow trace s pages (Saves other ∷ deeds) follows heard =
 from_nothing : (trace : TraceId) (s : PlainTraces) → HoldsNothing trace s → Follows trace s []
 from_nothing trace s holds = record { waiting = holds.waiting; out = holds.out }
 
-pub pages_decide : (trace : TraceId) (one other : PlainTraces) (deeds others : List Deed) → HoldsNothing trace one → HoldsNothing trace other → HearsAll trace one deeds → HearsAll trace other others
+pub pages_decide : (trace : TraceId) (one other : PlainTraces) (deeds others : List TraceDeed) → HoldsNothing trace one → HoldsNothing trace other → HearsAll trace one deeds → HearsAll trace other others
     → AreSamePages (pages_of trace deeds) (pages_of trace others) → part_of (after_all one deeds).waiting trace ≡ part_of (after_all other others).waiting trace
 pages_decide trace one other deeds others holds holds' heard heard' same =
     (all_follow trace one [] deeds (from_nothing trace one holds) heard).waiting
@@ -168,7 +168,7 @@ pages_decide trace one other deeds others holds holds' heard heard' same =
     ∙ sym (all_follow trace other [] others (from_nothing trace other holds') heard').waiting
 
 -- each page that comes of the trace waits with its bytes, where its key says which these are
-pub what_comes_waits : (trace : TraceId) (s : PlainTraces) (deeds : List Deed) → HoldsNothing trace s → HearsAll trace s deeds → (key : PageKey) (bytes : List ℕ)
+pub what_comes_waits : (trace : TraceId) (s : PlainTraces) (deeds : List TraceDeed) → HoldsNothing trace s → HearsAll trace s deeds → (key : PageKey) (bytes : List ℕ)
     → Brings (pages_of trace deeds) key bytes → ((other : List ℕ) → Brings (pages_of trace deeds) key other → other ≡ bytes) → page_with (unwrap_or (part_of (after_all s deeds).waiting trace) []) key ≡ Some bytes
 what_comes_waits trace s deeds holds heard key bytes brought alike =
     let stand = brought_stand (pages_of trace deeds) in

@@ -18,10 +18,10 @@ pub record Coming : Type 0 where
   pub key : PageKey
   pub bytes : List ℕ
 
-pub data Deed : Type 0 where
-  Comes : (page : Coming) → Deed
-  Offers : (trace : TraceId) → Deed
-  Saves : (trace : TraceId) → Deed
+pub data TraceDeed : Type 0 where
+  Comes : (page : Coming) → TraceDeed
+  Offers : (trace : TraceId) → TraceDeed
+  Saves : (trace : TraceId) → TraceDeed
 
 abbrev pub after_answer : PlainTraces → Coming → Answer → PlainTraces
 after_answer s page Added = with_page_of s page.trace page.key page.bytes
@@ -37,17 +37,17 @@ after_offer s trace Unsaved = s
 after_offer s trace Busy = s
 
 -- what is held after a call, and after several
-abbrev pub after : PlainTraces → Deed → PlainTraces
+abbrev pub after : PlainTraces → TraceDeed → PlainTraces
 after s (Comes page) = after_answer s page (answer_to s page.trace page.key (length page.bytes))
 after s (Offers trace) = after_offer s trace (answer_of_offer s trace)
 after s (Saves trace) = after_saved s trace
 
-abbrev pub after_all : PlainTraces → List Deed → PlainTraces
+abbrev pub after_all : PlainTraces → List TraceDeed → PlainTraces
 after_all s [] = s
 after_all s (deed ∷ deeds) = after_all (after s deed) deeds
 
 -- the pages that come of a trace
-abbrev pub pages_of : TraceId → List Deed → List Coming
+abbrev pub pages_of : TraceId → List TraceDeed → List Coming
 pages_of trace [] = []
 pages_of trace (Comes page ∷ deeds) = if same_trace trace page.trace then page ∷ pages_of trace deeds else pages_of trace deeds
 pages_of trace (Offers other ∷ deeds) = pages_of trace deeds
@@ -59,12 +59,12 @@ pub record HoldsNothing (trace : TraceId) (s : PlainTraces) : Type 0 where
   pub out : part_of s.out trace ≡ None
 
 -- a call neither gives the trace out nor finds a page of it too much
-abbrev pub Hears : TraceId → PlainTraces → Deed → Type 0
+abbrev pub Hears : TraceId → PlainTraces → TraceDeed → Type 0
 Hears trace s (Comes page) = same_trace trace page.trace ≡ true → answer_to s page.trace page.key (length page.bytes) ≢ Full
 Hears trace s (Offers other) = same_trace trace other ≡ false
 Hears trace s (Saves other) = Unit {0}
 
-abbrev pub HearsAll : TraceId → PlainTraces → List Deed → Type 0
+abbrev pub HearsAll : TraceId → PlainTraces → List TraceDeed → Type 0
 HearsAll trace s [] = Unit {0}
 HearsAll trace s (deed ∷ deeds) = Hears trace s deed × HearsAll trace (after s deed) deeds
 
@@ -81,7 +81,7 @@ pub record AreSamePages (pages others : List Coming) : Type 0 where
 
 -- ---- worked examples
 
-abbrev page_at : (trace page byte : ℕ) → Deed
+abbrev page_at : (trace page byte : ℕ) → TraceDeed
 page_at trace page byte = Comes (record { trace = t trace; key = key_at 3 1 0 0 page; bytes = byte ∷ [] })
 
 abbrev none : PlainTraces

@@ -5,7 +5,7 @@ use Rattle.std.specs.declared.cmp.Ordering.{Ordering}
 use Rattle.std.specs.declared.cmp.Ordering.TheVariants.{Less, Greater}
 use Rattle.std.specs.Ordering.{nat_cmp, ordering_then, is_eq}
 use Rattle.hs_words.specs.declared.page.Header.{Header}
-use Rattle.hs_traces.specs.declared.key.Sender.{Sender}
+use Rattle.hs_traces.specs.declared.key.CoreId.{CoreId}
 use Rattle.hs_traces.specs.declared.key.PageKey.{PageKey}
 
 abbrev pub key_cmp : PageKey → PageKey → Ordering
@@ -17,11 +17,11 @@ abbrev pub same_key : PageKey → PageKey → Bool
 same_key a b = is_eq (key_cmp a b)
 
 -- whether a page names its sender's node and client
-abbrev pub is_own : Sender → Header → Bool
+abbrev pub is_own : CoreId → Header → Bool
 is_own sender header = header.client.node == sender.node && header.client.number == sender.client
 
 -- the key of a sender's page
-abbrev pub key_of : Sender → Header → PageKey
+abbrev pub key_of : CoreId → Header → PageKey
 key_of sender header = record { node = sender.node; epoch = sender.epoch; client = sender.client; core = sender.core; page = header.page }
 
 -- whether a life of a node wrote the page

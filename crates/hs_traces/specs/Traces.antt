@@ -15,7 +15,7 @@ use Rattle.hs_traces.specs.declared.answers.Added.{Added as Answer}
 use Rattle.hs_traces.specs.declared.answers.Added.TheVariants.{Added, Repeated, Foreign, Full}
 use Rattle.hs_traces.specs.declared.answers.Offered.{Offered}
 use Rattle.hs_traces.specs.declared.answers.Offered.TheVariants.{Given, Unknown, Unsaved, Busy}
-use Rattle.hs_traces.specs.declared.key.Sender.{Sender}
+use Rattle.hs_traces.specs.declared.key.CoreId.{CoreId}
 use Rattle.hs_traces.specs.declared.key.PageKey.{PageKey}
 use Rattle.hs_traces.specs.Keys.{is_own, key_of, key_at}
 use Rattle.hs_traces.specs.Parts.{Pages, bytes_of, keys_of, has_key, page_with, with_page, next_page}
@@ -75,7 +75,7 @@ abbrev pub answer_to : PlainTraces → TraceId → PageKey → ℕ → Answer
 answer_to s trace key len = if has_page s trace key then Repeated else if is_full s trace len then Full else Added
 
 -- the answer to the page that a sender's bytes are
-abbrev pub answer_for : PlainTraces → Sender → Sheet → ℕ → Answer
+abbrev pub answer_for : PlainTraces → CoreId → Sheet → ℕ → Answer
 answer_for s sender sheet len = if is_own sender sheet.header then answer_to s sheet.header.trace (key_of sender sheet.header) len else Foreign
 
 -- the parts with one page more: it joins its trace's part, or begins one

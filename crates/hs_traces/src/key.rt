@@ -8,7 +8,7 @@ use hs_words::Header;
 /// The core of a client that wrote a page: the node with its epoch, the client there, and the core's number among those of
 /// the client.
 #[derive(Clone, Copy, Debug, PartialEq, Eq)]
-pub struct Sender {
+pub struct CoreId {
     pub node: u16,
     pub epoch: u64,
     pub client: u16,
@@ -26,7 +26,7 @@ pub struct PageKey {
 }
 
 /// Whether a page names its sender's node and client.
-pub fn is_own(sender: &Sender, header: &Header) -> bool
+pub fn is_own(sender: &CoreId, header: &Header) -> bool
     ensures { result ≡ is_own sender.now header.now }
 {
     header.client.node == sender.node && header.client.number == sender.client
@@ -40,7 +40,7 @@ pub fn is_from(node: u16, epoch: u64, key: &PageKey) -> bool
 }
 
 /// The key of a sender's page.
-pub fn key_of(sender: &Sender, header: &Header) -> PageKey
+pub fn key_of(sender: &CoreId, header: &Header) -> PageKey
     ensures { result ≡ key_of sender.now header.now }
 {
     PageKey {

@@ -10,7 +10,7 @@ mod shelf;
 mod traces;
 
 pub use answers::{Added, LEAST_BYTES, MakeFault, Offered, TraceCounts, TraceLimits};
-pub use key::{PageKey, Sender, is_from, is_own, key_of};
+pub use key::{CoreId, PageKey, is_from, is_own, key_of};
 pub use laws::pages_decide_the_part;
 pub use reading::read_header;
 pub use traces::Traces;

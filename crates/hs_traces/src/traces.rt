@@ -11,7 +11,7 @@ ghost use Rattle.hs_traces.specs.Parts.{Pages, bytes_of};
 ghost use Rattle.hs_traces.specs.Traces.{PlainTraces, AreSmall, no_traces, has_page, has_page_in, keys_in, is_full, answer_to, answer_for, with_page_of, oldest_of, offered, answer_of_offer, after_saved, is_out, is_waiting, page_behind, page_out, counts_of, held_bytes};
 
 use crate::answers::{Added, LEAST_BYTES, MakeFault, Offered, TraceCounts, TraceLimits};
-use crate::key::{PageKey, Sender, is_own, key_of};
+use crate::key::{CoreId, PageKey, is_own, key_of};
 use crate::part::{PageBytes, Part};
 use crate::reading::read_header;
 use crate::shelf::Shelf;
@@ -77,7 +77,7 @@ impl Traces {
     }
 
     /// Adds a page, by its bytes. After each answer but `Added`, and after `Memory`, all is as it was.
-    pub fn add(&mut self, sender: Sender, bytes: &[u8]) -> Result<Added, Memory>
+    pub fn add(&mut self, sender: CoreId, bytes: &[u8]) -> Result<Added, Memory>
         ensures answer { IfOk result (λ added. (sheet : Sheet) → Spells sheet bytes.now
             → added ≡ answer_for self.old sender sheet (length bytes.now)) }
         ensures no_page { IfOk result (λ added. (added ≡ Added.NoPage) ↔ ((sheet : Sheet) → Spells sheet bytes.now → ⊥)) }

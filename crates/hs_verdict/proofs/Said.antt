@@ -8,7 +8,7 @@ use Rattle.hs_base.specs.declared.ids.TraceId.{TraceId}
 use Rattle.hs_base.specs.declared.node_set.NodeSet.{NodeSet}
 use Rattle.hs_base.specs.NodeSets.{has_node, nodes_of, no_nodes, either}
 use Rattle.hs_base.specs.NodeSetLaws.{has-either, has-no_nodes}
-use Rattle.hs_groups.specs.declared.followed.Followed.{Followed}
+use Rattle.hs_groups.specs.declared.followed_group.FollowedGroup.{FollowedGroup}
 use Rattle.hs_groups.specs.Groups.{PlainGroups}
 use Rattle.hs_standings.specs.declared.answers.Latest.{Latest}
 use Rattle.hs_standings.specs.declared.answers.Life.{Life}
@@ -38,7 +38,7 @@ said : (P : Latest → Bool) (o : Option Latest) → option_map_or P o false ≡
 said P (Some latest) e = (latest, refl, e)
 said P None e = let never : false ≡ true = e in absurd cc
 
-group_answered : (g : PlainGroups) (s : PlainStandings) (trace : TraceId) → has_all g s trace ≡ true → (place : ℕ) (followed : Followed) → slice_get g.groups place ≡ Some followed → claims trace followed ≡ true
+group_answered : (g : PlainGroups) (s : PlainStandings) (trace : TraceId) → has_all g s trace ≡ true → (place : ℕ) (followed : FollowedGroup) → slice_get g.groups place ≡ Some followed → claims trace followed ≡ true
     → (eqb followed.waiting.0 0 && are_nodes_closed g s trace followed.asked) ≡ true
 group_answered g s trace all place followed there claimed =
     second (claims trace followed) (eqb followed.waiting.0 0 && are_nodes_closed g s trace followed.asked)
@@ -60,9 +60,9 @@ lives_full keys o e lives is at entry there =
     (list_all_at (is_full keys) lives at entry (sym (ap (λ (p : Option Lives). option_map_or (list_all (is_full keys)) p true) is) ∙ e) there)
 
 -- a node is among those that groups reached which claim the trace, or it was among the first ones
-reached_from : (trace : TraceId) (nodes : NodeSet) (groups : List Followed) (node : ℕ) → has_node (fold (with_reached trace) nodes groups) node ≡ true
+reached_from : (trace : TraceId) (nodes : NodeSet) (groups : List FollowedGroup) (node : ℕ) → has_node (fold (with_reached trace) nodes groups) node ≡ true
     → (has_node nodes node ≡ true)
-    ⊎ ((place : ℕ) × (followed : Followed) × (slice_get groups place ≡ Some followed) × (claims trace followed ≡ true) × (has_node followed.asked node ≡ true))
+    ⊎ ((place : ℕ) × (followed : FollowedGroup) × (slice_get groups place ≡ Some followed) × (claims trace followed ≡ true) × (has_node followed.asked node ≡ true))
 reached_from trace nodes [] node on = inl on
 reached_from trace nodes (followed ∷ groups) node on =
     elim (reached_from trace (with_reached trace nodes followed) groups node on) [
@@ -72,13 +72,13 @@ reached_from trace nodes (followed ∷ groups) node on =
   where
     first : claims trace followed ≡ true → (has_node nodes node || has_node followed.asked node) ≡ true → (b : Bool) → has_node nodes node ≡ b
         → (has_node nodes node ≡ true)
-        ⊎ ((place : ℕ) × (one : Followed) × (slice_get (followed ∷ groups) place ≡ Some one) × (claims trace one ≡ true) × (has_node one.asked node ≡ true))
+        ⊎ ((place : ℕ) × (one : FollowedGroup) × (slice_get (followed ∷ groups) place ≡ Some one) × (claims trace one ≡ true) × (has_node one.asked node ≡ true))
     first claimed on true here = inl here
     first claimed on false here = inr (0, followed, refl, claimed, sym (ap (λ b. b || has_node followed.asked node) here) ∙ on)
 
     at : (b : Bool) → claims trace followed ≡ b → has_node (if b then either nodes followed.asked else nodes) node ≡ true
         → (has_node nodes node ≡ true)
-        ⊎ ((place : ℕ) × (one : Followed) × (slice_get (followed ∷ groups) place ≡ Some one) × (claims trace one ≡ true) × (has_node one.asked node ≡ true))
+        ⊎ ((place : ℕ) × (one : FollowedGroup) × (slice_get (followed ∷ groups) place ≡ Some one) × (claims trace one ≡ true) × (has_node one.asked node ≡ true))
     at true claimed on = first claimed (sym (has-either nodes followed.asked node) ∙ on) (has_node nodes node) refl
     at false apart on = inl on
 

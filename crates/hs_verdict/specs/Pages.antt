@@ -11,11 +11,11 @@ use Rattle.hs_standings.specs.Standing.{PlainStandings, no_standings, lives_of, 
 use Rattle.hs_traces.specs.declared.key.PageKey.{PageKey}
 use Rattle.hs_traces.specs.Keys.{is_from, key_at}
 use Rattle.hs_traces.specs.Traces.{keys_in}
-use Rattle.hs_verdict.specs.declared.pages.Pages.{Pages}
-use Rattle.hs_verdict.specs.declared.pages.Pages.TheVariants as pages
+use Rattle.hs_verdict.specs.declared.pages.HeldPages.{HeldPages}
+use Rattle.hs_verdict.specs.declared.pages.HeldPages.TheVariants as pages
 
 -- the keys of these pages of a trace
-abbrev pub pages_in : Pages → TraceId → List PageKey
+abbrev pub pages_in : HeldPages → TraceId → List PageKey
 pages_in (pages.Waiting traces) trace = keys_in traces.now.waiting trace
 pages_in (pages.Out keys) trace = keys.now
 

@@ -17,7 +17,7 @@ use Rattle.hs_base.specs.Samples.{t}
 use Rattle.hs_wire.specs.declared.message.Wholeness.{Wholeness}
 use Rattle.hs_wire.specs.declared.message.Wholeness.TheVariants as wholeness
 use Rattle.hs_wire.specs.declared.message.Standing.{Standing}
-use Rattle.hs_groups.specs.declared.followed.Followed.{Followed}
+use Rattle.hs_groups.specs.declared.followed_group.FollowedGroup.{FollowedGroup}
 use Rattle.hs_groups.specs.Following.{told_of, n}
 use Rattle.hs_groups.specs.Groups as groups
 use Rattle.hs_groups.specs.Groups.{PlainGroups}
@@ -34,11 +34,11 @@ use Rattle.hs_verdict.specs.declared.words.LifeWord.{LifeWord}
 use Rattle.hs_verdict.specs.declared.words.LifeWord.TheVariants as of_life
 
 -- whether a group claims a trace: as its lead or as a lateral
-abbrev pub claims : TraceId → Followed → Bool
+abbrev pub claims : TraceId → FollowedGroup → Bool
 claims trace followed = same_trace trace followed.ask.group.lead || list_any (same_trace trace) followed.ask.laterals
 
 -- of the groups that claim a trace, the oldest one first, the one at this place
-abbrev pub claim_at : PlainGroups → TraceId → ℕ → Option Followed
+abbrev pub claim_at : PlainGroups → TraceId → ℕ → Option FollowedGroup
 claim_at g trace place = slice_get (filter (claims trace) g.groups) place
 
 -- of the lives that spoke of a trace, the one at this place in the order in which they spoke first
@@ -48,11 +48,11 @@ life_at s trace place = option_map (λ (entry : Life × Latest). entry.0) (optio
 -- ---- what is said of a node, and of a life
 
 -- whether a group claims the trace and reached the node
-abbrev pub asks : TraceId → NodeId → Followed → Bool
+abbrev pub asks : TraceId → NodeId → FollowedGroup → Bool
 asks trace node followed = nat_lt node.0 MOST_NODES && has_node followed.asked node.0 && claims trace followed
 
 -- whether it waits for the node's answer
-abbrev pub still_asks : TraceId → NodeId → Followed → Bool
+abbrev pub still_asks : TraceId → NodeId → FollowedGroup → Bool
 still_asks trace node followed = nat_lt node.0 MOST_NODES && has_node followed.waiting node.0 && claims trace followed
 
 abbrev pub node_word : PlainGroups → TraceId → NodeId → NodeWord
@@ -88,15 +88,15 @@ abbrev pub are_nodes_closed : PlainGroups → PlainStandings → TraceId → Nod
 are_nodes_closed g s trace nodes = list_all (λ node. is_node_closed g s trace (record { 0 = node })) (nodes_of nodes)
 
 -- whether a group does not claim the trace, or each node that it reached answered and is closed to it
-abbrev pub is_answered : PlainGroups → PlainStandings → TraceId → Followed → Bool
+abbrev pub is_answered : PlainGroups → PlainStandings → TraceId → FollowedGroup → Bool
 is_answered g s trace followed = not (claims trace followed) || (followed.waiting.0 == 0 && are_nodes_closed g s trace followed.asked)
 
 -- whether one of these groups claims the trace, if each that does is answered
-abbrev pub claimed_among : PlainGroups → PlainStandings → TraceId → List Followed → Option Bool
+abbrev pub claimed_among : PlainGroups → PlainStandings → TraceId → List FollowedGroup → Option Bool
 claimed_among g s trace some = if list_all (is_answered g s trace) some then Some (list_any (claims trace) some) else None
 
 -- these nodes, and those that the group reached, where it claims the trace
-abbrev pub with_reached : TraceId → NodeSet → Followed → NodeSet
+abbrev pub with_reached : TraceId → NodeSet → FollowedGroup → NodeSet
 with_reached trace nodes followed = if claims trace followed then either nodes followed.asked else nodes
 
 -- the nodes that groups reached which claim the trace

@@ -3,7 +3,7 @@ use Rattle.std.specs.Prelude.{◌≡◌, ℕ, ◌<◌, true, List, length, count
 use Rattle.std.specs.List.{list_any}
 use Rattle.hs_base.specs.declared.ids.TraceId.{TraceId}
 use Rattle.hs_base.specs.NodeSets.{has_node, nodes_of}
-use Rattle.hs_groups.specs.declared.followed.Followed.{Followed}
+use Rattle.hs_groups.specs.declared.followed_group.FollowedGroup.{FollowedGroup}
 use Rattle.hs_groups.specs.Groups.{PlainGroups}
 use Rattle.hs_standings.specs.declared.answers.Latest.{Latest}
 use Rattle.hs_standings.specs.declared.answers.Life.{Life}
@@ -19,7 +19,7 @@ HasSaid s trace life P = (latest : Latest) × (latest_of s trace life ≡ Some l
 
 -- a group that claims the trace has reached the node
 abbrev pub IsReached : PlainGroups → TraceId → ℕ → Type 0
-IsReached g trace node = (place : ℕ) × (followed : Followed) × (slice_get g.groups place ≡ Some followed) × (claims trace followed ≡ true) × (has_node followed.asked node ≡ true)
+IsReached g trace node = (place : ℕ) × (followed : FollowedGroup) × (slice_get g.groups place ≡ Some followed) × (claims trace followed ≡ true) × (has_node followed.asked node ≡ true)
 
 pub record IsWhole (g : PlainGroups) (s : PlainStandings) (trace : TraceId) (pages : List PageKey) : Type 0 where
   -- a page of it is here
@@ -27,9 +27,9 @@ pub record IsWhole (g : PlainGroups) (s : PlainStandings) (trace : TraceId) (pag
   -- a group that is followed claims the trace
   pub claimed : list_any (claims trace) g.groups ≡ true
   -- each group that claims it waits for no answer
-  pub answered : (place : ℕ) (followed : Followed) → slice_get g.groups place ≡ Some followed → claims trace followed ≡ true → followed.waiting.0 ≡ 0
+  pub answered : (place : ℕ) (followed : FollowedGroup) → slice_get g.groups place ≡ Some followed → claims trace followed ≡ true → followed.waiting.0 ≡ 0
   -- the latest life of each node that it reached says whole or unheard, with no segment open
-  pub closed : (place : ℕ) (followed : Followed) → slice_get g.groups place ≡ Some followed → claims trace followed ≡ true
+  pub closed : (place : ℕ) (followed : FollowedGroup) → slice_get g.groups place ≡ Some followed → claims trace followed ≡ true
       → (at node : ℕ) → slice_get (nodes_of followed.asked) at ≡ Some node
       → HasSaid s trace (latest_life g (record { 0 = node })) (λ latest. is_closed latest ≡ true)
   -- so does each other life that spoke of the trace

@@ -6,17 +6,17 @@ ghost use Rattle.hs_base.specs.Ids.{same_trace};
 ghost use Rattle.hs_verdict.specs.Verdict.{claims, claim_at};
 
 use hs_base::{Laterals, TraceId};
-use hs_groups::{Followed, Groups};
+use hs_groups::{FollowedGroup, Groups};
 
 /// Whether a group claims a trace: as its lead or as a lateral.
-pub fn claims(followed: &Followed, trace: TraceId) -> bool
+pub fn claims(followed: &FollowedGroup, trace: TraceId) -> bool
     ensures { result ≡ claims trace followed.now }
 {
     trace == followed.ask.group.lead || is_among(&followed.ask.laterals, trace)
 }
 
 /// How many of these groups claim a trace.
-fn count_claims(groups: &[Followed], trace: TraceId) -> usize
+fn count_claims(groups: &[FollowedGroup], trace: TraceId) -> usize
     ensures { result ≡ length (filter (claims trace) groups.now) }
 {
     groups
@@ -26,7 +26,7 @@ fn count_claims(groups: &[Followed], trace: TraceId) -> usize
 }
 
 /// Of the groups that claim a trace, the oldest one first, the one at this place.
-pub fn claim_at(groups: &Groups, trace: TraceId, place: usize) -> Option<&Followed>
+pub fn claim_at(groups: &Groups, trace: TraceId, place: usize) -> Option<&FollowedGroup>
     ensures { option_copied result ≡ claim_at groups.now trace place }
 {
     let (older, newer) = groups.as_slices();
@@ -39,7 +39,7 @@ pub fn claim_at(groups: &Groups, trace: TraceId, place: usize) -> Option<&Follow
 }
 
 /// Of these groups those that claim a trace, and of them the one at this place.
-fn claim_among(groups: &[Followed], trace: TraceId, place: usize) -> Option<&Followed>
+fn claim_among(groups: &[FollowedGroup], trace: TraceId, place: usize) -> Option<&FollowedGroup>
     ensures { option_copied result ≡ slice_get (filter (claims trace) groups.now) place }
 {
     let mut left = place;

@@ -7,11 +7,11 @@ ghost use Rattle.hs_verdict.specs.Verdict.{with_reached, reached, leads_within, 
 
 use crate::asked::claims;
 use hs_base::{NodeId, NodeSet, TraceId};
-use hs_groups::{Followed, Groups};
+use hs_groups::{FollowedGroup, Groups};
 use hs_standings::{Latest, Life, Standings};
 
 /// These nodes, and those that these groups reached which claim a trace.
-fn with_reached(groups: &[Followed], trace: TraceId, nodes: NodeSet) -> NodeSet
+fn with_reached(groups: &[FollowedGroup], trace: TraceId, nodes: NodeSet) -> NodeSet
     ensures { result ≡ fold (with_reached trace) nodes groups.now }
 {
     let mut nodes = nodes;

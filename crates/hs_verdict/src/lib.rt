@@ -10,6 +10,6 @@ mod words;
 
 pub use asked::{claim_at, claims};
 pub use laws::whole_is_said_of_closed_lives;
-pub use pages::{Pages, are_full};
+pub use pages::{HeldPages, are_full};
 pub use verdict::{has_all, is_whole};
 pub use words::{LifeWord, NodeWord, life_at, life_word, node_word};

@@ -10,7 +10,7 @@ use hs_traces::{PageKey, Traces, is_from};
 
 /// The pages of a trace that a hub has: those that wait, or these, which are out.
 #[derive(Clone, Copy)]
-pub enum Pages<'a> {
+pub enum HeldPages<'a> {
     /// The pages of the trace that wait to be given out.
     Waiting(&'a Traces),
     /// The pages of the trace that is out, by their keys.
@@ -27,24 +27,24 @@ fn count_from(keys: &[PageKey], life: Life) -> usize
 }
 
 /// How many pages of a trace a life wrote.
-fn held_of(pages: &Pages<'_>, trace: TraceId, life: Life) -> usize
+fn held_of(pages: &HeldPages<'_>, trace: TraceId, life: Life) -> usize
     ensures { result ≡ count_by (is_from life.node life.epoch) (pages_in pages.now trace) }
 {
     match pages {
-        Pages::Waiting(traces) => traces.waiting_from(trace, life.node, life.epoch),
-        Pages::Out(keys) => count_from(keys, life),
+        HeldPages::Waiting(traces) => traces.waiting_from(trace, life.node, life.epoch),
+        HeldPages::Out(keys) => count_from(keys, life),
     }
 }
 
 /// Whether all pages are held that a life says it handed out.
-fn is_full(pages: &Pages<'_>, trace: TraceId, life: Life, latest: &Latest) -> bool
+fn is_full(pages: &HeldPages<'_>, trace: TraceId, life: Life, latest: &Latest) -> bool
     ensures { result ≡ is_full (pages_in pages.now trace) (life, latest.now) }
 {
     latest.standing.pages == held_of(pages, trace, life) as u64
 }
 
 /// Whether of each life that spoke of a trace as many of these pages are held as it says it handed out.
-pub fn are_full(standings: &Standings, trace: TraceId, pages: &Pages<'_>) -> bool
+pub fn are_full(standings: &Standings, trace: TraceId, pages: &HeldPages<'_>) -> bool
     ensures { result ≡ are_full standings.now trace (pages_in pages.now trace) }
 {
     let Some(lives) = standings.lives(trace) else {

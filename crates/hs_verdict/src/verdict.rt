@@ -7,10 +7,10 @@ ghost use Rattle.hs_verdict.specs.Verdict.{claims, is_node_closed, are_nodes_clo
 
 use crate::asked::claims;
 use crate::led::{are_followed, are_known};
-use crate::pages::{Pages, are_full};
+use crate::pages::{HeldPages, are_full};
 use crate::words::are_asked;
 use hs_base::{NodeId, NodeSet, TraceId};
-use hs_groups::{Followed, Groups};
+use hs_groups::{FollowedGroup, Groups};
 use hs_standings::{Life, Standings};
 use hs_traces::PageKey;
 
@@ -42,7 +42,12 @@ fn are_nodes_closed(groups: &Groups, standings: &Standings, trace: TraceId, node
 }
 
 /// Whether a group does not claim the trace, or each node that it reached answered and is closed to it.
-fn is_answered(groups: &Groups, standings: &Standings, trace: TraceId, followed: &Followed) -> bool
+fn is_answered(
+    groups: &Groups,
+    standings: &Standings,
+    trace: TraceId,
+    followed: &FollowedGroup,
+) -> bool
     ensures { result ≡ is_answered groups.now standings.now trace followed.now }
 {
     !claims(followed, trace)
@@ -69,7 +74,7 @@ fn claimed_among(
     groups: &Groups,
     standings: &Standings,
     trace: TraceId,
-    some: &[Followed],
+    some: &[FollowedGroup],
 ) -> Option<bool>
     ensures { result ≡ claimed_among groups.now standings.now trace some.now }
 {
@@ -119,6 +124,6 @@ pub fn is_whole(groups: &Groups, standings: &Standings, trace: TraceId, pages: &
         && standings.are_closed(trace)
         && are_asked(groups, standings, trace)
         && are_known(groups, standings, trace)
-        && are_full(standings, trace, &Pages::Out(pages))
+        && are_full(standings, trace, &HeldPages::Out(pages))
         && are_pages_whole(standings, trace, pages)
 }

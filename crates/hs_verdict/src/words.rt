@@ -8,7 +8,7 @@ ghost use Rattle.hs_verdict.specs.Verdict.{asks, still_asks, are_asked, node_wor
 use crate::asked::claims;
 use hs_base::limits::MOST_NODES;
 use hs_base::{NodeId, TraceId};
-use hs_groups::{Followed, Groups};
+use hs_groups::{FollowedGroup, Groups};
 use hs_standings::{Latest, Life, Standings};
 use hs_wire::{Losses, Wholeness};
 
@@ -41,21 +41,21 @@ pub enum LifeWord {
 }
 
 /// Whether a group claims the trace and reached the node.
-fn asks(followed: &Followed, trace: TraceId, node: NodeId) -> bool
+fn asks(followed: &FollowedGroup, trace: TraceId, node: NodeId) -> bool
     ensures { result ≡ asks trace node followed.now }
 {
     node.0 < MOST_NODES && followed.asked.contains(node) && claims(followed, trace)
 }
 
 /// Whether a group claims the trace and waits for the node's answer.
-fn still_asks(followed: &Followed, trace: TraceId, node: NodeId) -> bool
+fn still_asks(followed: &FollowedGroup, trace: TraceId, node: NodeId) -> bool
     ensures { result ≡ still_asks trace node followed.now }
 {
     node.0 < MOST_NODES && followed.waiting.contains(node) && claims(followed, trace)
 }
 
 /// Whether one of these groups waits for the node's answer.
-fn any_waits(groups: &[Followed], trace: TraceId, node: NodeId) -> bool
+fn any_waits(groups: &[FollowedGroup], trace: TraceId, node: NodeId) -> bool
     ensures { result ≡ list_any (still_asks trace node) groups.now }
 {
     groups
@@ -73,7 +73,7 @@ fn is_silent(groups: &Groups, trace: TraceId, node: NodeId) -> bool
 }
 
 /// Whether one of these groups reached the node.
-fn any_asks(groups: &[Followed], trace: TraceId, node: NodeId) -> bool
+fn any_asks(groups: &[FollowedGroup], trace: TraceId, node: NodeId) -> bool
     ensures { result ≡ list_any (asks trace node) groups.now }
 {
     groups.iter().any(|followed| asks(followed, trace, node))

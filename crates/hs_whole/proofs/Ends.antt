@@ -11,7 +11,7 @@ use Rattle.hs_whole.specs.declared.page.PageName.{PageName}
 use Rattle.hs_whole.specs.declared.track.Track.{Track}
 use Rattle.hs_whole.specs.Pages.{is_before, later_page}
 use Rattle.hs_whole.specs.Tracks.{is_open, can_end, refuses_next, begun, ended, is_heard_of, handed}
-use Rattle.hs_whole.specs.History.{Deed, Opens, Closes, Refuses, Leads, Loses, HandsOut, Misses, Drops, track_after, IsInOrder, AreInOrder, AreHeardOf, out_since, EndsBehind, EndBehind}
+use Rattle.hs_whole.specs.History.{NoteDeed, Opens, Closes, Refuses, Leads, Loses, HandsOut, Misses, Drops, track_after, IsInOrder, AreInOrder, AreHeardOf, out_since, EndsBehind, EndBehind}
 use Rattle.hs_whole.proofs.Pages.{before_on, behind_later}
 
 un_not : (b : Bool) → not b ≡ true → b ≡ false
@@ -67,7 +67,7 @@ module _ (trace : TraceId) (client : ℕ) (end : PageName) where
   abbrev Lie : List PageName → Type 0
   Lie pages = All (λ page. is_before page end ≡ true) pages
 
-  all_before : (later earlier : List Deed) → is_open trace (track_after client earlier) ≡ false → AreHeardOf trace later earlier → is_open trace (track_after client (later ++ earlier)) ≡ true → can_end (track_after client (later ++ earlier)) end ≡ true
+  all_before : (later earlier : List NoteDeed) → is_open trace (track_after client earlier) ≡ false → AreHeardOf trace later earlier → is_open trace (track_after client (later ++ earlier)) ≡ true → can_end (track_after client (later ++ earlier)) end ≡ true
       → Lie (out_since trace client (later ++ earlier))
   all_before [] earlier none hears opened on = let never : false ≡ true = sym none ∙ opened in absurd cc
   all_before (Opens other number of first ∷ later) earlier none hears opened on = at (other == client) opened on (all_before later earlier none hears.1)
@@ -135,17 +135,17 @@ module _ (trace : TraceId) (client : ℕ) (end : PageName) where
   all_before (Misses ∷ later) earlier none hears opened on = all_before later earlier none hears.1 opened on
   all_before (Drops of ∷ later) earlier none hears opened on = all_before later earlier none hears.1 opened on
 
-pub end_behind : (trace : TraceId) (later earlier : List Deed) → ((client : ℕ) → is_open trace (track_after client earlier) ≡ false) → AreInOrder trace later earlier → AreHeardOf trace later earlier → EndBehind trace later earlier
+pub end_behind : (trace : TraceId) (later earlier : List NoteDeed) → ((client : ℕ) → is_open trace (track_after client earlier) ≡ false) → AreInOrder trace later earlier → AreHeardOf trace later earlier → EndBehind trace later earlier
 end_behind trace [] earlier none order hears = tt
 end_behind trace (deed ∷ later) earlier none order hears = (by_deed deed order.0, end_behind trace later earlier none order.1 hears.1)
   where
-    deeds : List Deed
+    deeds : List NoteDeed
     deeds = later ++ earlier
 
     turned : (a b : TraceId) (track : Track) → same_trace a b ≡ true → is_open b track ≡ true → is_open a track ≡ true
     turned a b track same opened = ap (λ n. is_open (record { 0 = n }) track) (eqb-true a.0 b.0 same) ∙ opened
 
-    by_deed : (d : Deed) → IsInOrder trace d deeds → EndsBehind trace d deeds
+    by_deed : (d : NoteDeed) → IsInOrder trace d deeds → EndsBehind trace d deeds
     by_deed (Opens client number other first) order = tt
     by_deed (Closes client number other end report) order = λ same.
         let next = order (or_right (is_open trace (track_after client deeds)) (same_trace trace other) same) in

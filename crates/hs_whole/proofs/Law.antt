@@ -9,7 +9,7 @@ use Rattle.hs_whole.specs.declared.kept.Kept.{Kept}
 use Rattle.hs_whole.specs.Tracks.{no_notes, is_open}
 use Rattle.hs_whole.specs.Kept.{wholeness}
 use Rattle.hs_whole.specs.Notes.{AreOut, no_notes_in, kept_of, open_segments, wholeness_of, crumbs_of}
-use Rattle.hs_whole.specs.History.{Deed, Opens, Closes, Refuses, Leads, Loses, HandsOut, Misses, Drops, IsOfClient, AreOfClients, HavePlaces, notes_after, opens, segments, hands_out, handed_out_of, AreLed, IsWholeSince}
+use Rattle.hs_whole.specs.History.{NoteDeed, Opens, Closes, Refuses, Leads, Loses, HandsOut, Misses, Drops, IsOfClient, AreOfClients, HavePlaces, notes_after, opens, segments, hands_out, handed_out_of, AreLed, IsWholeSince}
 use Rattle.hs_base.specs.declared.node_set.NodeSet.{NodeSet}
 use Rattle.hs_base.specs.NodeSets.{no_nodes}
 use Rattle.hs_whole.proofs.Standings.{most, IsKept, Stands, all_announced}
@@ -18,7 +18,7 @@ use Rattle.hs_whole.proofs.Steps.{IsLike, none_open_at, any_deed, like_after}
 
 -- ---- counts of deeds
 
-opens_one : (deed : Deed) → opens deed ≤ 1
+opens_one : (deed : NoteDeed) → opens deed ≤ 1
 opens_one (Opens client number trace first) = omega arith
 opens_one (Closes client number trace end report) = omega arith
 opens_one (Refuses client number trace) = omega arith
@@ -28,7 +28,7 @@ opens_one (HandsOut client page trace) = omega arith
 opens_one Misses = omega arith
 opens_one (Drops trace) = omega arith
 
-segments_few : (deeds : List Deed) → segments deeds ≤ length deeds
+segments_few : (deeds : List NoteDeed) → segments deeds ≤ length deeds
 segments_few [] = omega arith
 segments_few (deed ∷ deeds) = let one = opens_one deed in let rest = segments_few deeds in omega (arith, one, rest)
 
@@ -36,7 +36,7 @@ if_one : (b : Bool) → (if b then 1 else 0) ≤ 1
 if_one true = omega arith
 if_one false = omega arith
 
-hands_one : (trace : TraceId) (deed : Deed) → hands_out trace deed ≤ 1
+hands_one : (trace : TraceId) (deed : NoteDeed) → hands_out trace deed ≤ 1
 hands_one trace (Opens client number other first) = omega arith
 hands_one trace (Closes client number other end report) = omega arith
 hands_one trace (Refuses client number other) = omega arith
@@ -46,11 +46,11 @@ hands_one trace (HandsOut client page other) = if_one _
 hands_one trace Misses = omega arith
 hands_one trace (Drops other) = omega arith
 
-handed_few : (trace : TraceId) (deeds : List Deed) → handed_out_of trace deeds ≤ length deeds
+handed_few : (trace : TraceId) (deeds : List NoteDeed) → handed_out_of trace deeds ≤ length deeds
 handed_few trace [] = omega arith
 handed_few trace (deed ∷ deeds) = let one = hands_one trace deed in let rest = handed_few trace deeds in omega (arith, one, rest)
 
-part_few : (later earlier : List Deed) → length later ≤ length (later ++ earlier)
+part_few : (later earlier : List NoteDeed) → length later ≤ length (later ++ earlier)
 part_few [] earlier = omega arith
 part_few (deed ∷ later) earlier = let rest = part_few later earlier in omega (arith, rest)
 
@@ -82,11 +82,11 @@ like_first limits in_range = record {
 
 -- ---- and after any deeds
 
-record AllHold (limits : NoteLimits) (trace : TraceId) (deeds : List Deed) : Type 0 where
+record AllHold (limits : NoteLimits) (trace : TraceId) (deeds : List NoteDeed) : Type 0 where
   like : IsLike limits deeds (notes_after limits deeds)
   stands : Stands false false trace deeds (notes_after limits deeds).horizon (kept_of (notes_after limits deeds) trace)
 
-all_hold : (limits : NoteLimits) (trace : TraceId) → (AreOut limits → ⊥) → (deeds : List Deed) → AreOfClients limits.clients deeds → HavePlaces limits deeds → length deeds < 2 ^ 63 → AllHold limits trace deeds
+all_hold : (limits : NoteLimits) (trace : TraceId) → (AreOut limits → ⊥) → (deeds : List NoteDeed) → AreOfClients limits.clients deeds → HavePlaces limits deeds → length deeds < 2 ^ 63 → AllHold limits trace deeds
 all_hold limits trace in_range [] of places bound = record { like = like_first limits in_range; stands = (refl, omega arith, record { settled = omega arith; closed = λ client. refl }) }
 all_hold limits trace in_range (deed ∷ deeds) of places bound =
     let rest = all_hold limits trace in_range deeds of.1 places.1 (omega (arith, bound)) in
@@ -123,7 +123,7 @@ says_whole count k is =
 none_below : (n : ℕ) → nat_lt 0 n ≡ false → n ≡ 0
 none_below n off = grind (arith, off)
 
-heard_all : (limits : NoteLimits) (trace : TraceId) (deeds : List Deed) (k : Kept) → length deeds < 2 ^ 63 → IsLike limits deeds (notes_after limits deeds)
+heard_all : (limits : NoteLimits) (trace : TraceId) (deeds : List NoteDeed) (k : Kept) → length deeds < 2 ^ 63 → IsLike limits deeds (notes_after limits deeds)
     → IsKept false trace deeds (notes_after limits deeds).horizon k → SaysWhole (open_segments (notes_after limits deeds) trace) k → IsWholeSince (notes_after limits deeds).horizon limits.clients trace deeds
 heard_all limits trace deeds k bound like stands says = record {
   later = stands.later;
@@ -151,7 +151,7 @@ heard_all limits trace deeds k bound like stands says = record {
   nothing_lost = stands.lost says.not_lost;
 }
 
-pub said_whole : (limits : NoteLimits) (trace : TraceId) (deeds : List Deed) → (AreOut limits → ⊥) → AreOfClients limits.clients deeds → HavePlaces limits deeds → length deeds < 2 ^ 63
+pub said_whole : (limits : NoteLimits) (trace : TraceId) (deeds : List NoteDeed) → (AreOut limits → ⊥) → AreOfClients limits.clients deeds → HavePlaces limits deeds → length deeds < 2 ^ 63
     → wholeness_of (notes_after limits deeds) trace ≡ WholeSince → IsWholeSince (notes_after limits deeds).horizon limits.clients trace deeds
 said_whole limits trace deeds in_range of places bound =
     let all = all_hold limits trace in_range deeds of places bound in
@@ -163,7 +163,7 @@ said_whole limits trace deeds in_range of places bound =
     at (Some k) like stands is = heard_all limits trace deeds k bound like stands (says_whole (open_segments (notes_after limits deeds) trace) k is)
 
 -- and each node to which a crumb led in that part is kept
-pub said_led : (limits : NoteLimits) (trace : TraceId) (deeds : List Deed) → (AreOut limits → ⊥) → AreOfClients limits.clients deeds → HavePlaces limits deeds → length deeds < 2 ^ 63
+pub said_led : (limits : NoteLimits) (trace : TraceId) (deeds : List NoteDeed) → (AreOut limits → ⊥) → AreOfClients limits.clients deeds → HavePlaces limits deeds → length deeds < 2 ^ 63
     → wholeness_of (notes_after limits deeds) trace ≡ WholeSince
     → (whole : IsWholeSince (notes_after limits deeds).horizon limits.clients trace deeds) × AreLed (crumbs_of (notes_after limits deeds) trace) trace whole.later
 unfolding heard_all

@@ -6,7 +6,7 @@ use Rattle.hs_lists.proofs.Bools.{first_true, second_true}
 use Rattle.hs_base.specs.declared.ids.TraceId.{TraceId}
 use Rattle.hs_whole.specs.declared.kept.Kept.{Kept}
 use Rattle.hs_whole.specs.Kept.{fresh, misses, is_settled}
-use Rattle.hs_whole.specs.History.{Deed, Opens, Closes, Refuses, Leads, Loses, HandsOut, Misses, Drops, opens, opens_of, segments, latest_of, has_segment, sends, sent_of, announces, announced_of, hands_out, handed_out_of, lets_go, let_go_of, track_after, leads_to, has_led_to, AreLed, loses_some, is_lost_in, IsInOrder, AreInOrder, IsHeardOf, AreHeardOf, IsOver}
+use Rattle.hs_whole.specs.History.{NoteDeed, Opens, Closes, Refuses, Leads, Loses, HandsOut, Misses, Drops, opens, opens_of, segments, latest_of, has_segment, sends, sent_of, announces, announced_of, hands_out, handed_out_of, lets_go, let_go_of, track_after, leads_to, has_led_to, AreLed, loses_some, is_lost_in, IsInOrder, AreInOrder, IsHeardOf, AreHeardOf, IsOver}
 use Rattle.hs_whole.specs.Tracks.{is_open, ends_next}
 use Rattle.hs_base.specs.NodeSets.{has_node}
 use Rattle.hs_base.specs.Ids.{same_trace}
@@ -17,14 +17,14 @@ abbrev pub most : ℕ
 most = 2 ^ 64 - 1
 
 -- the pages that segments announced in a later part
-abbrev pub announced_in : TraceId → List Deed → List Deed → ℕ
+abbrev pub announced_in : TraceId → List NoteDeed → List NoteDeed → ℕ
 announced_in trace [] earlier = 0
 announced_in trace (deed ∷ later) earlier = announced_in trace later earlier + announces trace deed (later ++ earlier)
 
 -- `pending`: a segment is about to begin
-pub record IsKept (pending : Bool) (trace : TraceId) (deeds : List Deed) (horizon : ℕ) (k : Kept) : Type 0 where
-  pub later : List Deed
-  pub earlier : List Deed
+pub record IsKept (pending : Bool) (trace : TraceId) (deeds : List NoteDeed) (horizon : ℕ) (k : Kept) : Type 0 where
+  pub later : List NoteDeed
+  pub earlier : List NoteDeed
   pub parts : deeds ≡ later ++ earlier
   pub before : latest_of trace earlier ≤ horizon
   pub over : IsOver trace earlier
@@ -39,13 +39,13 @@ pub record IsKept (pending : Bool) (trace : TraceId) (deeds : List Deed) (horizo
   pub led : AreLed k.crumbs trace later
 
 -- `there`: the trace is kept
-abbrev pub Stands : Bool → Bool → TraceId → List Deed → ℕ → Option Kept → Type 0
+abbrev pub Stands : Bool → Bool → TraceId → List NoteDeed → ℕ → Option Kept → Type 0
 Stands there pending trace deeds horizon None = (there ≡ false) × (latest_of trace deeds ≤ horizon) × IsOver trace deeds
 Stands there pending trace deeds horizon (Some k) = IsKept pending trace deeds horizon k
 
 -- ---- numbers of segments
 
-pub latest_within : (trace : TraceId) (deeds : List Deed) → latest_of trace deeds ≤ segments deeds
+pub latest_within : (trace : TraceId) (deeds : List NoteDeed) → latest_of trace deeds ≤ segments deeds
 latest_within trace [] = omega arith
 latest_within trace (deed ∷ deeds) = at (opens_of trace deed) (latest_within trace deeds)
   where
@@ -53,13 +53,13 @@ latest_within trace (deed ∷ deeds) = at (opens_of trace deed) (latest_within t
     at true rest = omega arith
     at false rest = omega (arith, rest)
 
-pub segments_behind : (later earlier : List Deed) → segments earlier ≤ segments (later ++ earlier)
+pub segments_behind : (later earlier : List NoteDeed) → segments earlier ≤ segments (later ++ earlier)
 segments_behind [] earlier = omega arith
 segments_behind (deed ∷ later) earlier = let rest = segments_behind later earlier in omega (arith, rest)
 
 -- ---- what changes no deed
 
-module _ (there pending : Bool) (trace : TraceId) (deeds : List Deed) where
+module _ (there pending : Bool) (trace : TraceId) (deeds : List NoteDeed) where
   -- the horizon moves on
   pub raised : (horizon horizon' : ℕ) (o : Option Kept) → horizon ≤ horizon' → Stands there pending trace deeds horizon o → Stands there pending trace deeds horizon' o
   raised horizon horizon' None up stands = (stands.0, (let low = stands.1 in omega (arith, low, up)), stands.2)
@@ -126,7 +126,7 @@ module _ (there pending : Bool) (trace : TraceId) (deeds : List Deed) where
   }
 
 -- a trace that is not kept is kept from now on
-pub freshly : (pending is_missed : Bool) (trace : TraceId) (deeds : List Deed) (horizon heard : ℕ) → latest_of trace deeds ≤ horizon → IsOver trace deeds
+pub freshly : (pending is_missed : Bool) (trace : TraceId) (deeds : List NoteDeed) (horizon heard : ℕ) → latest_of trace deeds ≤ horizon → IsOver trace deeds
     → IsKept pending trace deeds horizon (fresh heard is_missed)
 freshly pending is_missed trace deeds horizon heard low over = record {
   later = [];
@@ -146,7 +146,7 @@ freshly pending is_missed trace deeds horizon heard low over = record {
 }
 
 -- a trace that is kept has a segment that begins
-pub kept_pending : (pending : Bool) (trace : TraceId) (deeds : List Deed) (horizon : ℕ) (k : Kept) → IsKept false trace deeds horizon k → IsKept pending trace deeds horizon k
+pub kept_pending : (pending : Bool) (trace : TraceId) (deeds : List NoteDeed) (horizon : ℕ) (k : Kept) → IsKept false trace deeds horizon k → IsKept pending trace deeds horizon k
 kept_pending false trace deeds horizon k stands = stands
 kept_pending true trace deeds horizon k stands = record {
   later = stands.later;
@@ -171,7 +171,7 @@ or_swaps : (a b : Bool) → b ≡ true → (a || b) ≡ true
 or_swaps true b is = refl
 or_swaps false b is = is
 
-pub with_deed : (deed : Deed) (pending : Bool) (trace : TraceId) (deeds : List Deed) (horizon : ℕ) (k k' : Kept) → IsKept pending trace deeds horizon k
+pub with_deed : (deed : NoteDeed) (pending : Bool) (trace : TraceId) (deeds : List NoteDeed) (horizon : ℕ) (k k' : Kept) → IsKept pending trace deeds horizon k
     → latest_of trace (deed ∷ deeds) ≤ max horizon k'.latest
     → (k'.is_missed ≡ false → k.is_missed ≡ false)
     → (k'.is_missed ≡ false → IsInOrder trace deed deeds)
@@ -188,7 +188,7 @@ pub with_deed : (deed : Deed) (pending : Bool) (trace : TraceId) (deeds : List D
 with_deed deed pending trace deeds horizon k k' stands latest still order hearing marks begins sent out gone lost crumbs led = record {
   later = deed ∷ stands.later;
   earlier = stands.earlier;
-  parts = ap (λ (ds : List Deed). deed ∷ ds) stands.parts;
+  parts = ap (λ (ds : List NoteDeed). deed ∷ ds) stands.parts;
   before = stands.before;
   over = stands.over;
   latest = latest;
@@ -196,7 +196,7 @@ with_deed deed pending trace deeds horizon k k' stands latest still order hearin
   in_order = λ off. (subst (IsInOrder trace deed) stands.parts (order off), stands.in_order (still off));
   heard_of = λ off. (subst (IsHeardOf trace deed) stands.parts (hearing off), stands.heard_of (still off));
   sent =
-      subst (λ (ds : List Deed). k'.sent ≡ min (announced_in trace stands.later stands.earlier + announces trace deed ds) most) stands.parts
+      subst (λ (ds : List NoteDeed). k'.sent ≡ min (announced_in trace stands.later stands.earlier + announces trace deed ds) most) stands.parts
       (sent (announced_in trace stands.later stands.earlier) stands.sent);
   out = out (handed_out_of trace stands.later) stands.out;
   gone = (let was = stands.gone in omega (arith, was, gone));
@@ -215,20 +215,20 @@ with_deed deed pending trace deeds horizon k k' stands latest still order hearin
     leads false b P on one two = two on
 
 -- a deed that counts nothing for the trace
-pub record IsAside (trace : TraceId) (deed : Deed) : Type 0 where
+pub record IsAside (trace : TraceId) (deed : NoteDeed) : Type 0 where
   pub opens : opens_of trace deed ≡ false
-  pub sends : (deeds : List Deed) → announces trace deed deeds ≡ 0
+  pub sends : (deeds : List NoteDeed) → announces trace deed deeds ≡ 0
   pub hands_out : hands_out trace deed ≡ 0
-  pub heard_of : (deeds : List Deed) → IsHeardOf trace deed deeds
+  pub heard_of : (deeds : List NoteDeed) → IsHeardOf trace deed deeds
   pub goes : lets_go trace deed ≡ 0
   pub loses : loses_some trace deed ≡ false
   pub leads : (node : ℕ) → leads_to trace node deed ≡ false
-  pub closed : (client : ℕ) (deeds : List Deed) → is_open trace (track_after client deeds) ≡ false → is_open trace (track_after client (deed ∷ deeds)) ≡ false
+  pub closed : (client : ℕ) (deeds : List NoteDeed) → is_open trace (track_after client deeds) ≡ false → is_open trace (track_after client (deed ∷ deeds)) ≡ false
 
-latest_aside : (trace : TraceId) (deed : Deed) (deeds : List Deed) → IsAside trace deed → latest_of trace (deed ∷ deeds) ≡ latest_of trace deeds
+latest_aside : (trace : TraceId) (deed : NoteDeed) (deeds : List NoteDeed) → IsAside trace deed → latest_of trace (deed ∷ deeds) ≡ latest_of trace deeds
 latest_aside trace deed deeds aside = ap (λ b. if b then segments deeds + opens deed else latest_of trace deeds) aside.opens
 
-pub aside : (trace : TraceId) (deed : Deed) (deeds : List Deed) (horizon : ℕ) (o : Option Kept) → IsAside trace deed → ((k : Kept) → o ≡ Some k → k.is_missed ≡ false → IsInOrder trace deed deeds)
+pub aside : (trace : TraceId) (deed : NoteDeed) (deeds : List NoteDeed) (horizon : ℕ) (o : Option Kept) → IsAside trace deed → ((k : Kept) → o ≡ Some k → k.is_missed ≡ false → IsInOrder trace deed deeds)
     → Stands false false trace deeds horizon o → Stands false false trace (deed ∷ deeds) horizon o
 aside trace deed deeds horizon None beside order stands = (
   stands.0,
@@ -255,15 +255,15 @@ aside trace deed deeds horizon (Some k) beside order stands =
 
 -- ---- a trace of which nothing is to come
 
-announced_both : (trace : TraceId) (later earlier : List Deed) → announced_of trace (later ++ earlier) ≡ announced_in trace later earlier + announced_of trace earlier
+announced_both : (trace : TraceId) (later earlier : List NoteDeed) → announced_of trace (later ++ earlier) ≡ announced_in trace later earlier + announced_of trace earlier
 announced_both trace [] earlier = omega arith
 announced_both trace (deed ∷ later) earlier = let rest = announced_both trace later earlier in omega (arith, rest)
 
-out_both : (trace : TraceId) (later earlier : List Deed) → handed_out_of trace (later ++ earlier) ≡ handed_out_of trace later + handed_out_of trace earlier
+out_both : (trace : TraceId) (later earlier : List NoteDeed) → handed_out_of trace (later ++ earlier) ≡ handed_out_of trace later + handed_out_of trace earlier
 out_both trace [] earlier = omega arith
 out_both trace (deed ∷ later) earlier = let rest = out_both trace later earlier in omega (arith, rest)
 
-gone_both : (trace : TraceId) (later earlier : List Deed) → let_go_of trace (later ++ earlier) ≡ let_go_of trace later + let_go_of trace earlier
+gone_both : (trace : TraceId) (later earlier : List NoteDeed) → let_go_of trace (later ++ earlier) ≡ let_go_of trace later + let_go_of trace earlier
 gone_both trace [] earlier = omega arith
 gone_both trace (deed ∷ later) earlier = let rest = gone_both trace later earlier in omega (arith, rest)
 
@@ -273,10 +273,10 @@ settled_facts k is =
     let two = second_true (nat_lt k.sent (2 ^ 64 - 1)) (nat_le k.sent (k.handed_out + k.losses.evicted_pages + k.losses.abandoned_pages)) is in
     (grind (arith, one), grind (arith, two))
 
-pub over_now : (trace : TraceId) (deeds : List Deed) (horizon : ℕ) (k : Kept) → IsKept false trace deeds horizon k → is_settled k ≡ true → ((client : ℕ) → is_open trace (track_after client deeds) ≡ false) → IsOver trace deeds
+pub over_now : (trace : TraceId) (deeds : List NoteDeed) (horizon : ℕ) (k : Kept) → IsKept false trace deeds horizon k → is_settled k ≡ true → ((client : ℕ) → is_open trace (track_after client deeds) ≡ false) → IsOver trace deeds
 over_now trace deeds horizon k stands settled closed = record {
   settled =
-      subst (λ (ds : List Deed). announced_of trace ds ≤ handed_out_of trace ds + let_go_of trace ds) (sym stands.parts)
+      subst (λ (ds : List NoteDeed). announced_of trace ds ≤ handed_out_of trace ds + let_go_of trace ds) (sym stands.parts)
       (
       let facts = settled_facts k settled in
       let few = facts.0 in
@@ -294,7 +294,7 @@ over_now trace deeds horizon k stands settled closed = record {
 }
 
 -- where each end was its client's next note, all that was sent was announced
-pub all_announced : (trace : TraceId) (later earlier : List Deed) → AreInOrder trace later earlier → announced_in trace later earlier ≡ sent_of trace later
+pub all_announced : (trace : TraceId) (later earlier : List NoteDeed) → AreInOrder trace later earlier → announced_in trace later earlier ≡ sent_of trace later
 all_announced trace [] earlier order = refl
 all_announced trace (deed ∷ later) earlier order =
     let rest = all_announced trace later earlier order.1 in
@@ -312,7 +312,7 @@ all_announced trace (deed ∷ later) earlier order =
         ap (λ b. if b then report.pages else 0) (order (or_right (is_open trace (track_after client (later ++ earlier))) (same_trace trace other) same))
     ended client number other end report false same order = refl
 
-    by_deed : (d : Deed) → IsInOrder trace d (later ++ earlier) → announces trace d (later ++ earlier) ≡ sends trace d
+    by_deed : (d : NoteDeed) → IsInOrder trace d (later ++ earlier) → announces trace d (later ++ earlier) ≡ sends trace d
     by_deed (Opens client number other first) order = refl
     by_deed (Closes client number other end report) order = ended client number other end report (same_trace trace other) refl order
     by_deed (Refuses client number other) order = refl

@@ -21,7 +21,7 @@ use Rattle.hs_whole.specs.Tracks.{no_notes, is_open, begins_next, ends_next, ref
 use Rattle.hs_whole.specs.Pages.{is_before, later_page}
 use Rattle.hs_whole.specs.Kept.{more, counted, is_settled, fresh, misses, begins, ends, loses, goes_out, refuses, leads, reports_loss}
 use Rattle.hs_whole.specs.Notes.{PlainNotes, track_of, kept_of, missed_open, checked, moved_horizon, is_over, has_place, looked, searched, finds_place, remembered, remembered_as, with_kept, opened, closed, refused, led, changed, handed_in, after_lost, after_handed_out}
-use Rattle.hs_whole.specs.History.{Deed, Opens, Closes, Refuses, Leads, Loses, HandsOut, Misses, Drops, after, IsOfClient, segments, latest_of, hands_out, announces, lets_go, pages_in, track_after, HasPlace, IsOver}
+use Rattle.hs_whole.specs.History.{NoteDeed, Opens, Closes, Refuses, Leads, Loses, HandsOut, Misses, Drops, after, IsOfClient, segments, latest_of, hands_out, announces, lets_go, pages_in, track_after, HasPlace, IsOver}
 use Rattle.hs_whole.proofs.Looking.{found, same-true, same-refl, found-with_same, found-with_other, length-with, found-promoted, length-promoted, IsLast, dropped, length-take_few, there_below}
 use Rattle.hs_whole.proofs.Standings.{most, IsKept, Stands, raised, presented, doubts, freshly, kept_pending, with_deed, aside, over_now}
 use Rattle.hs_whole.proofs.Searching.{reordered_searched}
@@ -90,7 +90,7 @@ moved_up s = at (nat_lt (length s.traces) s.limits.traces) (last_entry s.traces)
     at false None = omega arith
     at false (Some e) = omega arith
 
-remembered_own : (s : PlainNotes) (trace : TraceId) (is_missed pending : Bool) (deeds : List Deed) → Stands false false trace deeds s.horizon (kept_of s trace)
+remembered_own : (s : PlainNotes) (trace : TraceId) (is_missed pending : Bool) (deeds : List NoteDeed) → Stands false false trace deeds s.horizon (kept_of s trace)
     → Stands true pending trace deeds (remembered s trace is_missed).horizon (kept_of (remembered s trace is_missed) trace)
 remembered_own s trace is_missed pending deeds stands = at (kept_of s trace) refl stands
   where
@@ -131,7 +131,7 @@ none_open_at trace (track ∷ tracks) zero none =
 none_open_at trace (track ∷ tracks) (suc place) none =
     none_open_at trace tracks place (let counted = count_cons (is_open trace) track tracks in omega (arith, counted, none))
 
-remembered_other : (s : PlainNotes) (trace other : TraceId) (is_missed : Bool) (deeds : List Deed) → same_trace trace other ≡ false → 0 < s.limits.traces → length s.traces ≤ s.limits.traces
+remembered_other : (s : PlainNotes) (trace other : TraceId) (is_missed : Bool) (deeds : List NoteDeed) → same_trace trace other ≡ false → 0 < s.limits.traces → length s.traces ≤ s.limits.traces
     → ((client : ℕ) → track_of s client ≡ track_after client deeds) → (kept_of s other ≡ None → has_place s ≡ true)
     → Stands false false trace deeds s.horizon (kept_of s trace) → Stands false false trace deeds (remembered s other is_missed).horizon (kept_of (remembered s other is_missed) trace)
 remembered_other s trace other is_missed deeds apart some few tracks place stands = at (kept_of s other) refl
@@ -168,7 +168,7 @@ remembered_other s trace other is_missed deeds apart some few tracks place stand
 found-doubted : (trace other : TraceId) (s : PlainNotes) → same_trace trace other ≡ true → found trace (with_kept misses other s.traces) ≡ option_map misses (kept_of s trace)
 found-doubted trace other s same = ap (λ (x : TraceId). found trace (with_kept misses x s.traces)) (sym (same-true trace other same)) ∙ found-with_same misses trace s.traces
 
-checked_stands : (s : PlainNotes) (client : ℕ) (is_next there pending : Bool) (trace : TraceId) (deeds : List Deed) → s.heard ≡ segments deeds → Stands there pending trace deeds s.horizon (kept_of s trace)
+checked_stands : (s : PlainNotes) (client : ℕ) (is_next there pending : Bool) (trace : TraceId) (deeds : List NoteDeed) → s.heard ≡ segments deeds → Stands there pending trace deeds s.horizon (kept_of s trace)
     → Stands there pending trace deeds (checked s client is_next).horizon (kept_of (checked s client is_next) trace)
 checked_stands s client true there pending trace deeds heard stands = stands
 checked_stands s client false there pending trace deeds heard stands = at (track_of s client).current
@@ -227,7 +227,7 @@ either_right a b node on = has-either a b node ∙ at (has_node a node)
 
 -- ---- what a node is like
 
-pub record IsLike (bounds : NoteLimits) (deeds : List Deed) (s : PlainNotes) : Type 0 where
+pub record IsLike (bounds : NoteLimits) (deeds : List NoteDeed) (s : PlainNotes) : Type 0 where
   pub limits : s.limits ≡ bounds
   pub some : 0 < s.limits.traces
   pub few : length s.traces ≤ s.limits.traces
@@ -236,7 +236,7 @@ pub record IsLike (bounds : NoteLimits) (deeds : List Deed) (s : PlainNotes) : T
   pub tracks : (client : ℕ) → track_of s client ≡ track_after client deeds
 
 -- a client whose segment of another trace began, or whose segment ended, has none of this trace open; nor does a note of a crumb open one
-began : (trace other : TraceId) (client number : ℕ) (first : PageName) → same_trace other trace ≡ false → (at : ℕ) (deeds : List Deed) → is_open other (track_after at deeds) ≡ false
+began : (trace other : TraceId) (client number : ℕ) (first : PageName) → same_trace other trace ≡ false → (at : ℕ) (deeds : List NoteDeed) → is_open other (track_after at deeds) ≡ false
     → is_open other (if client == at then begun (track_after at deeds) number trace first else track_after at deeds) ≡ false
 began trace other client number first apart at deeds none = by (client == at)
   where
@@ -248,7 +248,7 @@ began trace other client number first apart at deeds none = by (client == at)
     by true = turned (same_trace trace other) apart refl
     by false = none
 
-ended_at : (trace other : TraceId) (client number : ℕ) (end : PageName) (at : ℕ) (deeds : List Deed) → is_open other (track_after at deeds) ≡ false
+ended_at : (trace other : TraceId) (client number : ℕ) (end : PageName) (at : ℕ) (deeds : List NoteDeed) → is_open other (track_after at deeds) ≡ false
     → is_open other (if client == at then ended (track_after at deeds) number trace end else track_after at deeds) ≡ false
 ended_at trace other client number end at deeds none = by (client == at)
   where
@@ -256,7 +256,7 @@ ended_at trace other client number end at deeds none = by (client == at)
     by true = refl
     by false = none
 
-passed_at : (other : TraceId) (client number at : ℕ) (deeds : List Deed) → is_open other (track_after at deeds) ≡ false → is_open other (if client == at then passed (track_after at deeds) number else track_after at deeds) ≡ false
+passed_at : (other : TraceId) (client number at : ℕ) (deeds : List NoteDeed) → is_open other (track_after at deeds) ≡ false → is_open other (if client == at then passed (track_after at deeds) number else track_after at deeds) ≡ false
 passed_at other client number at deeds none = by (client == at) (refuses_next (track_after at deeds) number)
   where
     by : (b n : Bool)
@@ -266,7 +266,7 @@ passed_at other client number at deeds none = by (client == at) (refuses_next (t
     by false n = none
 
 -- a page that is handed out opens and closes none
-handed_open : (trace other : TraceId) (client at : ℕ) (page : PageName) (deeds : List Deed) → is_open other (track_after at (HandsOut client page trace ∷ deeds)) ≡ is_open other (track_after at deeds)
+handed_open : (trace other : TraceId) (client at : ℕ) (page : PageName) (deeds : List NoteDeed) → is_open other (track_after at (HandsOut client page trace ∷ deeds)) ≡ is_open other (track_after at deeds)
 handed_open trace other client at page deeds = by (client == at)
   where
     by : (b : Bool) → is_open other (if b then handed trace page (track_after at deeds) else track_after at deeds) ≡ is_open other (track_after at deeds)
@@ -275,7 +275,7 @@ handed_open trace other client at page deeds = by (client == at)
 
 -- ---- a segment begins
 
-module _ (limits : NoteLimits) (deeds : List Deed) (s : PlainNotes) (like : IsLike limits deeds s) (client number : ℕ) (low : client < s.limits.clients) where
+module _ (limits : NoteLimits) (deeds : List NoteDeed) (s : PlainNotes) (like : IsLike limits deeds s) (client number : ℕ) (low : client < s.limits.clients) where
   track_is : track_of s client ≡ track_after client deeds
   track_is = like.tracks client
 
@@ -571,7 +571,7 @@ module _ (limits : NoteLimits) (deeds : List Deed) (s : PlainNotes) (like : IsLi
 -- ---- what becomes of pages and crumbs
 
 -- where a trace is not kept, what leaves of it leaves less to come
-less_to_come : (trace : TraceId) (deed : Deed) (deeds : List Deed) → announces trace deed deeds ≡ 0 → ((client : ℕ) → is_open trace (track_after client (deed ∷ deeds)) ≡ is_open trace (track_after client deeds)) → IsOver trace deeds → IsOver trace (deed ∷ deeds)
+less_to_come : (trace : TraceId) (deed : NoteDeed) (deeds : List NoteDeed) → announces trace deed deeds ≡ 0 → ((client : ℕ) → is_open trace (track_after client (deed ∷ deeds)) ≡ is_open trace (track_after client deeds)) → IsOver trace deeds → IsOver trace (deed ∷ deeds)
 less_to_come trace deed deeds none tracks over = record {
   settled = (let was = over.settled in omega (arith, none, was));
   closed = λ client. tracks client ∙ over.closed client;
@@ -590,7 +590,7 @@ less_left trace loss count k =
     at EvictedCrumbs own = omega (arith, own)
     at ForgottenCrumbs own = omega (arith, own)
 
-pub loses_own : (s : PlainNotes) (deeds : List Deed) (trace : TraceId) (loss : Loss) (count : ℕ) → Stands false false trace deeds s.horizon (kept_of s trace)
+pub loses_own : (s : PlainNotes) (deeds : List NoteDeed) (trace : TraceId) (loss : Loss) (count : ℕ) → Stands false false trace deeds s.horizon (kept_of s trace)
     → Stands false false trace (Loses trace loss count ∷ deeds) s.horizon (kept_of (after_lost s trace loss count) trace)
 loses_own s deeds trace loss count stands = subst (Stands false false trace (Loses trace loss count ∷ deeds) s.horizon) (sym (found-with_same (loses loss count) trace s.traces)) (at (kept_of s trace) stands)
   where
@@ -627,7 +627,7 @@ none_heard_of trace page = at page.core page.page
 out_of_range : (n m : ℕ) → nat_le n m ≡ true → n ≤ m
 out_of_range n m is = grind (arith, is)
 
-module _ (limits : NoteLimits) (deeds : List Deed) (s : PlainNotes) (like : IsLike limits deeds s) (client : ℕ) (page : PageName) where
+module _ (limits : NoteLimits) (deeds : List NoteDeed) (s : PlainNotes) (like : IsLike limits deeds s) (client : ℕ) (page : PageName) where
   -- whether the page is heard of, as the deeds tell
   heard_as : (trace : TraceId) → is_heard_of trace page (track_of s client) ≡ is_heard_of trace page (track_after client deeds)
   heard_as trace = ap (is_heard_of trace page) (like.tracks client)
@@ -693,7 +693,7 @@ module _ (limits : NoteLimits) (deeds : List Deed) (s : PlainNotes) (like : IsLi
 
 -- ---- a place is looked for
 
-like_searched : (limits : NoteLimits) (deeds : List Deed) (s : PlainNotes) (trace : TraceId) → IsLike limits deeds s → IsLike limits deeds (searched s trace)
+like_searched : (limits : NoteLimits) (deeds : List NoteDeed) (s : PlainNotes) (trace : TraceId) → IsLike limits deeds s → IsLike limits deeds (searched s trace)
 like_searched limits deeds s trace like =
     let order = reordered_searched s trace in
     let cap : (searched s trace).limits.traces ≡ s.limits.traces = ap (λ (l : NoteLimits). l.traces) order.limits in
@@ -707,7 +707,7 @@ like_searched limits deeds s trace like =
       tracks = λ client. ap (λ (ts : List Track). unwrap_or (slice_get ts client) no_notes) order.tracks ∙ like.tracks client;
     }
 
-stands_searched : (trace other : TraceId) (deeds : List Deed) (s : PlainNotes) → Stands false false trace deeds s.horizon (kept_of s trace) → Stands false false trace deeds (searched s other).horizon (kept_of (searched s other) trace)
+stands_searched : (trace other : TraceId) (deeds : List NoteDeed) (s : PlainNotes) → Stands false false trace deeds s.horizon (kept_of s trace) → Stands false false trace deeds (searched s other).horizon (kept_of (searched s other) trace)
 stands_searched trace other deeds s stands =
     let order = reordered_searched s other in
     subst (λ n. Stands false false trace deeds n (kept_of (searched s other) trace)) (sym order.horizon) (subst (Stands false false trace deeds s.horizon) (sym (order.kept trace)) stands)
@@ -723,14 +723,14 @@ place_there s trace finds none = at (kept_of s trace) refl finds none
 
 -- ---- any deed
 
-reopened : (deed : Deed) (trace other : TraceId) (deeds : List Deed) (s : PlainNotes) → same_trace trace other ≡ true → Stands false false other (deed ∷ deeds) (after s deed).horizon (kept_of (after s deed) other)
+reopened : (deed : NoteDeed) (trace other : TraceId) (deeds : List NoteDeed) (s : PlainNotes) → same_trace trace other ≡ true → Stands false false other (deed ∷ deeds) (after s deed).horizon (kept_of (after s deed) other)
     → Stands false false trace (deed ∷ deeds) (after s deed).horizon (kept_of (after s deed) trace)
 reopened deed trace other deeds s same stands = subst (λ (x : TraceId). Stands false false x (deed ∷ deeds) (after s deed).horizon (kept_of (after s deed) x)) (sym (same-true trace other same)) stands
 
-moved_to : (trace other : TraceId) (deeds : List Deed) (s : PlainNotes) → same_trace trace other ≡ true → Stands false false trace deeds s.horizon (kept_of s trace) → Stands false false other deeds s.horizon (kept_of s other)
+moved_to : (trace other : TraceId) (deeds : List NoteDeed) (s : PlainNotes) → same_trace trace other ≡ true → Stands false false trace deeds s.horizon (kept_of s trace) → Stands false false other deeds s.horizon (kept_of s other)
 moved_to trace other deeds s same stands = subst (λ (x : TraceId). Stands false false x deeds s.horizon (kept_of s x)) (same-true trace other same) stands
 
-pub any_deed : (limits : NoteLimits) (deeds : List Deed) (s : PlainNotes) (like : IsLike limits deeds s) (deed : Deed) (trace : TraceId) → IsOfClient s.limits.clients deed → HasPlace s deed → segments deeds + 1 ≤ most
+pub any_deed : (limits : NoteLimits) (deeds : List NoteDeed) (s : PlainNotes) (like : IsLike limits deeds s) (deed : NoteDeed) (trace : TraceId) → IsOfClient s.limits.clients deed → HasPlace s deed → segments deeds + 1 ≤ most
     → Stands false false trace deeds s.horizon (kept_of s trace) → Stands false false trace (deed ∷ deeds) (after s deed).horizon (kept_of (after s deed) trace)
 any_deed limits deeds s like (Opens client number other first) trace low place bound stands =
     let found_like = like_searched limits deeds s other like in
@@ -808,11 +808,11 @@ length-set_any (x ∷ tracks) zero track = refl
 length-set_any (x ∷ tracks) (suc place) track = ap suc (length-set_any tracks place track)
 
 -- a client's track is set to what a note makes of it
-module _ (limits : NoteLimits) (deeds : List Deed) (s : PlainNotes) (like : IsLike limits deeds s) (client : ℕ) (low : client < s.limits.clients) (trace : TraceId) (is_missed is_next : Bool) where
+module _ (limits : NoteLimits) (deeds : List NoteDeed) (s : PlainNotes) (like : IsLike limits deeds s) (client : ℕ) (low : client < s.limits.clients) (trace : TraceId) (is_missed is_next : Bool) where
   abbrev readied : PlainNotes
   readied = checked (remembered s trace is_missed) client is_next
 
-  like_set : (heard : ℕ) (change : Track → Track) (f : Kept → Kept) (deed : Deed) → heard ≡ segments (deed ∷ deeds)
+  like_set : (heard : ℕ) (change : Track → Track) (f : Kept → Kept) (deed : NoteDeed) → heard ≡ segments (deed ∷ deeds)
       → ((other : ℕ) → track_after other (deed ∷ deeds) ≡ (if client == other then change (track_after other deeds) else track_after other deeds))
       → IsLike limits (deed ∷ deeds) (record readied { heard = heard; tracks = set readied.tracks client (change (track_of readied client)); traces = with_kept f trace readied.traces })
   like_set heard change f deed counted tracked =
@@ -839,7 +839,7 @@ module _ (limits : NoteLimits) (deeds : List Deed) (s : PlainNotes) (like : IsLi
       same_there other true here = ap (λ n. change (track_of readied n)) (eqb-true client other here) ∙ ap change (there other)
       same_there other false here = there other
 
-like_opened : (limits : NoteLimits) (deeds : List Deed) (s : PlainNotes) → IsLike limits deeds s → (client number : ℕ) (trace : TraceId) (first : PageName) → client < s.limits.clients → segments deeds + 1 ≤ most
+like_opened : (limits : NoteLimits) (deeds : List NoteDeed) (s : PlainNotes) → IsLike limits deeds s → (client number : ℕ) (trace : TraceId) (first : PageName) → client < s.limits.clients → segments deeds + 1 ≤ most
     → IsLike limits (Opens client number trace first ∷ deeds) (opened s client number trace first)
 like_opened limits deeds s like client number trace first low bound =
     let is_next = begins_next (track_of s client) number in
@@ -848,7 +848,7 @@ like_opened limits deeds s like client number trace first low bound =
     (let same : ready.heard ≡ segments deeds = (alike_both s trace false client is_next).heard ∙ like.heard in omega (arith, same, bound))
     (λ other. refl)
 
-like_closed : (limits : NoteLimits) (deeds : List Deed) (s : PlainNotes) → IsLike limits deeds s → (client number : ℕ) (trace : TraceId) (end : PageName) (report : SegmentReport) → client < s.limits.clients
+like_closed : (limits : NoteLimits) (deeds : List NoteDeed) (s : PlainNotes) → IsLike limits deeds s → (client number : ℕ) (trace : TraceId) (end : PageName) (report : SegmentReport) → client < s.limits.clients
     → IsLike limits (Closes client number trace end report ∷ deeds) (closed s client number trace end report)
 like_closed limits deeds s like client number trace end report low =
     let is_next = ends_next (track_of s client) number trace end in
@@ -857,7 +857,7 @@ like_closed limits deeds s like client number trace end report low =
     (let same : ready.heard ≡ segments deeds = (alike_both s trace true client is_next).heard ∙ like.heard in omega (arith, same))
     (λ other. refl)
 
-like_refused : (limits : NoteLimits) (deeds : List Deed) (s : PlainNotes) → IsLike limits deeds s → (client number : ℕ) (trace : TraceId) → client < s.limits.clients
+like_refused : (limits : NoteLimits) (deeds : List NoteDeed) (s : PlainNotes) → IsLike limits deeds s → (client number : ℕ) (trace : TraceId) → client < s.limits.clients
     → IsLike limits (Refuses client number trace ∷ deeds) (refused s client number trace)
 like_refused limits deeds s like client number trace low =
     let is_next = refuses_next (track_of s client) number in
@@ -866,7 +866,7 @@ like_refused limits deeds s like client number trace low =
     (let same : ready.heard ≡ segments deeds = (alike_both s trace true client is_next).heard ∙ like.heard in omega (arith, same))
     (λ other. refl)
 
-like_led : (limits : NoteLimits) (deeds : List Deed) (s : PlainNotes) → IsLike limits deeds s → (client number : ℕ) (trace : TraceId) (nodes : NodeSet) → client < s.limits.clients
+like_led : (limits : NoteLimits) (deeds : List NoteDeed) (s : PlainNotes) → IsLike limits deeds s → (client number : ℕ) (trace : TraceId) (nodes : NodeSet) → client < s.limits.clients
     → IsLike limits (Leads client number trace nodes ∷ deeds) (led s client number trace nodes)
 like_led limits deeds s like client number trace nodes low =
     let is_next = refuses_next (track_of s client) number in
@@ -875,7 +875,7 @@ like_led limits deeds s like client number trace nodes low =
     (let same : ready.heard ≡ segments deeds = (alike_both s trace false client is_next).heard ∙ like.heard in omega (arith, same))
     (λ other. refl)
 
-like_handed : (limits : NoteLimits) (deeds : List Deed) (s : PlainNotes) → IsLike limits deeds s → (client : ℕ) (page : PageName) (trace : TraceId)
+like_handed : (limits : NoteLimits) (deeds : List NoteDeed) (s : PlainNotes) → IsLike limits deeds s → (client : ℕ) (page : PageName) (trace : TraceId)
     → IsLike limits (HandsOut client page trace ∷ deeds) (after_handed_out s trace client page)
 like_handed limits deeds s like client page trace = at (nat_le s.limits.clients client) refl
   where
@@ -917,7 +917,7 @@ like_handed limits deeds s like client page trace = at (nat_le s.limits.clients 
           ∙ within_set other (client == other) refl;
     }
 
-pub like_after : (limits : NoteLimits) (deeds : List Deed) (s : PlainNotes) → IsLike limits deeds s → (deed : Deed) → IsOfClient s.limits.clients deed → segments deeds + 1 ≤ most → IsLike limits (deed ∷ deeds) (after s deed)
+pub like_after : (limits : NoteLimits) (deeds : List NoteDeed) (s : PlainNotes) → IsLike limits deeds s → (deed : NoteDeed) → IsOfClient s.limits.clients deed → segments deeds + 1 ≤ most → IsLike limits (deed ∷ deeds) (after s deed)
 like_after limits deeds s like (Opens client number trace first) low bound =
     like_opened limits deeds (searched s trace) (like_searched limits deeds s trace like) client number trace first
     (subst (λ (l : NoteLimits). client < l.clients) (sym (reordered_searched s trace).limits) low) bound

@@ -10,7 +10,7 @@ use Rattle.hs_whole.specs.declared.page.PageName.{PageName}
 use Rattle.hs_whole.specs.declared.track.Track.{Track}
 use Rattle.hs_whole.specs.Pages.{first_page, is_before, later_page}
 use Rattle.hs_whole.specs.Tracks.{is_open, can_end, begins_next, ends_next, refuses_next, begun, ended, passed, is_heard_of, handed}
-use Rattle.hs_whole.specs.History.{Deed, Opens, Closes, Refuses, Leads, Loses, HandsOut, Misses, Drops, AreOfClients, track_after, sends, sent_of, hands_out, handed_out_of, IsInOrder, AreInOrder, IsHeardOf, AreHeardOf, IsWholeSince}
+use Rattle.hs_whole.specs.History.{NoteDeed, Opens, Closes, Refuses, Leads, Loses, HandsOut, Misses, Drops, AreOfClients, track_after, sends, sent_of, hands_out, handed_out_of, IsInOrder, AreInOrder, IsHeardOf, AreHeardOf, IsWholeSince}
 use Rattle.hs_base.specs.Samples.{t}
 use Rattle.hs_whole.specs.Segments.{nine_and_eight, lies_in, first_of, is_out_in, out_in, SegmentIs, SegmentsAre, PageIs, PagesAre, IsNotBetween, segment_at, IsOwn, IsHonest}
 use Rattle.hs_whole.proofs.Ends.{open_handed, could_end, lies_before}
@@ -40,7 +40,7 @@ some_if : (b : Bool) (one : TraceId) (o : Option TraceId) → is_some o ≡ true
 some_if true one o is = refl
 some_if false one o is = is
 
-covered : (client : ℕ) (page : PageName) (deeds : List Deed) → IsNotBetween client page deeds → is_known page (track_after client deeds) ≡ true → is_some (segment_at client page deeds) ≡ true
+covered : (client : ℕ) (page : PageName) (deeds : List NoteDeed) → IsNotBetween client page deeds → is_known page (track_after client deeds) ≡ true → is_some (segment_at client page deeds) ≡ true
 covered client page [] apart known = absurd (none_known page first_page known)
 covered client page (Opens other number of first ∷ deeds) apart known = at (other == client) apart.0 known (covered client page deeds apart.1)
   where
@@ -125,13 +125,13 @@ covered client page (Drops of ∷ deeds) apart known = covered client page deeds
 
 -- ---- it ended in the later part
 
-module _ (trace : TraceId) (earlier : List Deed) where
+module _ (trace : TraceId) (earlier : List NoteDeed) where
   -- whether a deed ends the segment of the trace in whose stretch a page of a client lies
-  abbrev ends_home : ℕ → PageName → Deed → List Deed → Bool
+  abbrev ends_home : ℕ → PageName → NoteDeed → List NoteDeed → Bool
   ends_home client page (Closes other number of end report) deeds = same_trace trace of && ((other == client) && lies_in (first_of client deeds) end page)
   ends_home client page deed deeds = false
 
-  abbrev has_home : ℕ → PageName → List Deed → Bool
+  abbrev has_home : ℕ → PageName → List NoteDeed → Bool
   has_home client page [] = false
   has_home client page (deed ∷ later) = ends_home client page deed (later ++ earlier) || has_home client page later
 
@@ -139,7 +139,7 @@ module _ (trace : TraceId) (earlier : List Deed) where
   or_behind true b on = refl
   or_behind false b on = on
 
-  at_home : (client : ℕ) (page : PageName) (later : List Deed) → segment_at client page earlier ≡ None → is_some (segment_at client page (later ++ earlier)) ≡ true → IsOwn trace client page (later ++ earlier) → has_home client page later ≡ true
+  at_home : (client : ℕ) (page : PageName) (later : List NoteDeed) → segment_at client page earlier ≡ None → is_some (segment_at client page (later ++ earlier)) ≡ true → IsOwn trace client page (later ++ earlier) → has_home client page later ≡ true
   at_home client page [] anew found own = let never : false ≡ true = sym (ap is_some anew) ∙ found in absurd cc
   at_home client page (Opens other number of first ∷ later) anew found own = at_home client page later anew found own
   at_home client page (Closes other number of end report ∷ later) anew found own = at (other == client) (ends_next (track_after client (later ++ earlier)) number of end) (lies_in (first_of client (later ++ earlier)) end page) found own (at_home client page later anew)
@@ -161,12 +161,12 @@ module _ (trace : TraceId) (earlier : List Deed) where
 
   -- ---- or it is of the open segment, which ends later
 
-  record IsPending (client : ℕ) (page : PageName) (later : List Deed) : Type 0 where
+  record IsPending (client : ℕ) (page : PageName) (later : List NoteDeed) : Type 0 where
     opened : is_open trace (track_after client (later ++ earlier)) ≡ true
     behind : is_before page (track_after client (later ++ earlier)).end ≡ false
     before : (end : PageName) → can_end (track_after client (later ++ earlier)) end ≡ true → is_before page end ≡ true
 
-  abbrev IsPlaced : ℕ → PageName → List Deed → Type 0
+  abbrev IsPlaced : ℕ → PageName → List NoteDeed → Type 0
   IsPlaced client page later = (has_home client page later ≡ true) ⊎ IsPending client page later
 
   same_open : (a b : TraceId) (track : Track) → is_open a track ≡ true → is_open b track ≡ true → same_trace a b ≡ true
@@ -183,7 +183,7 @@ module _ (trace : TraceId) (earlier : List Deed) where
       at (Some c) one two = ap (λ (x : TraceId). same_trace x b) (same_as c a one) ∙ two
 
   -- a deed leaves each page that was handed out before in its place
-  stays : (deed : Deed) (later : List Deed) (client : ℕ) (page : PageName) → IsInOrder trace deed (later ++ earlier) → IsPlaced client page later → IsPlaced client page (deed ∷ later)
+  stays : (deed : NoteDeed) (later : List NoteDeed) (client : ℕ) (page : PageName) → IsInOrder trace deed (later ++ earlier) → IsPlaced client page later → IsPlaced client page (deed ∷ later)
   stays deed later client page order (inl home) = inl (or_behind (ends_home client page deed (later ++ earlier)) (has_home client page later) home)
   stays (Opens other number of first) later client page order (inr pending) = at (other == client) refl
     where
@@ -297,15 +297,15 @@ module _ (trace : TraceId) (earlier : List Deed) where
 
   -- ---- each page that is handed out in a part
 
-  abbrev OutHas : (ℕ → PageName → Type 0) → Deed → Type 0
+  abbrev OutHas : (ℕ → PageName → Type 0) → NoteDeed → Type 0
   OutHas P (HandsOut client page of) = same_trace trace of ≡ true → P client page
   OutHas P deed = Unit {0}
 
-  abbrev AllOut : (ℕ → PageName → Type 0) → List Deed → Type 0
+  abbrev AllOut : (ℕ → PageName → Type 0) → List NoteDeed → Type 0
   AllOut P [] = Unit {0}
   AllOut P (deed ∷ deeds) = OutHas P deed × AllOut P deeds
 
-  out_map : (P Q : ℕ → PageName → Type 0) → ((client : ℕ) (page : PageName) → P client page → Q client page) → (deed : Deed) → OutHas P deed → OutHas Q deed
+  out_map : (P Q : ℕ → PageName → Type 0) → ((client : ℕ) (page : PageName) → P client page → Q client page) → (deed : NoteDeed) → OutHas P deed → OutHas Q deed
   out_map P Q turn (Opens client number of first) has = tt
   out_map P Q turn (Closes client number of end report) has = tt
   out_map P Q turn (Refuses client number of) has = tt
@@ -315,7 +315,7 @@ module _ (trace : TraceId) (earlier : List Deed) where
   out_map P Q turn Misses has = tt
   out_map P Q turn (Drops of) has = tt
 
-  all_map : (P Q : ℕ → PageName → Type 0) → ((client : ℕ) (page : PageName) → P client page → Q client page) → (deeds : List Deed) → AllOut P deeds → AllOut Q deeds
+  all_map : (P Q : ℕ → PageName → Type 0) → ((client : ℕ) (page : PageName) → P client page → Q client page) → (deeds : List NoteDeed) → AllOut P deeds → AllOut Q deeds
   all_map P Q turn [] all = tt
   all_map P Q turn (deed ∷ deeds) all = (out_map P Q turn deed all.0, all_map P Q turn deeds all.1)
 
@@ -324,7 +324,7 @@ module _ (trace : TraceId) (earlier : List Deed) where
   or_second false b on off = on
 
   -- a page is placed when it is handed out
-  placed_now : (client : ℕ) (page : PageName) (of : TraceId) (later : List Deed) → same_trace trace of ≡ true → is_heard_of of page (track_after client (later ++ earlier)) ≡ true → IsNotBetween client page (later ++ earlier)
+  placed_now : (client : ℕ) (page : PageName) (of : TraceId) (later : List NoteDeed) → same_trace trace of ≡ true → is_heard_of of page (track_after client (later ++ earlier)) ≡ true → IsNotBetween client page (later ++ earlier)
       → IsOwn trace client page (later ++ earlier) → segment_at client page earlier ≡ None → IsPlaced client page (HandsOut client page of ∷ later)
   placed_now client page of later same hears between own anew = at (is_before page was.end) refl
     where
@@ -357,7 +357,7 @@ module _ (trace : TraceId) (earlier : List Deed) where
             before = λ end can. lies_before of page end was hears (sym (ap (λ b. can_end (if b then handed of page was else was) end) (itself client)) ∙ can);
           })
 
-  all_placed : (later : List Deed) → AreInOrder trace later earlier → AreHeardOf trace later earlier → PagesAre IsNotBetween trace later earlier → PagesAre (IsOwn trace) trace later earlier
+  all_placed : (later : List NoteDeed) → AreInOrder trace later earlier → AreHeardOf trace later earlier → PagesAre IsNotBetween trace later earlier → PagesAre (IsOwn trace) trace later earlier
       → PagesAre (λ client page deeds. segment_at client page earlier ≡ None) trace later earlier → AllOut (λ client page. IsPlaced client page later) later
   all_placed [] order hears between own anew = tt
   all_placed (deed ∷ later) order hears between own anew = (
@@ -365,7 +365,7 @@ module _ (trace : TraceId) (earlier : List Deed) where
     all_map (λ client page. IsPlaced client page later) (λ client page. IsPlaced client page (deed ∷ later)) (λ client page. stays deed later client page order.0) later (all_placed later order.1 hears.1 between.1 own.1 anew.1),
   )
     where
-      new : (d : Deed) → IsHeardOf trace d (later ++ earlier) → PageIs IsNotBetween trace d (later ++ earlier) → PageIs (IsOwn trace) trace d (later ++ earlier)
+      new : (d : NoteDeed) → IsHeardOf trace d (later ++ earlier) → PageIs IsNotBetween trace d (later ++ earlier) → PageIs (IsOwn trace) trace d (later ++ earlier)
           → PageIs (λ client page deeds. segment_at client page earlier ≡ None) trace d (later ++ earlier) → OutHas (λ client page. IsPlaced client page (d ∷ later)) d
       new (Opens client number of first) hears between own anew = tt
       new (Closes client number of end report) hears between own anew = tt
@@ -377,29 +377,29 @@ module _ (trace : TraceId) (earlier : List Deed) where
       new (Drops of) hears between own anew = tt
 
   -- where no segment is open at the end, each page has its segment
-  has_it : (later : List Deed) → ((client : ℕ) → is_open trace (track_after client (later ++ earlier)) ≡ false) → (client : ℕ) (page : PageName) → IsPlaced client page later → has_home client page later ≡ true
+  has_it : (later : List NoteDeed) → ((client : ℕ) → is_open trace (track_after client (later ++ earlier)) ≡ false) → (client : ℕ) (page : PageName) → IsPlaced client page later → has_home client page later ≡ true
   has_it later closed client page (inl home) = home
   has_it later closed client page (inr pending) = let never : true ≡ false = sym pending.opened ∙ closed client in absurd cc
 
   -- ---- sums
 
-  abbrev segment_out : List Deed → Deed → List Deed → ℕ
+  abbrev segment_out : List NoteDeed → NoteDeed → List NoteDeed → ℕ
   segment_out part (Closes client number of end report) deeds = if same_trace trace of then out_in trace client (first_of client deeds) end part else 0
   segment_out part deed deeds = 0
 
-  abbrev all_out : List Deed → List Deed → ℕ
+  abbrev all_out : List NoteDeed → List NoteDeed → ℕ
   all_out part [] = 0
   all_out part (deed ∷ later) = all_out part later + segment_out part deed (later ++ earlier)
 
-  abbrev hit : Deed → Deed → List Deed → ℕ
+  abbrev hit : NoteDeed → NoteDeed → List NoteDeed → ℕ
   hit d (Closes client number of end report) deeds = if same_trace trace of then (if is_out_in trace client (first_of client deeds) end d then 1 else 0) else 0
   hit d deed deeds = 0
 
-  abbrev hits : Deed → List Deed → ℕ
+  abbrev hits : NoteDeed → List NoteDeed → ℕ
   hits d [] = 0
   hits d (deed ∷ later) = hits d later + hit d deed (later ++ earlier)
 
-  one_more : (d : Deed) (part : List Deed) (deed : Deed) (deeds : List Deed) → segment_out (d ∷ part) deed deeds ≡ segment_out part deed deeds + hit d deed deeds
+  one_more : (d : NoteDeed) (part : List NoteDeed) (deed : NoteDeed) (deeds : List NoteDeed) → segment_out (d ∷ part) deed deeds ≡ segment_out part deed deeds + hit d deed deeds
   one_more d part (Opens client number of first) deeds = omega arith
   one_more d part (Closes client number of end report) deeds = at (same_trace trace of)
     where
@@ -414,11 +414,11 @@ module _ (trace : TraceId) (earlier : List Deed) where
   one_more d part Misses deeds = omega arith
   one_more d part (Drops of) deeds = omega arith
 
-  all_more : (d : Deed) (part later : List Deed) → all_out (d ∷ part) later ≡ all_out part later + hits d later
+  all_more : (d : NoteDeed) (part later : List NoteDeed) → all_out (d ∷ part) later ≡ all_out part later + hits d later
   all_more d part [] = omega arith
   all_more d part (deed ∷ later) = let rest = all_more d part later in let one = one_more d part deed (later ++ earlier) in omega (arith, rest, one)
 
-  one_hit : (client : ℕ) (page : PageName) (of : TraceId) (deed : Deed) (deeds : List Deed) → same_trace trace of ≡ true → ends_home client page deed deeds ≡ true → hit (HandsOut client page of) deed deeds ≡ 1
+  one_hit : (client : ℕ) (page : PageName) (of : TraceId) (deed : NoteDeed) (deeds : List NoteDeed) → same_trace trace of ≡ true → ends_home client page deed deeds ≡ true → hit (HandsOut client page of) deed deeds ≡ 1
   one_hit client page of (Opens other number named first) deeds same home = absurd cc
   one_hit client page of (Closes other number named end report) deeds same home =
       let own = first_true (same_trace trace named) ((other == client) && lies_in (first_of client deeds) end page) home in
@@ -436,7 +436,7 @@ module _ (trace : TraceId) (earlier : List Deed) where
   one_hit client page of Misses deeds same home = absurd cc
   one_hit client page of (Drops named) deeds same home = absurd cc
 
-  some_hit : (client : ℕ) (page : PageName) (of : TraceId) (later : List Deed) → same_trace trace of ≡ true → has_home client page later ≡ true → 1 ≤ hits (HandsOut client page of) later
+  some_hit : (client : ℕ) (page : PageName) (of : TraceId) (later : List NoteDeed) → same_trace trace of ≡ true → has_home client page later ≡ true → 1 ≤ hits (HandsOut client page of) later
   some_hit client page of [] same home = absurd cc
   some_hit client page of (deed ∷ later) same home = at (ends_home client page deed (later ++ earlier)) refl home (some_hit client page of later same)
     where
@@ -444,7 +444,7 @@ module _ (trace : TraceId) (earlier : List Deed) where
       at true here home more = let one = one_hit client page of deed (later ++ earlier) same here in omega (arith, one)
       at false here home more = let rest = more home in omega (arith, rest)
 
-  out_within : (part later : List Deed) → AllOut (λ client page. has_home client page later ≡ true) part → handed_out_of trace part ≤ all_out part later
+  out_within : (part later : List NoteDeed) → AllOut (λ client page. has_home client page later ≡ true) part → handed_out_of trace part ≤ all_out part later
   out_within [] later homes = omega arith
   out_within (deed ∷ part) later homes =
       let rest = out_within part later homes.1 in
@@ -452,7 +452,7 @@ module _ (trace : TraceId) (earlier : List Deed) where
       let one = by_deed deed homes.0 in
       omega (arith, rest, more, one)
     where
-      by_deed : (d : Deed) → OutHas (λ client page. has_home client page later ≡ true) d → hands_out trace d ≤ hits d later
+      by_deed : (d : NoteDeed) → OutHas (λ client page. has_home client page later ≡ true) d → hands_out trace d ≤ hits d later
       by_deed (Opens client number of first) home = omega arith
       by_deed (Closes client number of end report) home = omega arith
       by_deed (Refuses client number of) home = omega arith
@@ -467,11 +467,11 @@ module _ (trace : TraceId) (earlier : List Deed) where
       by_deed (Drops of) home = omega arith
 
   -- of each segment at most as many, so of all
-  at_most : (part later : List Deed) → SegmentsAre (λ out sent. out ≤ sent) trace part later earlier → all_out part later ≤ sent_of trace later
+  at_most : (part later : List NoteDeed) → SegmentsAre (λ out sent. out ≤ sent) trace part later earlier → all_out part later ≤ sent_of trace later
   at_most part [] few = omega arith
   at_most part (deed ∷ later) few = let rest = at_most part later few.1 in let one = by_deed deed few.0 in omega (arith, rest, one)
     where
-      by_deed : (d : Deed) → SegmentIs (λ out sent. out ≤ sent) trace part d (later ++ earlier) → segment_out part d (later ++ earlier) ≤ sends trace d
+      by_deed : (d : NoteDeed) → SegmentIs (λ out sent. out ≤ sent) trace part d (later ++ earlier) → segment_out part d (later ++ earlier) ≤ sends trace d
       by_deed (Opens client number of first) few = omega arith
       by_deed (Closes client number of end report) few = at (same_trace trace of) refl
         where
@@ -486,14 +486,14 @@ module _ (trace : TraceId) (earlier : List Deed) where
       by_deed (Drops of) few = omega arith
 
   -- and where they are as many in all, they are of each
-  as_many : (part later : List Deed) → SegmentsAre (λ out sent. out ≤ sent) trace part later earlier → sent_of trace later ≤ all_out part later → SegmentsAre (λ out sent. out ≡ sent) trace part later earlier
+  as_many : (part later : List NoteDeed) → SegmentsAre (λ out sent. out ≤ sent) trace part later earlier → sent_of trace later ≤ all_out part later → SegmentsAre (λ out sent. out ≡ sent) trace part later earlier
   as_many part [] few all = tt
   as_many part (deed ∷ later) few all =
       let rest = at_most part later few.1 in
       let both = by_deed deed few.0 rest all in
       (both.0, as_many part later few.1 both.1)
     where
-      by_deed : (d : Deed) → SegmentIs (λ out sent. out ≤ sent) trace part d (later ++ earlier) → all_out part later ≤ sent_of trace later → sent_of trace later + sends trace d ≤ all_out part later + segment_out part d (later ++ earlier)
+      by_deed : (d : NoteDeed) → SegmentIs (λ out sent. out ≤ sent) trace part d (later ++ earlier) → all_out part later ≤ sent_of trace later → sent_of trace later + sends trace d ≤ all_out part later + segment_out part d (later ++ earlier)
           → SegmentIs (λ out sent. out ≡ sent) trace part d (later ++ earlier) × (sent_of trace later ≤ all_out part later)
       by_deed (Opens client number of first) few rest all = (tt, omega (arith, all))
       by_deed (Closes client number of end report) few rest all = at (same_trace trace of) refl all
@@ -511,7 +511,7 @@ module _ (trace : TraceId) (earlier : List Deed) where
 
 -- ---- a client that is not there has no segment
 
-far : (trace : TraceId) (clients : ℕ) (deeds : List Deed) → AreOfClients clients deeds → (client : ℕ) → clients ≤ client → is_open trace (track_after client deeds) ≡ false
+far : (trace : TraceId) (clients : ℕ) (deeds : List NoteDeed) → AreOfClients clients deeds → (client : ℕ) → clients ≤ client → is_open trace (track_after client deeds) ≡ false
 far trace clients [] of client beyond = refl
 far trace clients (Opens other number named first ∷ deeds) of client beyond = at (other == client) refl (far trace clients deeds of.1 client beyond)
   where
@@ -546,7 +546,7 @@ far trace clients (HandsOut other page named ∷ deeds) of client beyond = at (o
 far trace clients (Misses ∷ deeds) of client beyond = far trace clients deeds of.1 client beyond
 far trace clients (Drops named ∷ deeds) of client beyond = far trace clients deeds of.1 client beyond
 
-pub each_is_out : (horizon clients : ℕ) (trace : TraceId) (deeds : List Deed) → AreOfClients clients deeds → (part : IsWholeSince horizon clients trace deeds) → IsHonest trace part.later part.earlier
+pub each_is_out : (horizon clients : ℕ) (trace : TraceId) (deeds : List NoteDeed) → AreOfClients clients deeds → (part : IsWholeSince horizon clients trace deeds) → IsHonest trace part.later part.earlier
     → SegmentsAre (λ out sent. out ≡ sent) trace part.later part.later part.earlier
 each_is_out horizon clients trace deeds of part honest =
     let placed = all_placed trace part.earlier part.later part.in_order part.heard_of honest.between honest.own honest.anew in
@@ -566,8 +566,8 @@ each_is_out horizon clients trace deeds of part honest =
     none client = at (nat_lt client clients) refl
       where
         at : (b : Bool) → nat_lt client clients ≡ b → is_open trace (track_after client (part.later ++ part.earlier)) ≡ false
-        at true is = subst (λ (ds : List Deed). is_open trace (track_after client ds) ≡ false) part.parts (part.closed client (low client clients is))
-        at false is = subst (λ (ds : List Deed). is_open trace (track_after client ds) ≡ false) part.parts (far trace clients deeds of client (high client clients is))
+        at true is = subst (λ (ds : List NoteDeed). is_open trace (track_after client ds) ≡ false) part.parts (part.closed client (low client clients is))
+        at false is = subst (λ (ds : List NoteDeed). is_open trace (track_after client ds) ≡ false) part.parts (far trace clients deeds of client (high client clients is))
 
 -- ---- the worked example is what honest clients do
 

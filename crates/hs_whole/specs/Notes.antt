@@ -18,8 +18,8 @@ use Rattle.hs_whole.specs.declared.answers.NoteLimits.{NoteLimits}
 use Rattle.hs_whole.specs.declared.answers.SegmentReport.{SegmentReport}
 use Rattle.hs_whole.specs.declared.answers.Loss.{Loss}
 use Rattle.hs_whole.specs.declared.answers.Loss.TheVariants.{EvictedPages}
-use Rattle.hs_whole.specs.declared.answers.Noted.{Noted}
-use Rattle.hs_whole.specs.declared.answers.Noted.TheVariants as noting
+use Rattle.hs_whole.specs.declared.answers.NoteOutcome.{NoteOutcome}
+use Rattle.hs_whole.specs.declared.answers.NoteOutcome.TheVariants as noting
 use Rattle.hs_whole.specs.declared.answers.TheConstants.{MOST_CLIENTS, MOST_LOOKS}
 use Rattle.hs_whole.specs.declared.page.PageName.{PageName}
 use Rattle.hs_whole.specs.declared.track.Track.{Track}
@@ -153,7 +153,7 @@ led_in s client number trace nodes = record s {
   traces = with_kept (leads nodes) trace s.traces;
 }
 
-abbrev pub answer_of : PlainNotes → ℕ → TraceId → Noted
+abbrev pub answer_of : PlainNotes → ℕ → TraceId → NoteOutcome
 answer_of s client trace = if nat_le s.limits.clients client then noting.Refused else if finds_place s trace then noting.Kept else noting.Full
 
 abbrev pub opened : PlainNotes → ℕ → ℕ → TraceId → PageName → PlainNotes

@@ -31,7 +31,7 @@ pub enum MakeFault {
 
 /// What became of a note.
 #[derive(Clone, Copy, Debug, PartialEq, Eq)]
-pub enum Noted {
+pub enum NoteOutcome {
     /// It is kept.
     Kept,
     /// It is of a client that is not there.

@@ -5,7 +5,7 @@ ghost use Rattle.hs_base.specs.declared.ids.TraceId.{TraceId};
 ghost use Rattle.hs_whole.specs.declared.answers.NoteLimits.{NoteLimits};
 ghost use Rattle.hs_wire.specs.declared.message.Wholeness.TheVariants.{WholeSince};
 ghost use Rattle.hs_whole.specs.Notes.{AreOut, wholeness_of, crumbs_of};
-ghost use Rattle.hs_whole.specs.History.{Deed, AreOfClients, HavePlaces, IsWholeSince, AreLed, notes_after};
+ghost use Rattle.hs_whole.specs.History.{NoteDeed, AreOfClients, HavePlaces, IsWholeSince, AreLed, notes_after};
 ghost use Rattle.hs_whole.specs.Segments.{IsHonest, SegmentsAre};
 
 /// Whatever a node hears, it says of a trace that it is whole since the horizon only where a later part of the deeds shows it:
@@ -14,11 +14,11 @@ ghost use Rattle.hs_whole.specs.Segments.{IsHonest, SegmentsAre};
 /// these pages are all that its segments sent. Each node to which a crumb of the trace led in that part, as the end of a segment says or a
 /// note of its own, is among those that are kept of the trace.
 pub fn whole_is_said_of_what_was_handed_out()
-    ensures whole { (limits : NoteLimits) (trace : TraceId) (deeds : List Deed)
+    ensures whole { (limits : NoteLimits) (trace : TraceId) (deeds : List NoteDeed)
         → (AreOut limits → ⊥) → AreOfClients limits.clients deeds → HavePlaces limits deeds → length deeds < 2 ^ 63
         → wholeness_of (notes_after limits deeds) trace ≡ WholeSince
         → IsWholeSince (notes_after limits deeds).horizon limits.clients trace deeds }
-    ensures led { (limits : NoteLimits) (trace : TraceId) (deeds : List Deed)
+    ensures led { (limits : NoteLimits) (trace : TraceId) (deeds : List NoteDeed)
         → (AreOut limits → ⊥) → AreOfClients limits.clients deeds → HavePlaces limits deeds → length deeds < 2 ^ 63
         → wholeness_of (notes_after limits deeds) trace ≡ WholeSince
         → (whole : IsWholeSince (notes_after limits deeds).horizon limits.clients trace deeds)
@@ -30,7 +30,7 @@ pub fn whole_is_said_of_what_was_handed_out()
 /// writes no page, a page that lies in a segment's stretch is of the segment's trace, and of no segment more pages are handed out than it
 /// sent; and no page of a segment before that part is handed out in it.
 pub fn each_segment_of_a_whole_trace_is_out()
-    ensures each { (horizon clients : ℕ) (trace : TraceId) (deeds : List Deed) → AreOfClients clients deeds
+    ensures each { (horizon clients : ℕ) (trace : TraceId) (deeds : List NoteDeed) → AreOfClients clients deeds
         → (part : IsWholeSince horizon clients trace deeds) → IsHonest trace part.later part.earlier
         → SegmentsAre (λ out sent. out ≡ sent) trace part.later part.later part.earlier }
 {}

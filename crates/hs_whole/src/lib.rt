@@ -8,7 +8,9 @@ mod notes;
 mod page;
 mod track;
 
-pub use answers::{Loss, MOST_CLIENTS, MOST_LOOKS, MakeFault, NoteLimits, Noted, SegmentReport};
+pub use answers::{
+    Loss, MOST_CLIENTS, MOST_LOOKS, MakeFault, NoteLimits, NoteOutcome, SegmentReport,
+};
 pub use kept::Kept;
 pub use laws::{each_segment_of_a_whole_trace_is_out, whole_is_said_of_what_was_handed_out};
 pub use notes::SegmentNotes;

@@ -6,7 +6,9 @@ ghost use Rattle.hs_whole.specs.Kept.{ends, goes_out};
 ghost use Rattle.hs_whole.specs.Tracks.{is_open, begins_next, ends_next, refuses_next};
 ghost use Rattle.hs_whole.specs.Notes.{PlainNotes, AreOut, no_notes_in, kept_of, changed, tracked, missed, missed_open, doubted, moved_horizon, with_new, remembered, checked, begun_in, ended_in, refused_in, led_in, is_over, has_place, turned, looked, searched, finds_place, answer_of, opened, closed, refused, led, after_opened, after_closed, after_refused, after_led, after_lost, handed_in, after_handed_out, standing_of, crumbs_of};
 
-use crate::answers::{Loss, MOST_CLIENTS, MOST_LOOKS, MakeFault, NoteLimits, Noted, SegmentReport};
+use crate::answers::{
+    Loss, MOST_CLIENTS, MOST_LOOKS, MakeFault, NoteLimits, NoteOutcome, SegmentReport,
+};
 use crate::kept::{Kept, no_losses};
 use crate::page::PageName;
 use crate::track::Track;
@@ -365,21 +367,21 @@ impl SegmentNotes {
         number: u64,
         trace: TraceId,
         first: PageName,
-    ) -> Result<Noted, Memory>
+    ) -> Result<NoteOutcome, Memory>
         ensures answer { IfOk result (λ noted. noted ≡ answer_of self.old client trace) }
         ensures after { OnOk result (self.new ≡ after_opened self.old client number trace first) }
         ensures memory { OnErr result (self.new ≡ missed (searched self.old trace)) }
     {
         if client >= self.limits.clients {
             self.miss();
-            return Ok(Noted::Refused);
+            return Ok(NoteOutcome::Refused);
         }
         if !self.search(trace) {
             self.miss();
-            return Ok(Noted::Full);
+            return Ok(NoteOutcome::Full);
         }
         match self.open_segment(client, number, trace, first) {
-            Ok(()) => Ok(Noted::Kept),
+            Ok(()) => Ok(NoteOutcome::Kept),
             Err(_) => {
                 self.miss();
                 Err(Memory)
@@ -397,21 +399,21 @@ impl SegmentNotes {
         trace: TraceId,
         end: PageName,
         report: &SegmentReport,
-    ) -> Result<Noted, Memory>
+    ) -> Result<NoteOutcome, Memory>
         ensures answer { IfOk result (λ noted. noted ≡ answer_of self.old client trace) }
         ensures after { OnOk result (self.new ≡ after_closed self.old client number trace end report.now) }
         ensures memory { OnErr result (self.new ≡ missed (searched self.old trace)) }
     {
         if client >= self.limits.clients {
             self.miss();
-            return Ok(Noted::Refused);
+            return Ok(NoteOutcome::Refused);
         }
         if !self.search(trace) {
             self.miss();
-            return Ok(Noted::Full);
+            return Ok(NoteOutcome::Full);
         }
         match self.close_segment(client, number, trace, end, report) {
-            Ok(()) => Ok(Noted::Kept),
+            Ok(()) => Ok(NoteOutcome::Kept),
             Err(_) => {
                 self.miss();
                 Err(Memory)
@@ -422,21 +424,26 @@ impl SegmentNotes {
     /// Hears that a client refused a crumb of a trace that need not be open, by a note of this number. After `Refused`, after `Full`, and
     /// after `Memory`, the horizon has moved to the count of all segments that were heard; after the last two traces may stand in another
     /// order. Nothing else changed.
-    pub fn refused(&mut self, client: u16, number: u64, trace: TraceId) -> Result<Noted, Memory>
+    pub fn refused(
+        &mut self,
+        client: u16,
+        number: u64,
+        trace: TraceId,
+    ) -> Result<NoteOutcome, Memory>
         ensures answer { IfOk result (λ noted. noted ≡ answer_of self.old client trace) }
         ensures after { OnOk result (self.new ≡ after_refused self.old client number trace) }
         ensures memory { OnErr result (self.new ≡ missed (searched self.old trace)) }
     {
         if client >= self.limits.clients {
             self.miss();
-            return Ok(Noted::Refused);
+            return Ok(NoteOutcome::Refused);
         }
         if !self.search(trace) {
             self.miss();
-            return Ok(Noted::Full);
+            return Ok(NoteOutcome::Full);
         }
         match self.refuse_crumb(client, number, trace) {
-            Ok(()) => Ok(Noted::Kept),
+            Ok(()) => Ok(NoteOutcome::Kept),
             Err(_) => {
                 self.miss();
                 Err(Memory)
@@ -453,21 +460,21 @@ impl SegmentNotes {
         number: u64,
         trace: TraceId,
         nodes: NodeSet,
-    ) -> Result<Noted, Memory>
+    ) -> Result<NoteOutcome, Memory>
         ensures answer { IfOk result (λ noted. noted ≡ answer_of self.old client trace) }
         ensures after { OnOk result (self.new ≡ after_led self.old client number trace nodes) }
         ensures memory { OnErr result (self.new ≡ missed (searched self.old trace)) }
     {
         if client >= self.limits.clients {
             self.miss();
-            return Ok(Noted::Refused);
+            return Ok(NoteOutcome::Refused);
         }
         if !self.search(trace) {
             self.miss();
-            return Ok(Noted::Full);
+            return Ok(NoteOutcome::Full);
         }
         match self.lead_on(client, number, trace, nodes) {
-            Ok(()) => Ok(Noted::Kept),
+            Ok(()) => Ok(NoteOutcome::Kept),
             Err(_) => {
                 self.miss();
                 Err(Memory)

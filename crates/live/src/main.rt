@@ -8,7 +8,7 @@ mod work;
 use anyhow::{Context, Result, bail};
 use hs_base::{Laterals, TraceId, Trigger, TriggerId};
 use hs_node::{MadeNode, Node, Passed, make_node};
-use hs_node_client::{Called, NodeClient};
+use hs_node_client::{CallAnswer, NodeClient};
 use hs_wire::Hello;
 use work::work_and_pass;
 
@@ -52,7 +52,7 @@ fn fire(client: &mut NodeClient) -> Result<()> {
         laterals,
     };
     match client.trigger(&trigger) {
-        Called::Done => Ok(()),
+        CallAnswer::Done => Ok(()),
         called => bail!("the trigger was not sent: {called:?}"),
     }
 }

@@ -2,7 +2,7 @@
 
 use crate::rows::row;
 use hs_base::{Group, GroupId, Laterals, Memory, NodeId, NodeSet, Told, TraceId, TriggerId, Why};
-use hs_groups::{GroupLimits, Groups, Heard, MakeFault, Taken};
+use hs_groups::{GroupLimits, Groups, LifeHeard, MakeFault, ToldOutcome};
 use std::alloc::Global;
 
 /// Four nodes, two groups, and each ask is sent once more.
@@ -38,7 +38,7 @@ fn made(alloc: Global, limits: GroupLimits) -> Result<Groups, Memory> {
 }
 
 /// What becomes of a message in which a node tells of group 7 in a life.
-fn tell(groups: &mut Groups, node: u16, epoch: u64, crumbs: u128, why: Why) -> Taken {
+fn tell(groups: &mut Groups, node: u16, epoch: u64, crumbs: u128, why: Why) -> ToldOutcome {
     groups.told(NodeId(node), epoch, &told_of(7, crumbs, why))
 }
 
@@ -100,7 +100,12 @@ fn strangers_are_refused(alloc: Global) -> Result<bool, Memory> {
     let crumb = tell(&mut groups, 0, 5, 16, Why::Fired);
     let heard = groups.hear(NodeId(4), 1);
     Ok(
-        (node, crumb, heard) == (Taken::Refused, Taken::Refused, Heard::Refused)
+        (node, crumb, heard)
+            == (
+                ToldOutcome::Refused,
+                ToldOutcome::Refused,
+                LifeHeard::Refused,
+            )
             && groups.len() == 0,
     )
 }
@@ -116,8 +121,8 @@ fn an_earlier_life_settles_nothing(alloc: Global) -> Result<bool, Memory> {
     let latest = tell(&mut groups, 1, 9, 0, Why::Answer);
     let settled = (waiting(&groups), send(&mut groups, 3));
     Ok(
-        (first, newer, earlier) == (2, Heard::Newer, Taken::Taken(Heard::Known))
-            && latest == Taken::Taken(Heard::Known)
+        (first, newer, earlier) == (2, LifeHeard::Newer, ToldOutcome::Taken(LifeHeard::Known))
+            && latest == ToldOutcome::Taken(LifeHeard::Known)
             && (open, settled) == ((Some(2), 2), (Some(0), 0)),
     )
 }
@@ -130,7 +135,7 @@ fn a_message_of_a_newer_life(alloc: Global) -> Result<bool, Memory> {
     let first = send(&mut groups, 1);
     let late = tell(&mut groups, 1, 4, 0, Why::Late);
     Ok(
-        (first, late, send(&mut groups, 2)) == (2, Taken::Taken(Heard::Newer), 2)
+        (first, late, send(&mut groups, 2)) == (2, ToldOutcome::Taken(LifeHeard::Newer), 2)
             && groups.latest(NodeId(1)) == 4,
     )
 }
@@ -151,7 +156,7 @@ fn asks_are_sent_again(alloc: Global) -> Result<bool, Memory> {
 
 /// Whether a message of a group with a crumb to node 1 is refused since as many are followed as may be.
 fn is_full(groups: &mut Groups, number: u32) -> bool {
-    groups.told(NodeId(0), 5, &told_of(number, 2, Why::Fired)) == Taken::Full
+    groups.told(NodeId(0), 5, &told_of(number, 2, Why::Fired)) == ToldOutcome::Full
 }
 
 /// A third group waits until the oldest is settled, and that is forgotten.
@@ -169,7 +174,7 @@ fn many_groups_pass(alloc: Global) -> Result<bool, Memory> {
     let mut groups = made(alloc, LIMITS)?;
     let mut right = true;
     for number in 0..50_000 {
-        right &= groups.told(NodeId(0), 5, &told_of(number, 0, Why::Fired)) != Taken::Full;
+        right &= groups.told(NodeId(0), 5, &told_of(number, 0, Why::Fired)) != ToldOutcome::Full;
     }
     Ok(right && groups.len() == 2 && groups.group(id_of(49_998)).is_some())
 }

@@ -2,7 +2,7 @@
 
 use crate::rows::row;
 use hs_base::{Group, GroupId, Laterals, Memory, NodeId, NodeSet, Told, TraceId, TriggerId, Why};
-use hs_hub::{Delivered, Given, Hub, HubLimits, MakeFault};
+use hs_hub::{Delivered, Hub, HubLimits, MakeFault, OutReason};
 use hs_receipts::MessageId;
 use hs_wire::{Losses, Standing, Wholeness};
 use std::alloc::Global;
@@ -190,7 +190,7 @@ fn a_whole_trace(alloc: Global) -> Result<bool, Memory> {
     Ok(
         (before, taken, early) == (None, (Some(TraceId(1)), Some(true)), 0)
             && (saved, named(&mut hub)) == (Some(TraceId(1)), 5)
-            && why == Some(Given::Complete),
+            && why == Some(OutReason::Complete),
     )
 }
 
@@ -201,7 +201,7 @@ fn a_node_that_forgot(alloc: Global, crumbs: u128, is_whole: bool) -> Result<boo
     stand_so(&mut hub, 1, 3, Wholeness::UnheardSince, 80, 0);
     stand_so(&mut hub, 0, 3, Wholeness::WholeSince, 80, crumbs);
     let taken = (hub.take(), whole(&hub));
-    Ok(taken == (Some(TraceId(1)), Some(is_whole)) && hub.why() == Some(Given::Complete))
+    Ok(taken == (Some(TraceId(1)), Some(is_whole)) && hub.why() == Some(OutReason::Complete))
 }
 
 /// Node 1 says unheard since its eightieth segment too, and that a crumb of the trace led to node 0: what came before that crumb may be forgotten.
@@ -238,7 +238,7 @@ fn an_open_life(alloc: Global) -> Result<bool, Memory> {
     let taken = hub.take();
     Ok(
         (early, taken, whole(&hub)) == (None, Some(TraceId(1)), Some(false))
-            && hub.why() == Some(Given::Aged),
+            && hub.why() == Some(OutReason::Aged),
     )
 }
 
@@ -271,7 +271,7 @@ fn at_a_limit(alloc: Global) -> Result<bool, Memory> {
     let one = named(&mut hub);
     Ok(
         (first, full) == (Some(Delivered::Held), Some(Delivered::Full))
-            && (taken, why, one) == (Some(TraceId(1)), Some(Given::CutShort), 1)
+            && (taken, why, one) == (Some(TraceId(1)), Some(OutReason::CutShort), 1)
             && report(&mut hub, 2) == Some(Delivered::Held),
     )
 }

@@ -2,7 +2,7 @@
 
 use crate::rows::row;
 use hs_base::{Memory, TraceId};
-use hs_receipts::{MessageId, Noted, Receipts};
+use hs_receipts::{MessageId, ReceiptOutcome, Receipts};
 use std::alloc::Global;
 
 /// A message of life 5 of node 3.
@@ -14,7 +14,7 @@ fn message(number: u64) -> MessageId {
     }
 }
 
-fn wait(receipts: &mut Receipts, trace: u128, number: u64) -> Noted {
+fn wait(receipts: &mut Receipts, trace: u128, number: u64) -> ReceiptOutcome {
     receipts.wait(TraceId(trace), message(number), 20)
 }
 
@@ -64,7 +64,7 @@ fn a_later_part(alloc: Global) -> Result<bool, Memory> {
     receipts.saved();
     let named = (next(&mut receipts), next(&mut receipts));
     Ok(
-        (early, other, named) == (Noted::NothingOut, false, (Some(3), None))
+        (early, other, named) == (ReceiptOutcome::NothingOut, false, (Some(3), None))
             && receipts.is_noted(TraceId(9), message(2)),
     )
 }
@@ -79,8 +79,13 @@ fn receipts_are_bounded(alloc: Global) -> Result<bool, Memory> {
     let still = wait(&mut receipts, 8, 3);
     let named = next(&mut receipts);
     Ok(
-        (two, full, still) == ((Noted::Noted, Noted::Noted), Noted::Full, Noted::Full)
-            && (named, wait(&mut receipts, 8, 3)) == (Some(1), Noted::Noted),
+        (two, full, still)
+            == (
+                (ReceiptOutcome::Noted, ReceiptOutcome::Noted),
+                ReceiptOutcome::Full,
+                ReceiptOutcome::Full,
+            )
+            && (named, wait(&mut receipts, 8, 3)) == (Some(1), ReceiptOutcome::Noted),
     )
 }
 
@@ -89,7 +94,7 @@ fn pass(receipts: &mut Receipts, number: u32) -> bool {
     let noted = wait(receipts, u128::from(number), u64::from(number));
     receipts.offer(TraceId(u128::from(number)));
     receipts.saved();
-    noted == Noted::Noted && next(receipts) == Some(u64::from(number))
+    noted == ReceiptOutcome::Noted && next(receipts) == Some(u64::from(number))
 }
 
 /// 50,000 traces, one after another, where two messages are kept.

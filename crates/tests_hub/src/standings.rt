@@ -2,7 +2,7 @@
 
 use crate::rows::row;
 use hs_base::{GroupId, Memory, NodeSet, TraceId};
-use hs_standings::{Life, Noted, Standings};
+use hs_standings::{Life, StandingOutcome, Standings};
 use hs_wire::{Losses, Standing, Wholeness};
 use std::alloc::Global;
 
@@ -51,7 +51,12 @@ fn the_latest_counts(alloc: Global) -> Result<bool, Memory> {
     let earlier = standings.note(life(1), 5, standing_of(9, 50))?;
     let again = standings.note(life(1), 6, standing_of(9, 61))?;
     Ok(
-        (first, earlier, again) == (Noted::Noted, Noted::Older, Noted::Older)
+        (first, earlier, again)
+            == (
+                StandingOutcome::Noted,
+                StandingOutcome::Older,
+                StandingOutcome::Older,
+            )
             && latest(&standings, 1) == Some((6, 60)),
     )
 }
@@ -77,7 +82,12 @@ fn standings_are_bounded(alloc: Global) -> Result<bool, Memory> {
     standings.forget(TraceId(9));
     let then = standings.note(life(1), 7, standing_of(8, 70))?;
     Ok(
-        (first, full, then) == (Noted::Noted, Noted::Full, Noted::Noted)
+        (first, full, then)
+            == (
+                StandingOutcome::Noted,
+                StandingOutcome::Full,
+                StandingOutcome::Noted,
+            )
             && latest(&standings, 1).is_none(),
     )
 }
@@ -86,7 +96,7 @@ fn standings_are_bounded(alloc: Global) -> Result<bool, Memory> {
 fn pass(standings: &mut Standings, trace: u128) -> Result<bool, Memory> {
     let noted = standings.note(life(1), 6, standing_of(trace, 0))?;
     standings.forget(TraceId(trace));
-    Ok(noted == Noted::Noted)
+    Ok(noted == StandingOutcome::Noted)
 }
 
 /// 50,000 traces, one after another, and nothing is left of them.

@@ -2,7 +2,7 @@
 
 use crate::rows::row;
 use hs_base::{Memory, TraceId};
-use hs_traces::{Added, MakeFault, Offered, PageKey, Sender, TraceCounts, TraceLimits, Traces};
+use hs_traces::{Added, CoreId, MakeFault, Offered, PageKey, TraceCounts, TraceLimits, Traces};
 use std::alloc::Global;
 
 /// The page of `docs/FORMATS.md` with one record of one byte: of trace 1, written by client 0 of node 0.
@@ -19,8 +19,8 @@ const LIMITS: TraceLimits = TraceLimits {
 };
 
 /// That client in this life of its node.
-fn sender(epoch: u64) -> Sender {
-    Sender {
+fn sender(epoch: u64) -> CoreId {
+    CoreId {
         node: 0,
         epoch,
         client: 0,
@@ -96,7 +96,7 @@ fn a_page_is_held_once(alloc: Global) -> Result<bool, Memory> {
 /// Bytes that are no page, and a page of another client.
 fn others_are_refused(alloc: Global) -> Result<bool, Memory> {
     let mut traces = made(alloc, LIMITS)?;
-    let other = Sender {
+    let other = CoreId {
         client: 1,
         ..sender(7)
     };

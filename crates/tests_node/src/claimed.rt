@@ -2,7 +2,7 @@
 
 use crate::rows::row;
 use hs_base::{Group, GroupId, Laterals, Memory, NodeId, NodeSet, TraceId, TriggerId};
-use hs_claimed::{Claimant, ClaimedTraces, Claiming};
+use hs_claimed::{ClaimOutcome, Claimant, ClaimedTraces};
 use hs_wire::{Losses, Standing, Wholeness};
 use std::alloc::Global;
 
@@ -82,10 +82,10 @@ fn all_or_none(alloc: Global) -> Result<bool, Memory> {
     let same = claims.len() == 3 && !claims.is_known(TWO);
     let claimed = claims.claim(led(TWO, SEVEN), &laterals(SEVEN, SEVEN));
     Ok(
-        once && known == Claiming::Known
-            && full == Claiming::Full
+        once && known == ClaimOutcome::Known
+            && full == ClaimOutcome::Full
             && same
-            && claimed == Claiming::Claimed
+            && claimed == ClaimOutcome::Claimed
             && claims.free() == 0
             && claims.is_known(TWO),
     )
@@ -196,9 +196,9 @@ fn at_limits(alloc: Global) -> Result<bool, Memory> {
     let claimed = most.claim(led(ONE, TraceId(u128::MAX)), &thirty_two());
     most.advance();
     Ok(
-        refused == Claiming::Full
+        refused == ClaimOutcome::Full
             && none.oldest().is_none()
-            && claimed == Claiming::Claimed
+            && claimed == ClaimOutcome::Claimed
             && most.free() == 0
             && is_at(&most, ONE, TraceId(0)),
     )

@@ -3,7 +3,7 @@
 
 use crate::rows::row;
 use hs_base::{GroupId, List, Memory, NodeId, TraceId, TriggerId, TriggerRule};
-use hs_inbox::{Delivered, Inbox};
+use hs_inbox::{AskDelivered, Inbox};
 use std::alloc::Global;
 
 /// Node 2 is asked for group 7 of node 3, whose trigger id is 2, and whose lead is 0x0a1b.
@@ -32,7 +32,7 @@ fn inbox(alloc: Global, node: u16, places: u32) -> Result<Inbox, Memory> {
 }
 
 /// Delivers the ask with another byte at a place.
-fn deliver(inbox: &mut Inbox, place: usize, byte: u8) -> Delivered {
+fn deliver(inbox: &mut Inbox, place: usize, byte: u8) -> AskDelivered {
     let mut ask = ASK;
     if let Some(at) = ask.get_mut(place) {
         *at = byte;
@@ -61,9 +61,9 @@ fn in_order(alloc: Global) -> Result<bool, Memory> {
     let second = is_first(&inbox, 8) && inbox.len() == 1;
     inbox.take_first();
     Ok(
-        seven == Delivered::Taken
-            && eight == Delivered::Taken
-            && nine == Delivered::Full
+        seven == AskDelivered::Taken
+            && eight == AskDelivered::Taken
+            && nine == AskDelivered::Full
             && first
             && second
             && inbox.first().is_none(),
@@ -79,11 +79,11 @@ fn refused(alloc: Global) -> Result<bool, Memory> {
     let cut = inbox.deliver(ASK.as_slice().get(..43).unwrap_or(&[]));
     let nothing = inbox.deliver(&[]);
     Ok(
-        other == Delivered::Refused
-            && undeclared == Delivered::Refused
-            && version == Delivered::Refused
-            && cut == Delivered::Refused
-            && nothing == Delivered::Refused
+        other == AskDelivered::Refused
+            && undeclared == AskDelivered::Refused
+            && version == AskDelivered::Refused
+            && cut == AskDelivered::Refused
+            && nothing == AskDelivered::Refused
             && inbox.len() == 0,
     )
 }
@@ -93,7 +93,7 @@ fn no_place(alloc: Global) -> Result<bool, Memory> {
     let mut inbox = inbox(alloc, 2, 0)?;
     let answer = deliver(&mut inbox, NUMBER, 7);
     inbox.take_first();
-    Ok(answer == Delivered::Full && inbox.first().is_none())
+    Ok(answer == AskDelivered::Full && inbox.first().is_none())
 }
 
 #[test]

@@ -3,7 +3,7 @@
 use crate::made::{Ends, ID, LEAST, make_ends};
 use crate::rows::row;
 use hs_base::{Crumb, Laterals, NodeId, NodeSet, TraceId, Trigger, TriggerId};
-use hs_node_client::{Called, ClientLimits, MakeFault, NodeClient, Pointed, SegmentState};
+use hs_node_client::{CallAnswer, ClientLimits, MakeFault, NodeClient, PointAnswer, SegmentState};
 use std::alloc::Global;
 
 /// As much as a page of 64 bytes holds.
@@ -40,8 +40,8 @@ fn does_all(client: &mut NodeClient) -> bool {
         && is_done(ended)
 }
 
-fn is_done(called: Called) -> bool {
-    matches!(called, Called::Done)
+fn is_done(called: CallAnswer) -> bool {
+    matches!(called, CallAnswer::Done)
 }
 
 /// Whether the late crumb came, and the notes that the segment begins, and where that crumb led. The note of the end found no place.
@@ -156,10 +156,10 @@ fn finds_no_trace(client: &mut NodeClient) -> bool {
     let left = client.crumb(NodeId(1));
     let sampled = client.sample(6, 0, 1);
     let ended = client.end();
-    pointed == Called::NoTrace
-        && left == Called::NoTrace
-        && sampled == Called::NoTrace
-        && ended == Called::NoTrace
+    pointed == CallAnswer::NoTrace
+        && left == CallAnswer::NoTrace
+        && sampled == CallAnswer::NoTrace
+        && ended == CallAnswer::NoTrace
         && client.counts().stray_points == 1
 }
 
@@ -168,16 +168,16 @@ fn finds_nothing(client: &mut NodeClient) -> bool {
     let late = client.crumb_of(TraceId(7), NodeId(2));
     let fired = client.trigger(&trigger_of(TriggerId(4)));
     let sampled = client.sample(6, 1, 1);
-    left == Called::Unknown
-        && late == Called::Unknown
-        && fired == Called::Unknown
-        && sampled == Called::Unknown
+    left == CallAnswer::Unknown
+        && late == CallAnswer::Unknown
+        && fired == CallAnswer::Unknown
+        && sampled == CallAnswer::Unknown
 }
 
 fn finds_a_trace(client: &mut NodeClient) -> bool {
     let first = client.begin(TraceId(1));
     let second = client.begin(TraceId(2));
-    is_done(first) && second == Called::AlreadyOpen && client.trace() == Some(TraceId(1))
+    is_done(first) && second == CallAnswer::AlreadyOpen && client.trace() == Some(TraceId(1))
 }
 
 /// The outbox has one place, and the point asks for three.
@@ -185,7 +185,7 @@ fn finds_no_place(client: &mut NodeClient) -> bool {
     let begun = client.begin(TraceId(1));
     let full = client.point(1, &THREE_PIECES);
     let counts = client.counts();
-    is_done(begun) && full == Called::Full && counts.full_points == 1 && counts.points == 0
+    is_done(begun) && full == CallAnswer::Full && counts.full_points == 1 && counts.points == 0
 }
 
 /// A point that is not done tells why.
@@ -193,7 +193,7 @@ fn tells_of_no_point(client: &mut NodeClient) -> bool {
     let stray = client.point_told(1, b"login");
     let begun = client.begin(TraceId(1));
     let full = client.point_told(1, &THREE_PIECES);
-    is_done(begun) && stray == Pointed::NoTrace && full == Pointed::Full
+    is_done(begun) && stray == PointAnswer::NoTrace && full == PointAnswer::Full
 }
 
 /// So many points of five bytes, of which each page of 64 bytes takes two: its header has 24, and each piece 10 beside its payload. How many were
@@ -202,7 +202,7 @@ fn points(client: &mut NodeClient, count: u32) -> u32 {
     let mut others = 0u32;
     for _ in 0..count {
         let pointed = client.point_told(5, b"login");
-        if pointed != Pointed::Done {
+        if pointed != PointAnswer::Done {
             others = others.saturating_add(1);
         }
     }
@@ -218,8 +218,8 @@ fn finds_the_pool_dry(client: &mut NodeClient) -> bool {
     let counts = client.counts();
     is_done(begun)
         && others == 0
-        && fifth == Pointed::Dry
-        && sixth == Pointed::Done
+        && fifth == PointAnswer::Dry
+        && sixth == PointAnswer::Done
         && counts.points == 6
         && counts.null_pages == 1
 }
@@ -229,7 +229,10 @@ fn lacks_the_last(client: &mut NodeClient) -> bool {
     let begun = client.begin(TraceId(1));
     let pointed = client.point_told(1, &THREE_PIECES);
     let more = client.point(2, &FULL);
-    is_done(begun) && pointed == Pointed::Dry && is_done(more) && client.counts().null_pages == 2
+    is_done(begun)
+        && pointed == PointAnswer::Dry
+        && is_done(more)
+        && client.counts().null_pages == 2
 }
 
 fn with_places(alloc: Global) -> Result<bool, MakeFault> {
@@ -248,7 +251,7 @@ fn drops_a_trigger(client: &mut NodeClient) -> bool {
     let third = client.trigger(&trigger_of(ID));
     is_done(first)
         && is_done(second)
-        && third == Called::Full
+        && third == CallAnswer::Full
         && client.counts().refused_triggers == 1
 }
 
@@ -352,7 +355,7 @@ fn notes_a_refused_crumb(ends: &mut Ends) -> bool {
     let opened = next_refused(ends);
     is_done(first)
         && is_done(second)
-        && third == Called::Full
+        && third == CallAnswer::Full
         && is_done(begun)
         && led == Some((0, TraceId(7), NodeSet(1)))
         && too == Some((1, TraceId(8), NodeSet(2)))

@@ -4,7 +4,7 @@ use hs_base::{AutoRule, Crumb, List, Memory, TriggerId, TriggerRule};
 use hs_link::Receiver;
 use hs_live::{AgentPort, ClientKey};
 use hs_node_client::{
-    ClientLimits, Made, MakeFault, NodeClient, Segment, SegmentKey, make_clients,
+    ClientLimits, Made, MakeFault, NodeClient, SegmentKey, SegmentNote, make_clients,
 };
 use std::alloc::Global;
 
@@ -27,7 +27,7 @@ pub const LEAST: ClientLimits = ClientLimits {
 pub struct Ends {
     pub client: NodeClient,
     pub late: Receiver<Crumb, ClientKey>,
-    pub segments: Receiver<Segment, SegmentKey>,
+    pub segments: Receiver<SegmentNote, SegmentKey>,
     pub port: AgentPort,
 }
 

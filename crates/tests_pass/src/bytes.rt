@@ -1,7 +1,7 @@
 //! The messages of the tables, and what is looked at in those that are handed out. `docs/FORMATS.md` says which byte is which.
 
 use hs_base::{Laterals, TraceId, Trigger, TriggerId};
-use hs_node_client::{Called, NodeClient};
+use hs_node_client::{CallAnswer, NodeClient};
 
 /// Two nodes with one client each, and eight buffers of 64 bytes. The bucket of the trigger id has one token, and a token comes back in a
 /// second. `docs/FORMATS.md` says which settings are which.
@@ -55,7 +55,10 @@ pub fn records(client: &mut NodeClient) -> bool {
     let pointed = client.point(5, b"login");
     let ended = client.end();
     let waits = client.flush();
-    begun == Called::Done && pointed == Called::Done && ended == Called::Done && waits == 0
+    begun == CallAnswer::Done
+        && pointed == CallAnswer::Done
+        && ended == CallAnswer::Done
+        && waits == 0
 }
 
 /// A trigger whose lead is the trace.
@@ -67,5 +70,5 @@ pub fn fires(client: &mut NodeClient) -> bool {
         laterals: Laterals::none(),
     });
     let waits = client.flush();
-    fired == Called::Done && waits == 0
+    fired == CallAnswer::Done && waits == 0
 }

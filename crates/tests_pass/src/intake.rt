@@ -4,13 +4,13 @@ use crate::bytes::{ASK, HELLO, ID, SETTINGS, STANDING, TOLD, TRACE, fires, is_me
 use crate::rows::row;
 use hs_agent::Left;
 use hs_base::{Group, GroupId, List, Memory, NodeId, NodeSet, Settings, TraceId};
-use hs_inbox::Delivered;
+use hs_inbox::AskDelivered;
 use hs_intake::{
-    Handed, Intake, MadeIntake, Parted, Stated, Stop, Took, Turned, make_intake, receive_at,
+    Handed, Intake, MadeIntake, PartedChunk, Stated, Stop, Took, Turned, make_intake, receive_at,
 };
 use hs_link::Receiver;
 use hs_mail::{Mail, Room};
-use hs_node_client::{Called, ClientLimits, NodeClient, Segment, SegmentKey, SegmentState};
+use hs_node_client::{CallAnswer, ClientLimits, NodeClient, SegmentKey, SegmentNote, SegmentState};
 use hs_settings::read_settings;
 use hs_wire::{Hello, Losses, Standing, Wholeness};
 use std::alloc::Global;
@@ -19,7 +19,7 @@ use std::alloc::Global;
 #[derive(Drop)]
 struct Parts {
     intake: Intake,
-    segments: List<Receiver<Segment, SegmentKey>>,
+    segments: List<Receiver<SegmentNote, SegmentKey>>,
     client: NodeClient,
 }
 
@@ -141,10 +141,10 @@ fn leaves_crumbs(client: &mut NodeClient) -> bool {
     let ended = client.end();
     let late = client.crumb_of(TraceId(8), NodeId(1));
     let waits = client.flush();
-    begun == Called::Done
-        && left == Called::Done
-        && ended == Called::Done
-        && late == Called::Done
+    begun == CallAnswer::Done
+        && left == CallAnswer::Done
+        && ended == CallAnswer::Done
+        && late == CallAnswer::Done
         && waits == 0
 }
 
@@ -196,7 +196,7 @@ fn gives(parts: &mut Parts) -> bool {
     pinned
         && handed
             == Handed::Offered {
-                parted: Some(Parted {
+                parted: Some(PartedChunk {
                     trace: TRACE,
                     client: 0,
                     core: 0,
@@ -243,7 +243,7 @@ fn answers(parts: &mut Parts) -> bool {
     let free = parts.intake.take_back();
     let took = parts.intake.take_asks();
     parts.intake.say();
-    delivered == Delivered::Taken
+    delivered == AskDelivered::Taken
         && free
         && took == ONE
         && hands_out(&mut parts.intake, 0, TOLD, 43, 1)
@@ -270,18 +270,18 @@ fn receives(parts: &mut Parts) -> bool {
     let waits = parts.client.flush();
     let note = next_note(&mut parts.segments);
     let none = next_note(&mut parts.segments).is_none();
-    begun == Called::Done && waits == 0 && none && is_begin(&note)
+    begun == CallAnswer::Done && waits == 0 && none && is_begin(&note)
 }
 
 /// The next note of client 0.
-fn next_note(segments: &mut List<Receiver<Segment, SegmentKey>>) -> Option<Segment> {
+fn next_note(segments: &mut List<Receiver<SegmentNote, SegmentKey>>) -> Option<SegmentNote> {
     if segments.len() == 0 {
         return None;
     }
     receive_at(segments, 0)
 }
 
-fn is_begin(note: &Option<Segment>) -> bool {
+fn is_begin(note: &Option<SegmentNote>) -> bool {
     match note {
         Some(segment) => {
             segment.number == 0

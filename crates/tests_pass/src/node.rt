@@ -3,7 +3,7 @@
 use crate::bytes::{ASK, HELLO, REPORTED, SETTINGS, STANDING, TOLD, fires, is_message, records};
 use crate::rows::row;
 use hs_base::Memory;
-use hs_inbox::Delivered;
+use hs_inbox::AskDelivered;
 use hs_node::{MadeNode, Node, NodeFault, Passed, make_node};
 use hs_node_client::NodeClient;
 use hs_wire::Hello;
@@ -82,7 +82,7 @@ fn answers(pair: &mut Pair) -> bool {
     let delivered = pair.node.deliver(&ASK);
     let silent = pair.node.next().is_none();
     let passed = pair.node.pass();
-    delivered == Delivered::Taken
+    delivered == AskDelivered::Taken
         && silent
         && passed == Passed::Done
         && hands_out(&mut pair.node, 0, TOLD, 43, 1)

@@ -3,7 +3,7 @@
 
 use crate::rows::row;
 use hs_base::{GroupId, Memory, NodeSet, TraceId};
-use hs_whole::{Loss, MakeFault, NoteLimits, Noted, PageName, SegmentNotes, SegmentReport};
+use hs_whole::{Loss, MakeFault, NoteLimits, NoteOutcome, PageName, SegmentNotes, SegmentReport};
 use hs_wire::{Losses, Standing, Wholeness};
 use std::alloc::Global;
 
@@ -89,9 +89,9 @@ fn in_order(alloc: Global) -> Result<bool, Memory> {
     notes.handed_out(NINE, 0, page(0));
     Ok(
         unheard
-            && opened == Noted::Kept
+            && opened == NoteOutcome::Kept
             && open
-            && closed == Noted::Kept
+            && closed == NoteOutcome::Kept
             && unknown
             && one_out
             && standing(&notes, NINE).pages == 2
@@ -167,7 +167,7 @@ fn no_place(alloc: Global) -> Result<bool, Memory> {
     let mut notes = full(alloc)?;
     let answer = notes.opened(0, 2, SEVEN, page(2))?;
     Ok(
-        answer == Noted::Full
+        answer == NoteOutcome::Full
             && says(&notes, NINE, Wholeness::Unknown, 0, 2)
             && says(&notes, EIGHT, Wholeness::Open, 1, 2)
             && says(&notes, SEVEN, Wholeness::UnheardSince, 0, 2)
@@ -182,7 +182,7 @@ fn place_again(alloc: Global) -> Result<bool, Memory> {
     notes.lost(NINE, Loss::EvictedPages, 1);
     let answer = notes.opened(0, 2, SEVEN, page(2))?;
     Ok(
-        answer == Noted::Kept
+        answer == NoteOutcome::Kept
             && says(&notes, NINE, Wholeness::UnheardSince, 0, 2)
             && says(&notes, EIGHT, Wholeness::Open, 1, 2)
             && says(&notes, SEVEN, Wholeness::Open, 1, 2),
@@ -196,7 +196,7 @@ fn ends_unheard(alloc: Global) -> Result<bool, Memory> {
     let doubtful = says(&notes, NINE, Wholeness::Unknown, 0, 0);
     notes.opened(1, 0, EIGHT, page(0))?;
     let answer = notes.opened(0, 2, SEVEN, page(3))?;
-    Ok(doubtful && answer == Noted::Kept && notes.kept(NINE).is_none())
+    Ok(doubtful && answer == NoteOutcome::Kept && notes.kept(NINE).is_none())
 }
 
 /// Nothing lost but what is named.
@@ -309,7 +309,7 @@ fn led_before(alloc: Global) -> Result<bool, Memory> {
     notes.opened(0, 1, EIGHT, page(0))?;
     notes.closed(0, 2, EIGHT, page(0), &sent(0))?;
     let whole = says(&notes, EIGHT, Wholeness::WholeSince, 0, 0);
-    Ok(kept == Noted::Kept && unheard && whole && notes.crumbs(EIGHT) == NodeSet(2))
+    Ok(kept == NoteOutcome::Kept && unheard && whole && notes.crumbs(EIGHT) == NodeSet(2))
 }
 
 /// There is no client 2, so that a note of it is a missed one.
@@ -318,8 +318,8 @@ fn refused(alloc: Global) -> Result<bool, Memory> {
     let opened = notes.opened(2, 0, EIGHT, page(0))?;
     let closed = notes.closed(u16::MAX, 1, EIGHT, page(0), &sent(0))?;
     Ok(
-        opened == Noted::Refused
-            && closed == Noted::Refused
+        opened == NoteOutcome::Refused
+            && closed == NoteOutcome::Refused
             && says(&notes, NINE, Wholeness::WholeSince, 0, 1)
             && notes.kept(EIGHT).is_none(),
     )
@@ -337,7 +337,7 @@ fn limits(alloc: Global) -> bool {
 }
 
 /// What the last client's first note becomes, where there are so many clients.
-fn first_note(alloc: Global, clients: u16, client: u16) -> Result<Noted, Memory> {
+fn first_note(alloc: Global, clients: u16, client: u16) -> Result<NoteOutcome, Memory> {
     let Ok(mut notes) = with_limits(alloc, clients, 1) else {
         return Err(Memory);
     };
@@ -348,7 +348,7 @@ fn first_note(alloc: Global, clients: u16, client: u16) -> Result<Noted, Memory>
 fn at_limits(alloc: Global) -> Result<bool, Memory> {
     let most = first_note(alloc, 256, 255)?;
     let least = first_note(alloc, 0, 0)?;
-    Ok(most == Noted::Kept && least == Noted::Refused)
+    Ok(most == NoteOutcome::Kept && least == NoteOutcome::Refused)
 }
 
 /// Pages that are handed out while their segment is open count.
@@ -485,7 +485,7 @@ fn refused_crumb(alloc: Global) -> Result<bool, Memory> {
     let answer = notes.refused(0, 2, NINE)?;
     let said = standing(&notes, NINE);
     notes.opened(0, 3, EIGHT, page(2))?;
-    let lost = answer == Noted::Kept
+    let lost = answer == NoteOutcome::Kept
         && said.wholeness == Wholeness::Lost
         && said.losses == LOST_CRUMB;
     Ok(lost && says(&notes, NINE, Wholeness::Lost, 0, 0))
@@ -500,7 +500,7 @@ fn unheard_crumb(alloc: Global) -> Result<bool, Memory> {
     notes.closed(0, 2, NINE, page(1), &sent(1))?;
     let lost = says(&notes, EIGHT, Wholeness::Lost, 0, 0)
         && standing(&notes, EIGHT).losses == LOST_CRUMB;
-    Ok(answer == Noted::Kept && lost && says(&notes, NINE, Wholeness::WholeSince, 0, 0))
+    Ok(answer == NoteOutcome::Kept && lost && says(&notes, NINE, Wholeness::WholeSince, 0, 0))
 }
 
 /// Note 1 of client 0 was missed before it refused a crumb: it may have ended the segment of trace 9.
@@ -520,8 +520,8 @@ fn crumb_missed(alloc: Global) -> Result<bool, Memory> {
     let nobody = notes.refused(2, 0, NINE)?;
     let answer = notes.refused(0, 2, SEVEN)?;
     Ok(
-        nobody == Noted::Refused
-            && answer == Noted::Full
+        nobody == NoteOutcome::Refused
+            && answer == NoteOutcome::Full
             && says(&notes, SEVEN, Wholeness::UnheardSince, 0, 2),
     )
 }

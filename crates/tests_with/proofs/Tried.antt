@@ -6,7 +6,7 @@ use Rattle.hs_base.specs.Rules.{is_declared}
 use Rattle.hs_law_agent.specs.State.{start as begin}
 use Rattle.hs_law_agent.specs.Stepping.{Input, Took}
 use Rattle.hs_agent.specs.Keeping.{PlainAgent}
-use Rattle.hs_agent.specs.Runs.{Run, Follows, IsSpent}
+use Rattle.hs_agent.specs.Runs.{AgentRun, Follows, IsSpent}
 use Rattle.tests_with.specs.Ready.{first_id, IsRested, IsReady}
 
 unspent : (b : Bool) → (b ≡ true → false ≡ true) → b ≡ false
@@ -15,7 +15,7 @@ unspent false f = refl
 
 module _ {L : Type 0} where
   -- one event more
-  pub rested_more : (events : ℕ) (run next : Run L) (input : Input) → next.settings ≡ run.settings → next.node ≡ run.node → next.start ≡ run.start → next.offered ≡ run.offered → next.events ≡ run.events ++ Took input ∷ []
+  pub rested_more : (events : ℕ) (run next : AgentRun L) (input : Input) → next.settings ≡ run.settings → next.node ≡ run.node → next.start ≡ run.start → next.offered ≡ run.offered → next.events ≡ run.events ++ Took input ∷ []
       → IsRested events run → IsRested (events + 1) next
   rested_more events run next input settings node start offered more h =
       let few = h.few in
@@ -32,9 +32,9 @@ module _ {L : Type 0} where
         offered = offered ∙ h.offered;
       }
 
-  pub ready_after : {A E : Type 0} (r : Result A E) (events : ℕ) (old new : PlainAgent L) (next : Run L → Run L) → IsReady events old
-      → ((run : Run L) → Follows old run → OnOk r (Follows new (next run))) → OnErr r (new ≡ old) → (IsSpent old → IsErr r)
-      → ((run : Run L) → IsRested events run → IsRested (events + 1) (next run)) → IsReady (events + 1) new
+  pub ready_after : {A E : Type 0} (r : Result A E) (events : ℕ) (old new : PlainAgent L) (next : AgentRun L → AgentRun L) → IsReady events old
+      → ((run : AgentRun L) → Follows old run → OnOk r (Follows new (next run))) → OnErr r (new ≡ old) → (IsSpent old → IsErr r)
+      → ((run : AgentRun L) → IsRested events run → IsRested (events + 1) (next run)) → IsReady (events + 1) new
   ready_after (Ok a) events old new next ready after same stays rest = λ working.
       let known = ready (unspent old.spent stays) in
       (next known.0, after known.0 known.1, rest known.0 known.2)

@@ -9,20 +9,20 @@ use Rattle.hs_agent.specs.declared.input.Input.{Input}
 use Rattle.hs_agent.specs.declared.input.Input.TheVariants as inputs
 use Rattle.hs_agent.specs.Keeping.{PlainAgent}
 use Rattle.hs_agent.specs.Points.{sheet_in}
-use Rattle.hs_agent.specs.Runs.{Run, Knows}
+use Rattle.hs_agent.specs.Runs.{AgentRun, Knows}
 use Rattle.hs_law_agent.specs.State.{start}
 
 abbrev pub first_id : TriggerId
 first_id = record { 0 = 1 }
 
-pub record IsOfSite {L : Type 0} (run : Run L) : Type 0 where
+pub record IsOfSite {L : Type 0} (run : AgentRun L) : Type 0 where
   pub node : run.node ≡ 0
   pub size : run.settings.size ≡ MIN_SIZE
   pub nodes : run.settings.nodes ≡ MAX_NODES
   pub declared : is_declared run.settings.triggers first_id ≡ true
   pub begins : run.start ≡ start run.settings
 
-pub record IsRested {L : Type 0} (events : ℕ) (run : Run L) : Type 0 where
+pub record IsRested {L : Type 0} (events : ℕ) (run : AgentRun L) : Type 0 where
   pub site : IsOfSite run
   pub few : length run.events ≤ events
   pub offered : run.offered ≡ None
@@ -31,7 +31,7 @@ abbrev pub IsReady : {L : Type 0} → ℕ → PlainAgent L → Type 0
 IsReady events agent = Knows agent (IsRested events)
 
 -- and with one chunk out
-pub record IsWaiting {L : Type 0} (events : ℕ) (run : Run L) : Type 0 where
+pub record IsWaiting {L : Type 0} (events : ℕ) (run : AgentRun L) : Type 0 where
   pub site : IsOfSite run
   pub few : length run.events ≤ events
   pub offered : IsSome run.offered

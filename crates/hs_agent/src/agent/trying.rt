@@ -4,7 +4,7 @@ ghost use Rattle.std.specs.Prelude.{◌≡◌, ◌+◌, ◌<◌, ◌^◌, true, 
 ghost use Rattle.hs_base.specs.Rules.{is_declared};
 ghost use Rattle.hs_words.specs.Buffers.{buffer_of};
 ghost use Rattle.hs_law_agent.specs.Stepping.{Crumbed, Triggered, Asked, told_by};
-ghost use Rattle.hs_agent.specs.Runs.{Run, state_of, Follows, Knows, IsSpent, IsChunkFor, after_chunk};
+ghost use Rattle.hs_agent.specs.Runs.{AgentRun, state_of, Follows, Knows, IsSpent, IsChunkFor, after_chunk};
 ghost use Rattle.hs_agent.specs.Tries.{after_crumb, after_trigger, after_ask};
 
 use super::{Agent, note, room_for};
@@ -18,7 +18,7 @@ impl<L: Token> Agent<L> {
     /// back, and nothing changes.
     pub fn try_chunk(&mut self, client: u16, held: Held<L>) -> Result<(), Held<L>>
         requires { Knows self.old (λ run. IsChunkFor run.settings run.node client (buffer_of held)) }
-        ensures after { (run : Run L) → Follows self.old run → OnOk result (Follows self.new (after_chunk run client (buffer_of held))) }
+        ensures after { (run : AgentRun L) → Follows self.old run → OnOk result (Follows self.new (after_chunk run client (buffer_of held))) }
         ensures same { OnErr result (self.new ≡ self.old) }
         ensures back { IfErr result (λ back. buffer_of back ≡ buffer_of held) }
         ensures stays { IsSpent self.old → IsErr result }
@@ -31,8 +31,8 @@ impl<L: Token> Agent<L> {
 
     /// Takes a chunk where memory was never wanting.
     fn note_chunk(&mut self, client: u16, held: Held<L>) -> Result<(), Held<L>>
-        requires { (run : Run L) × Follows self.old run × IsChunkFor run.settings run.node client (buffer_of held) }
-        ensures after { (run : Run L) → Follows self.old run → OnOk result (Follows self.new (after_chunk run client (buffer_of held))) }
+        requires { (run : AgentRun L) × Follows self.old run × IsChunkFor run.settings run.node client (buffer_of held) }
+        ensures after { (run : AgentRun L) → Follows self.old run → OnOk result (Follows self.new (after_chunk run client (buffer_of held))) }
         ensures same { OnErr result (self.new ≡ self.old) }
         ensures back { IfErr result (λ back. buffer_of back ≡ buffer_of held) }
     {
@@ -49,8 +49,8 @@ impl<L: Token> Agent<L> {
     /// asked for first: where it is wanting nothing changes.
     pub fn try_crumb(&mut self, client: u16, crumb: Crumb) -> Result<Option<Told>, Memory>
         requires { Knows self.old (λ run. crumb.node.0 < run.settings.nodes) }
-        ensures told { (run : Run L) → Follows self.old run → IfOk result (λ told. told ≡ told_by run.settings run.node (state_of run) (Crumbed client crumb)) }
-        ensures after { (run : Run L) → Follows self.old run → OnOk result (Follows self.new (after_crumb run client crumb)) }
+        ensures told { (run : AgentRun L) → Follows self.old run → IfOk result (λ told. told ≡ told_by run.settings run.node (state_of run) (Crumbed client crumb)) }
+        ensures after { (run : AgentRun L) → Follows self.old run → OnOk result (Follows self.new (after_crumb run client crumb)) }
         ensures same { OnErr result (self.new ≡ self.old) }
         ensures stays { IsSpent self.old → IsErr result }
     {
@@ -62,9 +62,9 @@ impl<L: Token> Agent<L> {
 
     /// Takes a crumb where memory was never wanting.
     fn note_crumb(&mut self, client: u16, crumb: Crumb) -> Result<Option<Told>, Memory>
-        requires { (run : Run L) × Follows self.old run × (crumb.node.0 < run.settings.nodes) }
-        ensures told { (run : Run L) → Follows self.old run → IfOk result (λ told. told ≡ told_by run.settings run.node (state_of run) (Crumbed client crumb)) }
-        ensures after { (run : Run L) → Follows self.old run → OnOk result (Follows self.new (after_crumb run client crumb)) }
+        requires { (run : AgentRun L) × Follows self.old run × (crumb.node.0 < run.settings.nodes) }
+        ensures told { (run : AgentRun L) → Follows self.old run → IfOk result (λ told. told ≡ told_by run.settings run.node (state_of run) (Crumbed client crumb)) }
+        ensures after { (run : AgentRun L) → Follows self.old run → OnOk result (Follows self.new (after_crumb run client crumb)) }
         ensures same { OnErr result (self.new ≡ self.old) }
     {
         events_lead_on();
@@ -78,8 +78,8 @@ impl<L: Token> Agent<L> {
     /// is asked for first: where it is wanting nothing changes, so that the trigger may come again.
     pub fn try_trigger(&mut self, client: u16, trigger: &Trigger) -> Result<Option<Told>, Memory>
         requires { Knows self.old (λ run. (is_declared run.settings.triggers trigger.now.trigger ≡ true) × ((state_of run).admitted + 1 < 2 ^ 32)) }
-        ensures told { (run : Run L) → Follows self.old run → IfOk result (λ told. told ≡ told_by run.settings run.node (state_of run) (Triggered client trigger.now)) }
-        ensures after { (run : Run L) → Follows self.old run → OnOk result (Follows self.new (after_trigger run client trigger.now)) }
+        ensures told { (run : AgentRun L) → Follows self.old run → IfOk result (λ told. told ≡ told_by run.settings run.node (state_of run) (Triggered client trigger.now)) }
+        ensures after { (run : AgentRun L) → Follows self.old run → OnOk result (Follows self.new (after_trigger run client trigger.now)) }
         ensures same { OnErr result (self.new ≡ self.old) }
         ensures stays { IsSpent self.old → IsErr result }
     {
@@ -91,9 +91,9 @@ impl<L: Token> Agent<L> {
 
     /// Takes a trigger where memory was never wanting.
     fn note_trigger(&mut self, client: u16, trigger: &Trigger) -> Result<Option<Told>, Memory>
-        requires { (run : Run L) × Follows self.old run × ((is_declared run.settings.triggers trigger.now.trigger ≡ true) × ((state_of run).admitted + 1 < 2 ^ 32)) }
-        ensures told { (run : Run L) → Follows self.old run → IfOk result (λ told. told ≡ told_by run.settings run.node (state_of run) (Triggered client trigger.now)) }
-        ensures after { (run : Run L) → Follows self.old run → OnOk result (Follows self.new (after_trigger run client trigger.now)) }
+        requires { (run : AgentRun L) × Follows self.old run × ((is_declared run.settings.triggers trigger.now.trigger ≡ true) × ((state_of run).admitted + 1 < 2 ^ 32)) }
+        ensures told { (run : AgentRun L) → Follows self.old run → IfOk result (λ told. told ≡ told_by run.settings run.node (state_of run) (Triggered client trigger.now)) }
+        ensures after { (run : AgentRun L) → Follows self.old run → OnOk result (Follows self.new (after_trigger run client trigger.now)) }
         ensures same { OnErr result (self.new ≡ self.old) }
     {
         events_lead_on();
@@ -107,8 +107,8 @@ impl<L: Token> Agent<L> {
     /// first: where it is wanting nothing changes, so that the ask may come again.
     pub fn try_ask(&mut self, ask: &Ask) -> Result<Told, Memory>
         requires { Knows self.old (λ run. is_declared run.settings.triggers ask.now.group.trigger ≡ true) }
-        ensures told { (run : Run L) → Follows self.old run → IfOk result (λ told. Some told ≡ told_by run.settings run.node (state_of run) (Asked ask.now)) }
-        ensures after { (run : Run L) → Follows self.old run → OnOk result (Follows self.new (after_ask run ask.now)) }
+        ensures told { (run : AgentRun L) → Follows self.old run → IfOk result (λ told. Some told ≡ told_by run.settings run.node (state_of run) (Asked ask.now)) }
+        ensures after { (run : AgentRun L) → Follows self.old run → OnOk result (Follows self.new (after_ask run ask.now)) }
         ensures same { OnErr result (self.new ≡ self.old) }
         ensures stays { IsSpent self.old → IsErr result }
     {
@@ -120,9 +120,9 @@ impl<L: Token> Agent<L> {
 
     /// Takes an ask where memory was never wanting.
     fn note_ask(&mut self, ask: &Ask) -> Result<Told, Memory>
-        requires { (run : Run L) × Follows self.old run × (is_declared run.settings.triggers ask.now.group.trigger ≡ true) }
-        ensures told { (run : Run L) → Follows self.old run → IfOk result (λ told. Some told ≡ told_by run.settings run.node (state_of run) (Asked ask.now)) }
-        ensures after { (run : Run L) → Follows self.old run → OnOk result (Follows self.new (after_ask run ask.now)) }
+        requires { (run : AgentRun L) × Follows self.old run × (is_declared run.settings.triggers ask.now.group.trigger ≡ true) }
+        ensures told { (run : AgentRun L) → Follows self.old run → IfOk result (λ told. Some told ≡ told_by run.settings run.node (state_of run) (Asked ask.now)) }
+        ensures after { (run : AgentRun L) → Follows self.old run → OnOk result (Follows self.new (after_ask run ask.now)) }
         ensures same { OnErr result (self.new ≡ self.old) }
     {
         events_lead_on();

@@ -16,9 +16,9 @@ ghost use Rattle.hs_agent.specs.Trying.{lefts_noted, ComesToPins};
 ghost use Rattle.hs_agent.specs.Points.{chunk_taken};
 
 use super::{Holdings, apart, with_place};
-use crate::hand::{Leave, Left, Mark, Parting};
+use crate::chunk_notes::ChunkNotes;
+use crate::hand::{ChunkNote, Leave, Left, Parting};
 use crate::placed::{ArrivalPlace, Tagged};
-use crate::standings::Standings;
 use hs_base::List;
 use hs_index::Gone;
 use hs_pins::Dropped;
@@ -70,7 +70,7 @@ impl<L: Token> Holdings<L> {
         match self.index.arrive(with_place(place, held)) {
             Err(back) => Err(apart(back).0),
             Ok(gone) => {
-                self.standings.push(Mark {
+                self.standings.push(ChunkNote {
                     client: header.client,
                     page: header.page,
                     left: None,
@@ -105,7 +105,7 @@ impl<L: Token> Holdings<L> {
         match self.pins.receive(with_place(place, held)) {
             Err(back) => Err(apart(back).0),
             Ok(gone) => {
-                self.standings.push(Mark {
+                self.standings.push(ChunkNote {
                     client: header.client,
                     page: header.page,
                     left: None,
@@ -119,7 +119,7 @@ impl<L: Token> Holdings<L> {
 
 /// Notes that the index evicted these, and puts them last into the hand, which has room for them.
 pub(super) fn evict_into<L: Token>(
-    standings: &mut Standings,
+    standings: &mut ChunkNotes,
     hand: &mut VecDeque<Parting<L>>,
     gone: List<Gone<Tagged<L>>>,
 )
@@ -145,7 +145,7 @@ pub(super) fn evict_into<L: Token>(
 
 /// Notes that these were abandoned with their groups, and puts them last into the hand, which has room for them.
 pub(super) fn drop_into<L: Token>(
-    standings: &mut Standings,
+    standings: &mut ChunkNotes,
     hand: &mut VecDeque<Parting<L>>,
     gone: List<Dropped<Tagged<L>>>,
 )
@@ -168,7 +168,7 @@ pub(super) fn drop_into<L: Token>(
 /// The place of the next chunk, where so many wait, with room to note the chunk, and in the hand for so many to go. `None`
 /// where memory is wanting, where too many wait to count one more, or where there are no places any more.
 fn next_place<L: Token>(
-    standings: &mut Standings,
+    standings: &mut ChunkNotes,
     hand: &mut VecDeque<Parting<L>>,
     waiting: u64,
     going: usize,

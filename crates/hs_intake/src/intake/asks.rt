@@ -2,7 +2,7 @@
 
 ghost use Rattle.std.specs.Prelude.{◌≡◌};
 ghost use Rattle.hs_ring.specs.Parts.{Leased};
-ghost use Rattle.hs_agent.specs.Runs.{Run};
+ghost use Rattle.hs_agent.specs.Runs.{AgentRun};
 ghost use Rattle.hs_inbox.specs.Delivering.{Delivers};
 ghost use Rattle.hs_intake.specs.Intakes.{Stands};
 ghost use Rattle.hs_intake.specs.Taking.{TakesAsk, TakesAsks};
@@ -10,11 +10,11 @@ ghost use Rattle.hs_intake.specs.Taking.{TakesAsk, TakesAsks};
 use super::{Intake, enter, say};
 use crate::took::{Next, Stop, Took};
 use hs_base::limits::MAX_TAKEN;
-use hs_inbox::Delivered;
+use hs_inbox::AskDelivered;
 
 impl Intake {
     /// Delivers a message. It waits behind all others if it asks this node for a declared trigger id, and a place is free.
-    pub fn deliver(&mut self, bytes: &[u8]) -> Delivered
+    pub fn deliver(&mut self, bytes: &[u8]) -> AskDelivered
         ensures delivers { Delivers self.old.inbox bytes.now result self.new.inbox }
         ensures only { self.new ≡ record self.old { inbox = self.new.inbox } }
     {
@@ -24,7 +24,7 @@ impl Intake {
     /// The agent takes the ask that waits for longest, if one waits, a word has a place, and so has each
     /// trace that it may claim. What it claims is claimed, and what the agent tells is said.
     fn take_ask(&mut self) -> Next
-        ensures { (run : Run Leased) → Stands run self.old → TakesAsk run self.old result self.new }
+        ensures { (run : AgentRun Leased) → Stands run self.old → TakesAsk run self.old result self.new }
     {
         if self.is_mute() {
             return Next::Stopped(Stop::Words);
@@ -51,7 +51,7 @@ impl Intake {
     /// The agent takes the asks that wait, the oldest first, at most 64, while words and claims have a place. One for which
     /// memory is wanting waits on.
     pub fn take_asks(&mut self) -> Took
-        ensures { (run : Run Leased) → Stands run self.old → TakesAsks run self.old result self.new }
+        ensures { (run : AgentRun Leased) → Stands run self.old → TakesAsks run self.old result self.new }
     {
         for count in 0..MAX_TAKEN {
             if let Next::Stopped(stop) = self.take_ask() {

@@ -2,7 +2,7 @@
 
 ghost use Rattle.std.specs.Prelude.{◌≡◌, length};
 ghost use Rattle.hs_ring.specs.Parts.{Leased};
-ghost use Rattle.hs_agent.specs.Runs.{Run, state_of};
+ghost use Rattle.hs_agent.specs.Runs.{AgentRun, state_of};
 ghost use Rattle.hs_claimed.specs.Claims.{advanced};
 ghost use Rattle.hs_intake.specs.Intakes.{Stands};
 ghost use Rattle.hs_intake.specs.Taking.{ForgetsOldest, StatesIt, is_heard_by, is_idle_in};
@@ -32,7 +32,7 @@ impl Intake {
 
     /// How many chunks are in the hand.
     pub fn in_hand(&self) -> usize
-        ensures { (run : Run Leased) → Stands run self.now → result ≡ length (state_of run).hand }
+        ensures { (run : AgentRun Leased) → Stands run self.now → result ≡ length (state_of run).hand }
     {
         self.agent.in_hand()
     }
@@ -64,7 +64,7 @@ impl Intake {
 
     /// Whether nothing is under way for the group that claimed first: nothing waits to be said or is in the hand.
     fn is_idle(&self) -> bool
-        ensures { (run : Run Leased) → Stands run self.now → result ≡ is_idle_in run self.now }
+        ensures { (run : AgentRun Leased) → Stands run self.now → result ≡ is_idle_in run self.now }
     {
         self.unsaid.is_none() && self.agent.in_hand() == 0
     }
@@ -72,7 +72,7 @@ impl Intake {
     /// Forgets the group that claimed first, if no chunk is pinned for it or in the hand, nothing waits to be said, and each message that
     /// speaks of it is acknowledged. Answers whether it did.
     pub fn forget_oldest(&mut self) -> bool
-        ensures { (run : Run Leased) → Stands run self.old → ForgetsOldest run self.old result self.new }
+        ensures { (run : AgentRun Leased) → Stands run self.old → ForgetsOldest run self.old result self.new }
     {
         let Some(one) = self.claims.oldest() else {
             return false;

@@ -3,14 +3,14 @@
 ghost use Rattle.std.specs.Prelude.{◌≡◌, IfSome, IsSome, IfOk, OnErr, None};
 ghost use Rattle.hs_claimed.specs.Claims.{after_spoke};
 ghost use Rattle.hs_ring.specs.Parts.{Leased};
-ghost use Rattle.hs_agent.specs.Runs.{Run, Follows, Knows, state_of, first_place, answer_of};
+ghost use Rattle.hs_agent.specs.Runs.{AgentRun, Follows, Knows, state_of, first_place, answer_of};
 ghost use Rattle.hs_wire.specs.Messages.{SaysReported};
 ghost use Rattle.hs_mail.specs.Letters.{Posts};
 ghost use Rattle.hs_intake.specs.Intakes.{Stands};
 ghost use Rattle.hs_intake.specs.Handing.{page_of, say_by, handed_by, is_given, SaysFirst, GivesFirst, HandsOut};
 
 use super::Intake;
-use crate::took::{Handed, Parted, Say};
+use crate::took::{Handed, PartedChunk, Say};
 use hs_agent::{Agent, Left};
 use hs_base::Group;
 use hs_claimed::ClaimedTraces;
@@ -22,8 +22,8 @@ use hs_words::{Chunk, Given};
 impl Intake {
     /// Offers the first of the hand to the pool. Answers whether it took the buffer; `None` where memory was wanting.
     fn give_first(&mut self) -> Option<bool>
-        requires { (run : Run Leased) → Stands run self.old → IsSome (first_place (state_of run)) }
-        ensures { (run : Run Leased) → Stands run self.old → GivesFirst run self.old result self.new }
+        requires { (run : AgentRun Leased) → Stands run self.old → IsSome (first_place (state_of run)) }
+        ensures { (run : AgentRun Leased) → Stands run self.old → GivesFirst run self.old result self.new }
     {
         let Ok(offered) = self.agent.offer() else {
             return None;
@@ -41,7 +41,7 @@ impl Intake {
     /// whether the pool took the buffer, and if not a later call offers it again; `Empty` and `Spent` are of an empty hand and of
     /// an agent that is spent.
     pub fn hand_out(&mut self) -> Handed
-        ensures { (run : Run Leased) → Stands run self.old → HandsOut run self.old result self.new }
+        ensures { (run : AgentRun Leased) → Stands run self.old → HandsOut run self.old result self.new }
     {
         match say_first(&self.agent, &mut self.mail, &mut self.claims) {
             Say::Nothing => Handed::Empty,
@@ -53,7 +53,7 @@ impl Intake {
 }
 
 /// What the call answers where the pool took the buffer or did not.
-fn handed_by(parted: Option<Parted>, was_given: Option<bool>) -> Handed
+fn handed_by(parted: Option<PartedChunk>, was_given: Option<bool>) -> Handed
     ensures { result ≡ handed_by parted was_given }
 {
     match was_given {
@@ -99,14 +99,14 @@ fn post(
 }
 
 /// What is said of a reported chunk, where its page was posted or not.
-fn say_by(parted: Parted, posted: Result<u64, Unposted>) -> Say
+fn say_by(parted: PartedChunk, posted: Result<u64, Unposted>) -> Say
     ensures { result ≡ say_by parted posted }
 {
     match posted {
         Ok(_) => Say::Parted(parted),
         Err(Unposted::Full) => Say::Waits(Unposted::Full),
         Err(Unposted::Ended) => Say::Waits(Unposted::Ended),
-        Err(fault) => Say::Parted(Parted {
+        Err(fault) => Say::Parted(PartedChunk {
             unposted: Some(fault),
             ..parted
         }),
@@ -116,7 +116,7 @@ fn say_by(parted: Parted, posted: Result<u64, Unposted>) -> Say
 /// Says why the first of the hand left, unless it was said before.
 fn say_first(agent: &Agent<Lease>, mail: &mut Mail, claims: &mut ClaimedTraces) -> Say
     requires { Knows agent.now (λ run. run.offered ≡ None) }
-    ensures { (run : Run Leased) → Follows agent.now run → run.offered ≡ None
+    ensures { (run : AgentRun Leased) → Follows agent.now run → run.offered ≡ None
         → SaysFirst run (record { mail = mail.old; claims = claims.old }) result (record { mail = mail.new; claims = claims.new }) }
 {
     let Some(first) = agent.first() else {
@@ -128,7 +128,7 @@ fn say_first(agent: &Agent<Lease>, mail: &mut Mail, claims: &mut ClaimedTraces) 
     let Some(header) = first.chunk.header() else {
         unreachable!()
     };
-    let parted = Parted {
+    let parted = PartedChunk {
         trace: header.trace,
         client: header.client.number,
         core: first.lease.mark(),

@@ -2,7 +2,7 @@
 
 ghost use Rattle.std.specs.Prelude.{◌≡◌, ◌<◌, None};
 ghost use Rattle.hs_ring.specs.Parts.{Leased};
-ghost use Rattle.hs_agent.specs.Runs.{Run};
+ghost use Rattle.hs_agent.specs.Runs.{AgentRun};
 ghost use Rattle.hs_intake.specs.Intakes.{Stands, late_line};
 ghost use Rattle.hs_intake.specs.declared.took.Next.TheVariants.{Taken};
 ghost use Rattle.hs_intake.specs.Taking.{TakesNext, TakesMany, TakesLine};
@@ -17,7 +17,7 @@ impl Intake {
     fn take_late(&mut self, client: u16) -> Next
         requires low { client < self.old.clients }
         requires front { self.old.back ≡ None }
-        ensures next { (run : Run Leased) → Stands run self.old → TakesNext run late_line client self.old result self.new }
+        ensures next { (run : AgentRun Leased) → Stands run self.old → TakesNext run late_line client self.old result self.new }
         ensures clients { self.new.clients ≡ self.old.clients }
         ensures taken { result ≡ Taken → self.new.back ≡ None }
     {
@@ -44,7 +44,7 @@ impl Intake {
     fn take_lates(&mut self, client: u16) -> Took
         requires low { client < self.old.clients }
         requires front { self.old.back ≡ None }
-        ensures takes { (run : Run Leased) → Stands run self.old → TakesMany run late_line client self.old result self.new }
+        ensures takes { (run : AgentRun Leased) → Stands run self.old → TakesMany run late_line client self.old result self.new }
         ensures clients { self.new.clients ≡ self.old.clients }
     {
         for count in 0..MAX_TAKEN {
@@ -61,7 +61,7 @@ impl Intake {
     /// The agent takes the crumbs of a client that it sent of traces that need not be open and that have come, at most 64, while words have
     /// a place. There is no more of a client that is not there, and while something waits at the front nothing is taken.
     pub fn late_crumbs_of(&mut self, client: u16) -> Took
-        ensures { (run : Run Leased) → Stands run self.old → TakesLine run late_line client self.old result self.new }
+        ensures { (run : AgentRun Leased) → Stands run self.old → TakesLine run late_line client self.old result self.new }
     {
         if client >= self.clients {
             return Took::none(Stop::Empty);

@@ -3,7 +3,7 @@
 ghost use Rattle.std.specs.Prelude.{◌≡◌, ◌<◌, Bool, true, false, None, IfOk, OnOk, OnErr};
 ghost use Rattle.hs_base.specs.Rules.{is_declared};
 ghost use Rattle.hs_ring.specs.Parts.{Leased};
-ghost use Rattle.hs_agent.specs.Runs.{Run, Follows, Knows};
+ghost use Rattle.hs_agent.specs.Runs.{AgentRun, Follows, Knows};
 ghost use Rattle.hs_intake.specs.Intakes.{Stands, TakesTrigger, after_act, told_on, trigger_line};
 ghost use Rattle.hs_intake.specs.declared.took.Fired.TheVariants.{Taken};
 ghost use Rattle.hs_intake.specs.Taking.{TakesFired, TakesMost, DropsOne, DropsMany, TakesTriggers};
@@ -20,7 +20,7 @@ impl Intake {
     fn take_trigger(&mut self, client: u16) -> Fired
         requires low { client < self.old.clients }
         requires front { self.old.back ≡ None }
-        ensures next { (run : Run Leased) → Stands run self.old → TakesFired run client self.old result self.new }
+        ensures next { (run : AgentRun Leased) → Stands run self.old → TakesFired run client self.old result self.new }
         ensures clients { self.new.clients ≡ self.old.clients }
         ensures taken { (tells : Bool) → result ≡ Taken tells → self.new.back ≡ None }
     {
@@ -52,7 +52,7 @@ impl Intake {
     fn take_triggers(&mut self, client: u16) -> TookTriggers
         requires low { client < self.old.clients }
         requires front { self.old.back ≡ None }
-        ensures takes { (run : Run Leased) → Stands run self.old → TakesMost run client self.old result self.new }
+        ensures takes { (run : AgentRun Leased) → Stands run self.old → TakesMost run client self.old result self.new }
         ensures clients { self.new.clients ≡ self.old.clients }
     {
         let mut limited = 0;
@@ -79,7 +79,7 @@ impl Intake {
     /// The next trigger of a client leaves its link, if one has come. The agent does not see it.
     fn drop_trigger(&mut self, client: u16) -> bool
         requires { client < self.old.clients }
-        ensures drops { (run : Run Leased) → Stands run self.old → DropsOne run client self.old result self.new }
+        ensures drops { (run : AgentRun Leased) → Stands run self.old → DropsOne run client self.old result self.new }
         ensures clients { self.new.clients ≡ self.old.clients }
     {
         self.port.trigger(client).is_some()
@@ -88,7 +88,7 @@ impl Intake {
     /// The triggers of a client that have come leave their link, at most 64. The agent does not see them.
     fn drop_triggers(&mut self, client: u16) -> TookTriggers
         requires { client < self.old.clients }
-        ensures { (run : Run Leased) → Stands run self.old → DropsMany run client self.old result self.new }
+        ensures { (run : AgentRun Leased) → Stands run self.old → DropsMany run client self.old result self.new }
     {
         for count in 0..MAX_TAKEN {
             if !self.drop_trigger(client) {
@@ -103,7 +103,7 @@ impl Intake {
     /// counts these, and those of whose id the bucket has no token. There is no more of a client that is not there, and while something
     /// waits at the front nothing is taken.
     pub fn triggers_of(&mut self, client: u16) -> TookTriggers
-        ensures { (run : Run Leased) → Stands run self.old → TakesTriggers run client self.old result self.new }
+        ensures { (run : AgentRun Leased) → Stands run self.old → TakesTriggers run client self.old result self.new }
     {
         if client >= self.clients {
             return TookTriggers::none(Stop::Empty);
@@ -125,8 +125,8 @@ pub(super) fn fire(
     trigger: &Trigger,
 ) -> Result<Option<Told>, Memory>
     requires { Knows agent.old (λ run. is_declared run.settings.triggers trigger.now.trigger ≡ true) }
-    ensures told { (run : Run Leased) → Follows agent.old run → IfOk result (λ told. told ≡ told_on run client trigger.now) }
-    ensures after { (run : Run Leased) → Follows agent.old run → OnOk result (Follows agent.new (after_act run (TakesTrigger client trigger.now))) }
+    ensures told { (run : AgentRun Leased) → Follows agent.old run → IfOk result (λ told. told ≡ told_on run client trigger.now) }
+    ensures after { (run : AgentRun Leased) → Follows agent.old run → OnOk result (Follows agent.new (after_act run (TakesTrigger client trigger.now))) }
     ensures same { OnErr result (agent.new ≡ agent.old) }
     ensures alive { agent.new.spent ≡ false → agent.old.spent ≡ false }
 {

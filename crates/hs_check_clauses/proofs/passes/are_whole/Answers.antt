@@ -1,5 +1,5 @@
 use Rattle.std.proofs.Common.{◌≡◌, ℕ, ◌<◌, ◌≤◌, ◌+◌, Bool, true, false, List, [], ◌∷◌, ◌++◌, length, drop, get_or, Option, Some, None, subst, sym, ap, ◌∙◌, arith}
-use Rattle.hs_check_clauses.proofs.Prelude.{list_all, flat_map, range_with_len, eqb-false, drop_more, drop_all, Step, Queue, Asks, is_whole_pass, passes_of, queues_of, client_queues, PlainWorkload, Walk, goes_through, walk_behind, at_start}
+use Rattle.hs_check_clauses.proofs.Prelude.{list_all, flat_map, range_with_len, eqb-false, drop_more, drop_all, Step, Queue, Asks, is_whole_pass, passes_of, queues_of, client_queues, PlainWorkload, PassWalk, goes_through, walk_behind, at_start}
 use Rattle.hs_check_clauses.specs.Walking.{is_turned}
 use Rattle.hs_check_clauses.proofs.Queues.{queue_count, Match, queues_match}
 use Rattle.hs_check_clauses.proofs.Walked.{walked}
@@ -11,10 +11,10 @@ told clients log some W same =
     sym (walked clients (queues_of W) (subst (λ n. Match clients (flat_map client_queues (range_with_len 0 n) ++ Asks ∷ []) (range_with_len 0 (queue_count clients))) (sym same) (queues_match clients)) log some)
 
 -- the walk stops at a step
-stops : (clients : ℕ) (walk : Walk) (log : List Step) (i : ℕ) (d : Step) → i < length log → None ≡ walk_behind clients walk (get_or log i d) → goes_through clients walk (drop i log) ≡ false
+stops : (clients : ℕ) (walk : PassWalk) (log : List Step) (i : ℕ) (d : Step) → i < length log → None ≡ walk_behind clients walk (get_or log i d) → goes_through clients walk (drop i log) ≡ false
 stops clients walk log i d less none =
     ap (goes_through clients walk) (drop_more log i d less)
-    ∙ sym (ap (λ (o : Option Walk). elim o [ Some next ↦ goes_through clients next (drop (i + 1) log) | None ↦ false ]) none)
+    ∙ sym (ap (λ (o : Option PassWalk). elim o [ Some next ↦ goes_through clients next (drop (i + 1) log) | None ↦ false ]) none)
 
 pub returns-in_default : goal.returns-in_default
 returns-in_default c = λ W same.

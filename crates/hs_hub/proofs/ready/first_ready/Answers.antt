@@ -1,5 +1,5 @@
 use Rattle.std.proofs.Common.{List, sym, ap, ◌∙◌}
-use Rattle.hs_groups.specs.declared.followed.Followed.{Followed}
+use Rattle.hs_groups.specs.declared.followed_group.FollowedGroup.{FollowedGroup}
 use Rattle.hs_hub.specs.Ready.{or_else, first_ready}
 use Rattle.hs_hub.proofs.Firsts.{first_of_both}
 use Rattle.hs_hub.proofs.ready.first_ready.Goals as goal
@@ -12,7 +12,7 @@ returns-in-Some c =
     let newer = c.as_slices.result.1.now in
     ap (λ o. or_else o (first_ready g s p newer)) (sym c.in-Some.is ∙ c.ready_among.ensures)
     ∙ sym (first_of_both g s p c.as_slices.result.0.now newer)
-    ∙ ap (λ (groups : List Followed). first_ready g s p groups) c.as_slices.ensures
+    ∙ ap (λ (groups : List FollowedGroup). first_ready g s p groups) c.as_slices.ensures
 
 pub returns-in-None : goal.returns-in-None
 returns-in-None c =
@@ -23,4 +23,4 @@ returns-in-None c =
     c.ready_among-in-None.ensures
     ∙ ap (λ o. or_else o (first_ready g s p newer)) (sym c.in-None.is ∙ c.ready_among.ensures)
     ∙ sym (first_of_both g s p c.as_slices.result.0.now newer)
-    ∙ ap (λ (groups : List Followed). first_ready g s p groups) c.as_slices.ensures
+    ∙ ap (λ (groups : List FollowedGroup). first_ready g s p groups) c.as_slices.ensures

@@ -1,6 +1,6 @@
 use Rattle.std.proofs.Common.{◌<◌, ◌≤◌, ◌-◌, List, length, filter, sym, ap, ◌∙◌, arith}
 use Rattle.std.specs.Prelude.{slice_get}
-use Rattle.hs_groups.specs.declared.followed.Followed.{Followed}
+use Rattle.hs_groups.specs.declared.followed_group.FollowedGroup.{FollowedGroup}
 use Rattle.hs_verdict.specs.Verdict.{claims}
 use Rattle.hs_verdict.proofs.Slices.{passes_in_front, passes_behind}
 use Rattle.hs_verdict.proofs.asked.claim_at.Goals as goal
@@ -11,7 +11,7 @@ returns-then-place-count c =
     let older = c.as_slices.result.0.now in
     let newer = c.as_slices.result.1.now in
     let within : c.args.place < length (filter p older) = omega (arith, c.if-place-count.true, c.count_claims-count.ensures) in
-    c.claim_among.ensures ∙ sym (passes_in_front p older newer c.args.place within) ∙ ap (λ (groups : List Followed). slice_get (filter p groups) c.args.place) c.as_slices.ensures
+    c.claim_among.ensures ∙ sym (passes_in_front p older newer c.args.place within) ∙ ap (λ (groups : List FollowedGroup). slice_get (filter p groups) c.args.place) c.as_slices.ensures
 
 pub returns-else-place-count : goal.returns-else-place-count
 returns-else-place-count c =
@@ -22,4 +22,4 @@ returns-else-place-count c =
     c.claim_among-else-place-count.ensures
     ∙ ap (λ n. slice_get (filter p newer) (c.args.place - n)) c.count_claims-count.ensures
     ∙ sym (passes_behind p older newer c.args.place past)
-    ∙ ap (λ (groups : List Followed). slice_get (filter p groups) c.args.place) c.as_slices.ensures
+    ∙ ap (λ (groups : List FollowedGroup). slice_get (filter p groups) c.args.place) c.as_slices.ensures

@@ -1,5 +1,5 @@
 use Rattle.std.proofs.Common.{◌≡◌, List, [], ◌∷◌, ◌++◌, length, map, option_map, sym, ap, ◌∙◌, None}
-use Rattle.hs_agent.proofs.Prelude.{option_to_list, Left, Out, going_buffer, going_left, going_of, hand_of, buffer_of, Mark, leaving_of, going, settled, Kept, kept_in, placed_at, Going, evicted_going, indexed, noted}
+use Rattle.hs_agent.proofs.Prelude.{option_to_list, Left, Out, going_buffer, going_left, going_of, hand_of, buffer_of, ChunkNote, leaving_of, going, settled, Kept, kept_in, placed_at, Going, evicted_going, indexed, noted}
 use Rattle.hs_index.specs.Index.{arrived}
 use Rattle.hs_agent.specs.Trying.{lefts_noted}
 use Rattle.hs_agent.proofs.Emptying.{hand_more, lefts_more, let_go_parts}
@@ -13,9 +13,9 @@ returns-in-Ok-clause-ok g c =
     let goes : List (Going g.row.L.Denot) = map evicted_going (going (arrived kept.index (placed_at (length kept.standings) buffer))) in
     let goings : map evicted_going (map leaving_of c.in-Ok.gone.items) ≡ goes =
     ap (map evicted_going) c.in-Ok.ensures.gone ∙ (λ i. map evicted_going (going (arrived kept.index (at i)))) in
-    let new : Mark = record { client = c.args.header.client; page = c.args.header.page; left = None } in
+    let new : ChunkNote = record { client = c.args.header.client; page = c.args.header.page; left = None } in
     let standings : c.evict_into.new.standings.items ≡ lefts_noted (kept.standings ++ new ∷ []) goes =
-    c.evict_into.ensures.lefts ∙ (λ i. lefts_noted ((c.push.ensures.items ∙ ap (λ (l : List Mark). l ++ new ∷ []) c.next_place.ensures.standings) i) (goings i)) in
+    c.evict_into.ensures.lefts ∙ (λ i. lefts_noted ((c.push.ensures.items ∙ ap (λ (l : List ChunkNote). l ++ new ∷ []) c.next_place.ensures.standings) i) (goings i)) in
     let out : List Left = option_to_list (option_map (λ (o : Out). o.left) c.self.inside.offered) in
     let now : map going_of c.evict_into.new.hand.items ≡ map going_of c.self.inside.hand.items ++ goes = c.evict_into.ensures.hand ∙ (λ i. map going_of (c.next_place.ensures.hand i) ++ goings i) in
     let keeps : c.evict_into.new.standings.keeps ≡ kept.keeps = c.evict_into.ensures.keeps ∙ c.push.ensures.keeps ∙ c.next_place.ensures.keeps in

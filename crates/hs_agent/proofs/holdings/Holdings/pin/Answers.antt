@@ -1,5 +1,5 @@
 use Rattle.std.proofs.Common.{◌≡◌, List, [], ◌∷◌, ◌++◌, length, map, option_map, sym, ap, subst, ◌∙◌, arith, None, IsSome}
-use Rattle.hs_agent.proofs.Prelude.{count_chunks, option_to_list, Left, Out, going_buffer, going_left, going_of, hand_of, buffer_of, Mark, pin_of, arrived, Remembers, Kept, kept_in, sent_pin, Placed, placed_at, Going, abandoned_going, let_go_all, noted}
+use Rattle.hs_agent.proofs.Prelude.{count_chunks, option_to_list, Left, Out, going_buffer, going_left, going_of, hand_of, buffer_of, ChunkNote, pin_of, arrived, Remembers, Kept, kept_in, sent_pin, Placed, placed_at, Going, abandoned_going, let_go_all, noted}
 use Rattle.hs_pins.specs.Remembered.{claim_for}
 use Rattle.hs_pins.specs.Receiving.{received, goes_with}
 use Rattle.hs_pins.proofs.Receiving.{length-received}
@@ -62,9 +62,9 @@ returns-in-Ok-receive-clause-ok g c = λ memory known.
     let goes : List (Going g.row.L.Denot) = map abandoned_going (goes_with memory (placed_at (length kept.standings) buffer)) in
     let goings : map abandoned_going (map pin_of c.in-Ok-receive.gone.items) ≡ goes =
     ap (map abandoned_going) (c.in-Ok-receive.ensures.gone memory remembers ∙ ap (goes_with memory) placed) in
-    let new : Mark = record { client = c.args.header.client; page = c.args.header.page; left = None } in
+    let new : ChunkNote = record { client = c.args.header.client; page = c.args.header.page; left = None } in
     let standings : c.drop_into.new.standings.items ≡ lefts_noted (kept.standings ++ new ∷ []) goes =
-    c.drop_into.ensures.lefts ∙ (λ i. lefts_noted ((c.push.ensures.items ∙ ap (λ (l : List Mark). l ++ new ∷ []) c.next_place.ensures.standings) i) (goings i)) in
+    c.drop_into.ensures.lefts ∙ (λ i. lefts_noted ((c.push.ensures.items ∙ ap (λ (l : List ChunkNote). l ++ new ∷ []) c.next_place.ensures.standings) i) (goings i)) in
     let out : List Left = option_to_list (option_map (λ (o : Out). o.left) c.self.inside.offered) in
     let went : map going_of c.drop_into.new.hand.items ≡ map going_of c.self.inside.hand.items ++ goes = c.drop_into.ensures.hand ∙ (λ i. map going_of (c.next_place.ensures.hand i) ++ goings i) in
     let keeps : c.drop_into.new.standings.keeps ≡ kept.keeps = c.drop_into.ensures.keeps ∙ c.push.ensures.keeps ∙ c.next_place.ensures.keeps in

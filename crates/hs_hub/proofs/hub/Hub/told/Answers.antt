@@ -1,5 +1,5 @@
 use Rattle.std.proofs.Common.{rules, ◌≡◌, false, length, nat_le, ap, ◌∙◌}
-use Rattle.hs_groups.specs.declared.answers.Taken.TheVariants as of_group
+use Rattle.hs_groups.specs.declared.answers.ToldOutcome.TheVariants as of_group
 use Rattle.hs_groups.specs.Groups as groups
 use Rattle.hs_hub.specs.Hub.{PlainHub, room, node_of, after_told}
 use Rattle.hs_hub.specs.HubLayout.{hub_in}

@@ -3,13 +3,13 @@ use Rattle.std.proofs.lemmas.Iterator.Adapters.{YieldsList-from_vec}
 use Rattle.std.proofs.lemmas.Iterator.Consumers.{YieldsList-turn, YieldsList-end}
 use Rattle.std.proofs.lemmas.List.{length-map, map-id}
 use Rattle.hs_words.specs.Buffers.{buffer_of}
-use Rattle.hs_index.specs.Index.{Noted, leaving, leaving_of}
+use Rattle.hs_index.specs.Index.{PlainIndexedTrace, leaving, leaving_of}
 use Rattle.hs_index.proofs.Moved.{gone_more, gone_room}
 use Rattle.hs_index.proofs.entry.IndexedTrace.into_gone.Goals as goal
 
 pub loop-held-init : goal.loop-held-init
 loop-held-init g c =
-    let seen = ap (λ (n : Noted g.row.L.Denot). n.chunks) c.self.view_is in
+    let seen = ap (λ (n : PlainIndexedTrace g.row.L.Denot). n.chunks) c.self.view_is in
     let long : length c.self.inside.held.items ≡ length c.args.self.chunks = sym (length-map c.self.inside.held.items (buffer_of {L = g.row.L.Denot} {g = g.L.Token})) ∙ ap length seen in (
       tt,
       tt,
@@ -24,7 +24,7 @@ push-requires g c =
     (c.into_iter-held-iterator.ensures.into_iter_gives.1 ∙ c.into_vec-held-items.result.ok.0 ∙ ap length c.into_vec-held-items.ensures.items) in
     let turn = YieldsList-turn all c.loop-held.yielded c.loop-held.held-iterator c.loop-held.yielded_by c.next.result c.next.new.self c.in-Some.held c.in-Some.is c.next.ensures.steps in
     gone_room (leaving_of {L = g.row.L.Denot} {g = g.L.Token}) (leaving c.args.chunks c.args.traces) (buffer_of {L = g.row.L.Denot} {g = g.L.Token}) c.loop-held.gone.items c.loop-held.yielded held c.args.self.chunks
-    c.loop-held.gone.room (ap (λ (n : Noted g.row.L.Denot). n.chunks) c.self.view_is) turn.0 c.loop-held.invariant.2 c.loop-held.invariant.3
+    c.loop-held.gone.room (ap (λ (n : PlainIndexedTrace g.row.L.Denot). n.chunks) c.self.view_is) turn.0 c.loop-held.invariant.2 c.loop-held.invariant.3
 
 pub loop-held-preserved : goal.loop-held-preserved
 loop-held-preserved g c = (
@@ -43,4 +43,4 @@ returns g c =
     (c.into_iter-held-iterator.ensures.into_iter_gives.1 ∙ c.into_vec-held-items.result.ok.0 ∙ ap length c.into_vec-held-items.ensures.items) in
     let done = YieldsList-end all c.loop-held.yielded c.loop-held.held-iterator c.loop-held.yielded_by c.next.result c.next.new.self c.in-None.is c.next.ensures.steps in
     c.loop-held.invariant.2
-    ∙ ap (map (leaving c.args.chunks c.args.traces)) (ap (map f) (sym (map-id c.loop-held.yielded) ∙ done.0) ∙ ap (λ (n : Noted g.row.L.Denot). n.chunks) c.self.view_is)
+    ∙ ap (map (leaving c.args.chunks c.args.traces)) (ap (map f) (sym (map-id c.loop-held.yielded) ∙ done.0) ∙ ap (λ (n : PlainIndexedTrace g.row.L.Denot). n.chunks) c.self.view_is)

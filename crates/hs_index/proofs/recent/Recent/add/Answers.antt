@@ -5,7 +5,7 @@ use Rattle.std.proofs.lemmas.Map.Steps.{set_value_same}
 use Rattle.lru.specs.LruCache.{LruCache, promoted}
 use Rattle.hs_base.specs.declared.ids.TraceId.{TraceId}
 use Rattle.hs_base.specs.Ids.{same_trace}
-use Rattle.hs_index.specs.Index.{Noted, nothing, noted_of, touch, with_chunk, chunk_count, count_chunks}
+use Rattle.hs_index.specs.Index.{PlainIndexedTrace, nothing, noted_of, touch, with_chunk, chunk_count, count_chunks}
 use Rattle.hs_words.specs.Buffers.{buffer_of}
 use Rattle.hs_index.specs.Touched.{Touched, listed}
 use Rattle.hs_index.proofs.Listed.{count-listed, find-missing}
@@ -34,7 +34,7 @@ returns-in_err-add-in-Some-clause-err g c =
 pub invariant_of-self-in-Some : goal.invariant_of-self-in-Some
 invariant_of-self-in-Some g c =
     let found : lookup (same_trace c.args.trace) c.self.inside.cache.entries ≡ Some c.in-Some.entry.now = sym c.in-Some.ensures.value in
-    let now : c.promote.new.self.entries ≡ promoted (same_trace c.args.trace) (set_value (same_trace c.args.trace) c.self.inside.cache.entries c.add.new.self) = ap (λ (k : LruCache TraceId (Noted g.row.L.Denot)). k.entries) c.promote.ensures.entries in
+    let now : c.promote.new.self.entries ≡ promoted (same_trace c.args.trace) (set_value (same_trace c.args.trace) c.self.inside.cache.entries c.add.new.self) = ap (λ (k : LruCache TraceId (PlainIndexedTrace g.row.L.Denot)). k.entries) c.promote.ensures.entries in
     record {
       chunks =
           let counted = count-touched c.args.trace c.self.inside.cache.entries c.in-Some.entry.now c.add.new.self found in
@@ -68,10 +68,10 @@ add_new-requires-clause-count g c =
 pub returns-in_ok-add-in-Some-clause-ok : goal.returns-in_ok-add-in-Some-clause-ok
 returns-in_ok-add-in-Some-clause-ok g c =
     let found : lookup (same_trace c.args.trace) c.self.inside.cache.entries ≡ Some c.in-Some.entry.now = sym c.in-Some.ensures.value in
-    ap (λ (k : LruCache TraceId (Noted g.row.L.Denot)). listed k.entries) c.promote.ensures.entries
+    ap (λ (k : LruCache TraceId (PlainIndexedTrace g.row.L.Denot)). listed k.entries) c.promote.ensures.entries
     ∙ touch-found c.args.trace c.self.inside.cache.entries c.in-Some.entry.now c.add.new.self found c.len.ensures.valid.0
-    ∙ ap (λ (n : Noted g.row.L.Denot). touch c.args.trace n (listed c.self.inside.cache.entries))
-    (c.in_ok-add-in-Some.ensures.ok ∙ ap (λ (n : Noted g.row.L.Denot). with_chunk n (buffer_of c.args.held)) (sym (noted-found c.args.trace c.self.inside.cache.entries c.in-Some.entry.now c.len.ensures.valid.0 found)))
+    ∙ ap (λ (n : PlainIndexedTrace g.row.L.Denot). touch c.args.trace n (listed c.self.inside.cache.entries))
+    (c.in_ok-add-in-Some.ensures.ok ∙ ap (λ (n : PlainIndexedTrace g.row.L.Denot). with_chunk n (buffer_of c.args.held)) (sym (noted-found c.args.trace c.self.inside.cache.entries c.in-Some.entry.now c.len.ensures.valid.0 found)))
     ∙ ap (λ (t : Touched g.row.L.Denot). touch c.args.trace (with_chunk (noted_of c.args.trace t.traces) (buffer_of c.args.held)) t.traces) c.self.view_is
 
 pub returns-in_ok-add-in-Some-clause-count : goal.returns-in_ok-add-in-Some-clause-count
@@ -84,11 +84,11 @@ pub returns-in-None-clause-ok : goal.returns-in-None-clause-ok
 returns-in-None-clause-ok g c =
     let missing : lookup (same_trace c.args.trace) c.self.inside.cache.entries ≡ None = sym c.in-None.ensures.value in
     let one : with_chunk nothing (buffer_of c.args.held) ≡ with_chunk (noted_of c.args.trace (listed c.self.inside.cache.entries)) (buffer_of c.args.held) =
-    ap (λ (n : Noted g.row.L.Denot). with_chunk n (buffer_of c.args.held)) (sym (noted-missing c.args.trace c.self.inside.cache.entries missing)) in
+    ap (λ (n : PlainIndexedTrace g.row.L.Denot). with_chunk n (buffer_of c.args.held)) (sym (noted-missing c.args.trace c.self.inside.cache.entries missing)) in
     on_ok_weaker c.add_new.result (λ is.
     is
     ∙ touch-missing c.args.trace c.self.inside.cache.entries (with_chunk nothing (buffer_of c.args.held)) missing
-    ∙ ap (λ (n : Noted g.row.L.Denot). touch c.args.trace n (listed c.self.inside.cache.entries)) one
+    ∙ ap (λ (n : PlainIndexedTrace g.row.L.Denot). touch c.args.trace n (listed c.self.inside.cache.entries)) one
     ∙ ap (λ (t : Touched g.row.L.Denot). touch c.args.trace (with_chunk (noted_of c.args.trace t.traces) (buffer_of c.args.held)) t.traces) c.self.view_is) c.add_new.ensures.ok
 
 pub returns-in-None-clause-count : goal.returns-in-None-clause-count

@@ -6,7 +6,7 @@ use Rattle.lru.specs.LruCache.{LruCache, promoted}
 use Rattle.hs_lists.proofs.Options.{on_err_always, on_ok_always}
 use Rattle.hs_base.specs.declared.ids.TraceId.{TraceId}
 use Rattle.hs_base.specs.Ids.{same_trace}
-use Rattle.hs_index.specs.Index.{Noted, Indexed, is_of, noted_of, touch, with_crumb, chunk_count, count_chunks}
+use Rattle.hs_index.specs.Index.{PlainIndexedTrace, Indexed, is_of, noted_of, touch, with_crumb, chunk_count, count_chunks}
 use Rattle.hs_index.specs.Touched.{Touched, listed}
 use Rattle.hs_index.proofs.Listed.{count-listed, find-missing}
 use Rattle.hs_index.proofs.Touching.{noted-found, noted-missing, touch-missing, touch-found, length-touched, count-touched, count-with_crumb}
@@ -16,7 +16,7 @@ use Rattle.hs_index.proofs.recent.Recent.add_crumb.Goals.{in-Ok, in-Err}
 pub invariant_of-self : goal.invariant_of-self
 invariant_of-self g c =
     let found : lookup (same_trace c.args.crumb.trace) c.self.inside.cache.entries ≡ Some c.in-Some.entry.now = sym c.in-Some.ensures.value in
-    let now : c.promote.new.self.entries ≡ promoted (same_trace c.args.crumb.trace) (set_value (same_trace c.args.crumb.trace) c.self.inside.cache.entries c.add_crumb.new.self) = ap (λ (k : LruCache TraceId (Noted g.row.L.Denot)). k.entries) c.promote.ensures.entries in
+    let now : c.promote.new.self.entries ≡ promoted (same_trace c.args.crumb.trace) (set_value (same_trace c.args.crumb.trace) c.self.inside.cache.entries c.add_crumb.new.self) = ap (λ (k : LruCache TraceId (PlainIndexedTrace g.row.L.Denot)). k.entries) c.promote.ensures.entries in
     record {
       chunks =
           let counted = count-touched c.args.crumb.trace c.self.inside.cache.entries c.in-Some.entry.now c.add_crumb.new.self found in
@@ -40,17 +40,17 @@ pub insert-requires-clause-count : goal.insert-requires-clause-count
 insert-requires-clause-count g c =
     let counted = count-listed c.self.inside.cache.entries in
     let held = c.self.invariant.chunks in
-    let none : chunk_count c.add_crumb-in-None.new.self ≡ 0 = ap chunk_count (c.add_crumb-in-None.ensures ∙ ap (λ (n : Noted g.row.L.Denot). with_crumb n c.args.crumb.node) c.new-entry.ensures) in
+    let none : chunk_count c.add_crumb-in-None.new.self ≡ 0 = ap chunk_count (c.add_crumb-in-None.ensures ∙ ap (λ (n : PlainIndexedTrace g.row.L.Denot). with_crumb n c.args.crumb.node) c.new-entry.ensures) in
     let fits : Fits w32 c.self.inside.chunks = search rules in
     omega (arith, counted, held, none, fits)
 
 pub returns-in-Some-clause-ok : goal.returns-in-Some-clause-ok
 returns-in-Some-clause-ok g c =
     let found : lookup (same_trace c.args.crumb.trace) c.self.inside.cache.entries ≡ Some c.in-Some.entry.now = sym c.in-Some.ensures.value in
-    ap (λ (k : LruCache TraceId (Noted g.row.L.Denot)). listed k.entries) c.promote.ensures.entries
+    ap (λ (k : LruCache TraceId (PlainIndexedTrace g.row.L.Denot)). listed k.entries) c.promote.ensures.entries
     ∙ touch-found c.args.crumb.trace c.self.inside.cache.entries c.in-Some.entry.now c.add_crumb.new.self found c.len.ensures.valid.0
-    ∙ ap (λ (n : Noted g.row.L.Denot). touch c.args.crumb.trace n (listed c.self.inside.cache.entries))
-    (c.add_crumb.ensures ∙ ap (λ (n : Noted g.row.L.Denot). with_crumb n c.args.crumb.node) (sym (noted-found c.args.crumb.trace c.self.inside.cache.entries c.in-Some.entry.now c.len.ensures.valid.0 found)))
+    ∙ ap (λ (n : PlainIndexedTrace g.row.L.Denot). touch c.args.crumb.trace n (listed c.self.inside.cache.entries))
+    (c.add_crumb.ensures ∙ ap (λ (n : PlainIndexedTrace g.row.L.Denot). with_crumb n c.args.crumb.node) (sym (noted-found c.args.crumb.trace c.self.inside.cache.entries c.in-Some.entry.now c.len.ensures.valid.0 found)))
     ∙ ap (λ (t : Touched g.row.L.Denot). touch c.args.crumb.trace (with_crumb (noted_of c.args.crumb.trace t.traces) c.args.crumb.node) t.traces) c.self.view_is
 
 pub returns-after-insert-clause-ok : goal.returns-after-insert-clause-ok
@@ -58,8 +58,8 @@ returns-after-insert-clause-ok g c =
     let missing : lookup (same_trace c.args.crumb.trace) c.self.inside.cache.entries ≡ None = sym c.in-None.ensures.value in
     let rest : touch c.args.crumb.trace c.add_crumb-in-None.new.self (listed c.self.inside.cache.entries)
     ≡ touch c.args.crumb.trace (with_crumb (noted_of c.args.crumb.trace c.args.self.now.traces) c.args.crumb.node) c.args.self.now.traces =
-    ap (λ (n : Noted g.row.L.Denot). touch c.args.crumb.trace n (listed c.self.inside.cache.entries))
-    (c.add_crumb-in-None.ensures ∙ ap (λ (n : Noted g.row.L.Denot). with_crumb n c.args.crumb.node) (c.new-entry.ensures ∙ sym (noted-missing c.args.crumb.trace c.self.inside.cache.entries missing)))
+    ap (λ (n : PlainIndexedTrace g.row.L.Denot). touch c.args.crumb.trace n (listed c.self.inside.cache.entries))
+    (c.add_crumb-in-None.ensures ∙ ap (λ (n : PlainIndexedTrace g.row.L.Denot). with_crumb n c.args.crumb.node) (c.new-entry.ensures ∙ sym (noted-missing c.args.crumb.trace c.self.inside.cache.entries missing)))
     ∙ ap (λ (t : Touched g.row.L.Denot). touch c.args.crumb.trace (with_crumb (noted_of c.args.crumb.trace t.traces) c.args.crumb.node) t.traces) c.self.view_is in
     elim c.match-insert.branch [
       | in-Ok w ↦ on_ok_always c.match-insert.result (w.in-Ok.ensures.ok ∙ touch-missing c.args.crumb.trace c.self.inside.cache.entries c.add_crumb-in-None.new.self missing ∙ rest)

@@ -4,7 +4,7 @@ use Rattle.std.specs.Map.{values_of}
 use Rattle.std.proofs.lemmas.List.Sums.{sum_by-cons}
 use Rattle.lru.specs.LruCache.{LruCache}
 use Rattle.hs_base.specs.declared.ids.TraceId.{TraceId}
-use Rattle.hs_index.specs.Index.{Noted, chunk_count, count_chunks, is_of}
+use Rattle.hs_index.specs.Index.{PlainIndexedTrace, chunk_count, count_chunks, is_of}
 use Rattle.hs_index.specs.Touched.{Touched, indexed, listed}
 use Rattle.hs_index.proofs.Listed.{listed-cons, count-listed, length-listed}
 use Rattle.hs_index.proofs.Touching.{put-new}
@@ -26,7 +26,7 @@ invariant_of-self g c =
     let long : length (listed c.self.inside.cache.entries) ≡ length c.self.inside.cache.entries = length-listed c.self.inside.cache.entries in
     let same : length (listed c.self.inside.cache.entries) ≡ length c.args.self.now.traces = ap length seen in
     let all : c.push.new.self.entries ≡ (c.args.trace, c.args.entry) ∷ c.self.inside.cache.entries =
-    ap (λ (k : LruCache TraceId (Noted g.row.L.Denot)). k.entries) c.in-Ok.ensures.entries
+    ap (λ (k : LruCache TraceId (PlainIndexedTrace g.row.L.Denot)). k.entries) c.in-Ok.ensures.entries
     ∙ put-new c.args.trace c.self.inside.cache.entries c.self.inside.cache.cap c.args.entry (ap (find (is_of c.args.trace)) seen ∙ c.requires.new)
     (let room = c.requires.room in omega (arith, long, same, wide, room)) in
     record {
@@ -49,7 +49,7 @@ returns-in-Ok-clause-ok g c =
     let long : length (listed c.self.inside.cache.entries) ≡ length c.self.inside.cache.entries = length-listed c.self.inside.cache.entries in
     let same : length (listed c.self.inside.cache.entries) ≡ length c.args.self.now.traces = ap length seen in
     let all : c.push.new.self.entries ≡ (c.args.trace, c.args.entry) ∷ c.self.inside.cache.entries =
-    ap (λ (k : LruCache TraceId (Noted g.row.L.Denot)). k.entries) c.in-Ok.ensures.entries
+    ap (λ (k : LruCache TraceId (PlainIndexedTrace g.row.L.Denot)). k.entries) c.in-Ok.ensures.entries
     ∙ put-new c.args.trace c.self.inside.cache.entries c.self.inside.cache.cap c.args.entry (ap (find (is_of c.args.trace)) seen ∙ c.requires.new)
     (let room = c.requires.room in omega (arith, long, same, wide, room)) in
     ap listed all

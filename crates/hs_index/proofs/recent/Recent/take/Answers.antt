@@ -4,7 +4,7 @@ use Rattle.std.specs.Map.{values_of, remove_entry}
 use Rattle.lru.specs.LruCache.{LruCache}
 use Rattle.hs_base.specs.declared.ids.TraceId.{TraceId}
 use Rattle.hs_base.specs.Ids.{same_trace}
-use Rattle.hs_index.specs.Index.{Noted, Indexed, noted_of, others, chunk_count, count_chunks}
+use Rattle.hs_index.specs.Index.{PlainIndexedTrace, Indexed, noted_of, others, chunk_count, count_chunks}
 use Rattle.hs_index.specs.Touched.{Touched, listed}
 use Rattle.hs_index.proofs.Listed.{others-listed}
 use Rattle.hs_index.proofs.Touching.{noted-found, noted-missing, found-entry, missing-entry, remove-missing, count-remove, length-remove, count-whole}
@@ -28,7 +28,7 @@ overflow_sub-self g c =
 pub invariant_of-self : goal.invariant_of-self
 invariant_of-self g c =
     let found = found-entry c.args.trace c.self.inside.cache.entries (c.in-Some.field-0-0, c.in-Some.entry) (sym c.in-Some.ensures.value) in
-    let now : c.pop_entry.new.self.entries ≡ remove_entry (same_trace c.args.trace) c.self.inside.cache.entries = ap (λ (k : LruCache TraceId (Noted g.row.L.Denot)). k.entries) c.pop_entry.ensures.entries in
+    let now : c.pop_entry.new.self.entries ≡ remove_entry (same_trace c.args.trace) c.self.inside.cache.entries = ap (λ (k : LruCache TraceId (PlainIndexedTrace g.row.L.Denot)). k.entries) c.pop_entry.ensures.entries in
     record {
       chunks =
           let left = count-remove c.args.trace c.self.inside.cache.entries c.in-Some.entry found in
@@ -46,7 +46,7 @@ invariant_of-self g c =
 pub invariant_of-self-in-None : goal.invariant_of-self-in-None
 invariant_of-self-in-None g c =
     let same : c.pop_entry.new.self.entries ≡ c.self.inside.cache.entries =
-    ap (λ (k : LruCache TraceId (Noted g.row.L.Denot)). k.entries) c.pop_entry.ensures.entries ∙ remove-missing c.args.trace c.self.inside.cache.entries (sym c.in-None.ensures.value) in
+    ap (λ (k : LruCache TraceId (PlainIndexedTrace g.row.L.Denot)). k.entries) c.pop_entry.ensures.entries ∙ remove-missing c.args.trace c.self.inside.cache.entries (sym c.in-None.ensures.value) in
     record {
       chunks = c.self.invariant.chunks ∙ sym (ap (λ es. sum_by chunk_count (values_of es)) same);
       few = let long = ap length same in let few = c.self.invariant.few in omega (arith, long, few);
@@ -60,7 +60,7 @@ returns-in-Some-clause-taken g c =
 
 pub returns-in-Some-clause-others : goal.returns-in-Some-clause-others
 returns-in-Some-clause-others g c =
-    ap (λ (k : LruCache TraceId (Noted g.row.L.Denot)). listed k.entries) c.pop_entry.ensures.entries
+    ap (λ (k : LruCache TraceId (PlainIndexedTrace g.row.L.Denot)). listed k.entries) c.pop_entry.ensures.entries
     ∙ sym (others-listed c.args.trace c.self.inside.cache.entries c.len.ensures.valid.0)
     ∙ ap (λ (t : Touched g.row.L.Denot). others c.args.trace t.traces) c.self.view_is
 
@@ -72,18 +72,18 @@ returns-in-None-clause-taken g c =
 
 pub returns-in-None-clause-others : goal.returns-in-None-clause-others
 returns-in-None-clause-others g c =
-    ap (λ (k : LruCache TraceId (Noted g.row.L.Denot)). listed k.entries) c.pop_entry.ensures.entries
+    ap (λ (k : LruCache TraceId (PlainIndexedTrace g.row.L.Denot)). listed k.entries) c.pop_entry.ensures.entries
     ∙ sym (others-listed c.args.trace c.self.inside.cache.entries c.len.ensures.valid.0)
     ∙ ap (λ (t : Touched g.row.L.Denot). others c.args.trace t.traces) c.self.view_is
 
 pub returns-in-Some-clause-count : goal.returns-in-Some-clause-count
 returns-in-Some-clause-count g c =
-    ap (λ (p : List (Indexed g.row.L.Denot) × Noted g.row.L.Denot). count_chunks p.0 + chunk_count p.1) (λ i. (returns-in-Some-clause-others g c i, returns-in-Some-clause-taken g c i))
+    ap (λ (p : List (Indexed g.row.L.Denot) × PlainIndexedTrace g.row.L.Denot). count_chunks p.0 + chunk_count p.1) (λ i. (returns-in-Some-clause-others g c i, returns-in-Some-clause-taken g c i))
     ∙ subst (λ (t : Touched g.row.L.Denot). count_chunks (others c.args.trace t.traces) + chunk_count (noted_of c.args.trace t.traces) ≡ count_chunks t.traces) c.self.view_is
     (count-whole c.args.trace c.self.inside.cache.entries c.len.ensures.valid.0)
 
 pub returns-in-None-clause-count : goal.returns-in-None-clause-count
 returns-in-None-clause-count g c =
-    ap (λ (p : List (Indexed g.row.L.Denot) × Noted g.row.L.Denot). count_chunks p.0 + chunk_count p.1) (λ i. (returns-in-None-clause-others g c i, returns-in-None-clause-taken g c i))
+    ap (λ (p : List (Indexed g.row.L.Denot) × PlainIndexedTrace g.row.L.Denot). count_chunks p.0 + chunk_count p.1) (λ i. (returns-in-None-clause-others g c i, returns-in-None-clause-taken g c i))
     ∙ subst (λ (t : Touched g.row.L.Denot). count_chunks (others c.args.trace t.traces) + chunk_count (noted_of c.args.trace t.traces) ≡ count_chunks t.traces) c.self.view_is
     (count-whole c.args.trace c.self.inside.cache.entries c.len.ensures.valid.0)

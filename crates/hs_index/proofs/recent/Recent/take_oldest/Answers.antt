@@ -4,7 +4,7 @@ use Rattle.std.specs.Map.{values_of}
 use Rattle.std.proofs.lemmas.List.{length-take}
 use Rattle.lru.specs.LruCache.{LruCache}
 use Rattle.hs_base.specs.declared.ids.TraceId.{TraceId}
-use Rattle.hs_index.specs.Index.{Noted, chunk_count}
+use Rattle.hs_index.specs.Index.{PlainIndexedTrace, chunk_count}
 use Rattle.hs_index.specs.Touched.{Touched, indexed, listed}
 use Rattle.hs_index.proofs.Touching.{listed-last, count-last}
 use Rattle.hs_index.proofs.recent.Recent.take_oldest.Goals as goal
@@ -26,7 +26,7 @@ overflow_sub-self g c =
 
 pub invariant_of-self-2 : goal.invariant_of-self-2
 invariant_of-self-2 g c =
-    let now : c.pop_lru.new.self.entries ≡ take (length c.self.inside.cache.entries - 1) c.self.inside.cache.entries = ap (λ (k : LruCache TraceId (Noted g.row.L.Denot)). k.entries) c.pop_lru.ensures.entries in
+    let now : c.pop_lru.new.self.entries ≡ take (length c.self.inside.cache.entries - 1) c.self.inside.cache.entries = ap (λ (k : LruCache TraceId (PlainIndexedTrace g.row.L.Denot)). k.entries) c.pop_lru.ensures.entries in
     record {
       chunks =
           let left = count-last c.self.inside.cache.entries (c.in_ok-trace.trace, c.in_ok-trace.entry) (sym c.in_ok-trace.ensures.value) in
@@ -44,4 +44,4 @@ pub returns-clause-some : goal.returns-clause-some
 returns-clause-some g c =
     sym (ap (λ (t : Touched g.row.L.Denot). t.traces) c.self.view_is)
     ∙ listed-last c.self.inside.cache.entries (c.in_ok-trace.trace, c.in_ok-trace.entry) (sym c.in_ok-trace.ensures.value)
-    ∙ ap (λ (k : LruCache TraceId (Noted g.row.L.Denot)). indexed (c.in_ok-trace.trace, c.in_ok-trace.entry) ∷ listed k.entries) (sym c.pop_lru.ensures.entries)
+    ∙ ap (λ (k : LruCache TraceId (PlainIndexedTrace g.row.L.Denot)). indexed (c.in_ok-trace.trace, c.in_ok-trace.entry) ∷ listed k.entries) (sym c.pop_lru.ensures.entries)

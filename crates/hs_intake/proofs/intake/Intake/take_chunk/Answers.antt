@@ -4,7 +4,7 @@ use Rattle.hs_ring.specs.Parts.{Leased}
 use Rattle.hs_words.specs.Buffers.{Buffer, buffer_of}
 use Rattle.hs_live.specs.Live.{Port}
 use Rattle.hs_agent.specs.Keeping.{PlainAgent}
-use Rattle.hs_agent.specs.Runs.{Run}
+use Rattle.hs_agent.specs.Runs.{AgentRun}
 use Rattle.hs_intake.specs.Intakes.{PlainIntake, Stands, Chunk, chunk_line}
 use Rattle.hs_intake.specs.IntakeLayout.{intake_in}
 use Rattle.hs_intake.specs.Taking.{TakesOne, HoldsOne}
@@ -63,8 +63,8 @@ invariant_of-self-in-Err c =
       triggers = ap (λ (p : Port). length p.triggers) c.chunk.ensures.only ∙ c.self.invariant.triggers;
       late = c.self.invariant.late;
       stands = (λ alive.
-          subst (λ (b : Buffer Leased). (run : Run Leased) × Stands run (record d { agent = c.try_chunk.new.self; port = port; back = Some (Chunk c.args.client b) })) (sym c.in-Err.ensures.back)
-          (subst (λ (a : PlainAgent Leased). (run : Run Leased) × Stands run (record d { agent = a; port = port; back = Some (Chunk c.args.client buffer) })) (sym c.in-Err.ensures.same)
+          subst (λ (b : Buffer Leased). (run : AgentRun Leased) × Stands run (record d { agent = c.try_chunk.new.self; port = port; back = Some (Chunk c.args.client b) })) (sym c.in-Err.ensures.back)
+          (subst (λ (a : PlainAgent Leased). (run : AgentRun Leased) × Stands run (record d { agent = a; port = port; back = Some (Chunk c.args.client buffer) })) (sym c.in-Err.ensures.same)
           (held_alive d c.args.client buffer port (c.self.invariant.stands (ap (λ (a : PlainAgent Leased). a.spent) (sym c.in-Err.ensures.same) ∙ alive)) c.in-Some.ensures.end
           c.in-Some.ensures.received c.chunk.ensures.only)));
     }

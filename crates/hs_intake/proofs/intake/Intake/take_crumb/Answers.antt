@@ -3,7 +3,7 @@ use Rattle.std.proofs.lemmas.Bool.{false_from_ne_true}
 use Rattle.hs_ring.specs.Parts.{Leased}
 use Rattle.hs_live.specs.Live.{Port}
 use Rattle.hs_agent.specs.Keeping.{PlainAgent}
-use Rattle.hs_agent.specs.Runs.{Run}
+use Rattle.hs_agent.specs.Runs.{AgentRun}
 use Rattle.hs_intake.specs.Intakes.{PlainIntake, Stands, Crumbs, crumb_line}
 use Rattle.hs_intake.specs.IntakeLayout.{intake_in}
 use Rattle.hs_intake.specs.Taking.{TakesOne, HoldsOne}
@@ -58,7 +58,7 @@ invariant_of-self-in-Err c =
       triggers = ap (λ (p : Port). length p.triggers) c.crumb.ensures.only ∙ c.self.invariant.triggers;
       late = c.self.invariant.late;
       stands = (λ alive.
-          subst (λ (a : PlainAgent Leased). (run : Run Leased) × Stands run (record d { agent = a; port = port; back = Some (Crumbs c.args.client crumb) })) (sym c.in-Err.ensures.same)
+          subst (λ (a : PlainAgent Leased). (run : AgentRun Leased) × Stands run (record d { agent = a; port = port; back = Some (Crumbs c.args.client crumb) })) (sym c.in-Err.ensures.same)
           (held_crumb_alive d c.args.client crumb port (c.self.invariant.stands (ap (λ (a : PlainAgent Leased). a.spent) (sym c.in-Err.ensures.same) ∙ alive)) c.in-Some.ensures.fact
           c.in-Some.ensures.received c.crumb.ensures.only));
     }

@@ -1,6 +1,6 @@
 use Rattle.std.proofs.Common.{◌≡◌, None}
 use Rattle.hs_ring.specs.Parts.{Leased}
-use Rattle.hs_agent.specs.Runs.{Run}
+use Rattle.hs_agent.specs.Runs.{AgentRun}
 use Rattle.hs_intake.specs.Intakes.{Stands, crumb_line}
 use Rattle.hs_intake.proofs.Many.{SoFar}
 use Rattle.hs_intake.proofs.intake.Intake.take_crumbs.Given as goal
@@ -10,5 +10,5 @@ invariant-loop-count l =
     record {
       clients : l.self.clients ≡ l.initial.self.clients;
       front : l.self.back ≡ None;
-      so_far : (run : Run Leased) → Stands run l.initial.self → SoFar run crumb_line l.client l.initial.self l.count l.self;
+      so_far : (run : AgentRun Leased) → Stands run l.initial.self → SoFar run crumb_line l.client l.initial.self l.count l.self;
     }

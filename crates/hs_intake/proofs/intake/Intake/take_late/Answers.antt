@@ -2,7 +2,7 @@ use Rattle.std.proofs.Common.{◌≡◌, true, false, [], ◌∷◌, Some, None,
 use Rattle.std.proofs.lemmas.Bool.{false_from_ne_true}
 use Rattle.hs_ring.specs.Parts.{Leased}
 use Rattle.hs_agent.specs.Keeping.{PlainAgent}
-use Rattle.hs_agent.specs.Runs.{Run}
+use Rattle.hs_agent.specs.Runs.{AgentRun}
 use Rattle.hs_intake.specs.Intakes.{PlainIntake, Stands, Crumbs, late_line}
 use Rattle.hs_intake.specs.IntakeLayout.{intake_in}
 use Rattle.hs_intake.specs.Taking.{TakesOne, HoldsOne}
@@ -58,7 +58,7 @@ invariant_of-self-in-Err c =
       triggers = c.self.invariant.triggers;
       late = crumbs_counted c.args.client d.clients (crumb ∷ []) d.late ends (receives_one c.args.client crumb d.late ends c.in-Some.ensures.received) c.self.invariant.late;
       stands = (λ alive.
-          subst (λ (a : PlainAgent Leased). (run : Run Leased) × Stands run (record d { agent = a; late = ends; back = Some (Crumbs c.args.client crumb) })) (sym c.in-Err.ensures.same)
+          subst (λ (a : PlainAgent Leased). (run : AgentRun Leased) × Stands run (record d { agent = a; late = ends; back = Some (Crumbs c.args.client crumb) })) (sym c.in-Err.ensures.same)
           (let known = c.self.invariant.stands (ap (λ (a : PlainAgent Leased). a.spent) (sym c.in-Err.ensures.same) ∙ alive) in
           (known.0, (held_late known.0 d c.args.client crumb ends known.1 c.in-Some.ensures.fact c.in-Some.ensures.received).stands)));
     }

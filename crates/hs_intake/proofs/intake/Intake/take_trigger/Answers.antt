@@ -2,7 +2,7 @@ use Rattle.std.proofs.Common.{◌≡◌, [], ◌∷◌, length, Some, None, sym,
 use Rattle.hs_ring.specs.Parts.{Leased}
 use Rattle.hs_live.specs.Live.{Port}
 use Rattle.hs_agent.specs.Keeping.{PlainAgent}
-use Rattle.hs_agent.specs.Runs.{Run}
+use Rattle.hs_agent.specs.Runs.{AgentRun}
 use Rattle.hs_intake.specs.Intakes.{PlainIntake, Stands, Triggers, HasRoom, trigger_line}
 use Rattle.hs_intake.specs.IntakeLayout.{intake_in}
 use Rattle.hs_intake.specs.declared.took.Fired.TheVariants as fired
@@ -59,7 +59,7 @@ invariant_of-self-in-Err c =
       triggers = triggers_counted c.args.client d.clients (trigger ∷ []) d.port.triggers port.triggers (receives_one c.args.client trigger d.port.triggers port.triggers c.in-Some.ensures.received) c.self.invariant.triggers;
       late = c.self.invariant.late;
       stands = (λ alive.
-          subst (λ (a : PlainAgent Leased). (run : Run Leased) × Stands run (record d { agent = a; port = port; back = Some (Triggers c.args.client trigger) })) (sym c.in-Err.ensures.same)
+          subst (λ (a : PlainAgent Leased). (run : AgentRun Leased) × Stands run (record d { agent = a; port = port; back = Some (Triggers c.args.client trigger) })) (sym c.in-Err.ensures.same)
           (held_trigger_alive d c.args.client trigger port (c.self.invariant.stands (ap (λ (a : PlainAgent Leased). a.spent) (sym c.in-Err.ensures.same) ∙ alive)) c.in-Some.ensures.fact
           c.in-Some.ensures.received c.trigger.ensures.only));
     }

@@ -1,6 +1,6 @@
 use Rattle.std.proofs.Common.{◌≡◌, ◌≤◌, None}
 use Rattle.hs_ring.specs.Parts.{Leased}
-use Rattle.hs_agent.specs.Runs.{Run}
+use Rattle.hs_agent.specs.Runs.{AgentRun}
 use Rattle.hs_intake.specs.Intakes.{Stands}
 use Rattle.hs_intake.proofs.Triggers.{SoMany}
 use Rattle.hs_intake.proofs.intake.Intake.take_triggers.Given as goal
@@ -11,5 +11,5 @@ invariant-loop-count l =
       clients : l.self.clients ≡ l.initial.self.clients;
       front : l.self.back ≡ None;
       low : l.limited ≤ l.count;
-      so_far : (run : Run Leased) → Stands run l.initial.self → SoMany run l.client l.initial.self l.count l.limited l.self;
+      so_far : (run : AgentRun Leased) → Stands run l.initial.self → SoMany run l.client l.initial.self l.count l.limited l.self;
     }

@@ -1,6 +1,6 @@
 use Rattle.std.proofs.Common.{true}
 use Rattle.hs_ring.specs.Parts.{Leased}
-use Rattle.hs_agent.specs.Runs.{Run}
+use Rattle.hs_agent.specs.Runs.{AgentRun}
 use Rattle.hs_intake.specs.Intakes.{Stands}
 use Rattle.hs_node.specs.Nodes.{GoesOn}
 use Rattle.hs_node.specs.Passing.{Each, OffersOne}
@@ -9,6 +9,6 @@ use Rattle.hs_node.proofs.node.Node.offer_all.Given as goal
 abbrev pub invariant-loop : goal.invariant-loop
 invariant-loop l =
     record {
-      on : (run : Run Leased) → Stands run l.initial.self.intake → GoesOn run l.initial.self l.self;
-      does : (run : Run Leased) → Stands run l.initial.self.intake → Each (λ n. OffersOne true) l.counter run l.initial.self l.self;
+      on : (run : AgentRun Leased) → Stands run l.initial.self.intake → GoesOn run l.initial.self l.self;
+      does : (run : AgentRun Leased) → Stands run l.initial.self.intake → Each (λ n. OffersOne true) l.counter run l.initial.self l.self;
     }

@@ -1,5 +1,5 @@
 use Rattle.hs_ring.specs.Parts.{Leased}
-use Rattle.hs_agent.specs.Runs.{Run}
+use Rattle.hs_agent.specs.Runs.{AgentRun}
 use Rattle.hs_intake.specs.Intakes.{Stands}
 use Rattle.hs_node.specs.Nodes.{GoesOn}
 use Rattle.hs_node.specs.Passing.{Each, TakesFrom}
@@ -8,6 +8,6 @@ use Rattle.hs_node.proofs.node.Node.take_all.Given as goal
 abbrev pub invariant-loop-client : goal.invariant-loop-client
 invariant-loop-client l =
     record {
-      on : (run : Run Leased) → Stands run l.initial.self.intake → GoesOn run l.initial.self l.self;
-      does : (run : Run Leased) → Stands run l.initial.self.intake → Each TakesFrom l.client run l.initial.self l.self;
+      on : (run : AgentRun Leased) → Stands run l.initial.self.intake → GoesOn run l.initial.self l.self;
+      does : (run : AgentRun Leased) → Stands run l.initial.self.intake → Each TakesFrom l.client run l.initial.self l.self;
     }

@@ -3,7 +3,7 @@ use Rattle.hs_node_client.proofs.Prelude.{PlainNodeClient, node_client_of}
 use Rattle.hs_node_client.proofs.Living.{begins_in}
 use Rattle.hs_node_client.proofs.Beginning.{turned, begin_keeps, begun_half, begun_inside}
 use Rattle.hs_node_client.specs.Lives.{TurnsInto}
-use Rattle.hs_node_client.specs.declared.counts.Tally.{Tally}
+use Rattle.hs_node_client.specs.declared.counts.RunningCounts.{RunningCounts}
 use Rattle.hs_node_client.specs.declared.notebook.Notebook.{Notebook}
 use Rattle.hs_node_client.proofs.client.NodeClient.begin.Goals as goal
 use Rattle.hs_node_client.proofs.client.NodeClient.begin.Goals.{then-self-ge-MOST_NOTES-via-then-self-ge-MOST_NOTES, then-self-ge-MOST_NOTES-via-else-self-ge-MOST_NOTES+then-not-has_calls}
@@ -22,7 +22,7 @@ invariant_of-self c =
     let turns = subst (λ (m : PlainNodeClient). TurnsInto c.args.self.now m) (sym c.self-2.view_is) (c.if-not-has_calls.ensures.turns refl) in
     let is = turned c.args.self.now (node_client_of s) turns in
     let number : s.notebook.number ≡ c.self.inside.notebook.number = ap (λ (n : Notebook). n.number) is.number ∙ sym (ap (λ (p : PlainNodeClient). p.notebook.number) c.self.view_is) in
-    let none = ap (λ (t : Tally). t.here.points) c.drop_note.ensures ∙ ap (λ (t : Tally). t.here.points) c.open.ensures in
+    let none = ap (λ (t : RunningCounts). t.here.points) c.drop_note.ensures ∙ ap (λ (t : RunningCounts). t.here.points) c.open.ensures in
     begun_inside c.args.trace s c.keep_draws.new.self c.begin.new.self c.note.new.self c.drop_note.new.self c.self-2.invariant c.keep_draws.ensures.only c.in-Done.ensures.after is.half c.note.ensures.number (omega (arith, number, c.if-self-ge-MOST_NOTES.false)) none
 
 pub invariant_of-self-else-not-note : goal.invariant_of-self-else-not-note
@@ -31,7 +31,7 @@ invariant_of-self-else-not-note c =
     let turns = subst (λ (m : PlainNodeClient). TurnsInto c.args.self.now m) (sym c.self-2.view_is) (c.if-not-has_calls.ensures.turns refl) in
     let is = turned c.args.self.now (node_client_of s) turns in
     let number : s.notebook.number ≡ c.self.inside.notebook.number = ap (λ (n : Notebook). n.number) is.number ∙ sym (ap (λ (p : PlainNodeClient). p.notebook.number) c.self.view_is) in
-    let none = ap (λ (t : Tally). t.here.points) c.open.ensures in
+    let none = ap (λ (t : RunningCounts). t.here.points) c.open.ensures in
     begun_inside c.args.trace s c.keep_draws.new.self c.begin.new.self c.note.new.self c.open.new.self c.self-2.invariant c.keep_draws.ensures.only c.in-Done.ensures.after is.half c.note.ensures.number (omega (arith, number, c.if-self-ge-MOST_NOTES.false)) none
 
 pub returns-then-not-note-clause-does : goal.returns-then-not-note-clause-does

@@ -2,10 +2,10 @@ use Rattle.std.proofs.Common.{◌≡◌, ℕ, None, sym, ap, ap₂, ◌∙◌, s
 use Rattle.hs_node_client.proofs.Prelude.{PlainClient}
 use Rattle.hs_node_client.proofs.Behind.{pages_ended}
 use Rattle.hs_node_client.specs.Paging.{place_behind, place_in}
-use Rattle.hs_node_client.specs.declared.paged.Place.{Place}
+use Rattle.hs_node_client.specs.declared.paged.NextPage.{NextPage}
 use Rattle.hs_node_client.proofs.paged.Paged.place.Goals as goal
 
-abbrev place_of : ℕ → ℕ → Place
+abbrev place_of : ℕ → ℕ → NextPage
 place_of core page = record { core = core; page = page }
 
 pub returns-clause-behind : goal.returns-clause-behind

@@ -5,7 +5,7 @@ use Rattle.hs_outbox.specs.Slots.{Written}
 use Rattle.hs_outbox.specs.Queue.{Pending, Queue, waits, is_numbered, has_number}
 use Rattle.hs_outbox.specs.Lives.{Rises}
 use Rattle.hs_outbox.specs.Layout.{waiting_in, slots_of, place_of, HaveRoom}
-use Rattle.hs_outbox.specs.declared.outbox.Entry.{Entry}
+use Rattle.hs_outbox.specs.declared.outbox.OutboxEntry.{OutboxEntry}
 use Rattle.hs_outbox.proofs.Rising.{rises_filter}
 use Rattle.hs_outbox.proofs.Places.{stands, others, gone_is, kept_is, waiting_without}
 use Rattle.hs_outbox.proofs.Layouts.{same_queue, rising_seen, seen_at, waits_seen, within_by, as_many, room_push, entry_gone, entry_at}
@@ -32,14 +32,14 @@ remove-slot-requires c =
     omega (arith, within, as_many c.deref-2.result.now, c.deref-2.ensures.len)
 
 -- how many slots there are after one went from the entries to those that are free
-as_many_slots : (free : List Written) (es : List Entry) (i : ℕ) (slot : Written) → i < length es → length (free ++ slot ∷ []) + length (remove es i) ≡ length free + length es
+as_many_slots : (free : List Written) (es : List OutboxEntry) (i : ℕ) (slot : Written) → i < length es → length (free ++ slot ∷ []) + length (remove es i) ≡ length free + length es
 as_many_slots free es i slot within = omega (arith, length-append free (slot ∷ []), length-remove es i within)
 
-there_within : (seen es : List Entry) (i : ℕ) → seen ≡ es → i < length (waiting_in seen) → i < length es
+there_within : (seen es : List OutboxEntry) (i : ℕ) → seen ≡ es → i < length (waiting_in seen) → i < length es
 there_within seen es i same within = omega (arith, within, as_many seen, ap length same)
 
 -- what waits when the entry at a number's place is gone
-gone_seen : (seen again es : List Entry) (place m n fresh : ℕ) → seen ≡ es → again ≡ es → place ≡ place_of m (waiting_in seen) → m ≡ n → Rises 0 fresh (waiting_in es)
+gone_seen : (seen again es : List OutboxEntry) (place m n fresh : ℕ) → seen ≡ es → again ≡ es → place ≡ place_of m (waiting_in seen) → m ≡ n → Rises 0 fresh (waiting_in es)
     → has_number (slice_get (waiting_in again) place) n ≡ true → waiting_in (remove es place) ≡ others n (waiting_in es)
 gone_seen seen again es place m n fresh same also is number rise there =
     let at : place ≡ place_of n (waiting_in es) = is ∙ (λ k. place_of (number k) (waiting_in (same k))) in
@@ -59,17 +59,17 @@ invariant_of-self c =
     ∙ gone_seen c.deref.result.now seen es i c.from.result n o.fresh c.deref.ensures.value c.deref-2.ensures.value c.place_of-place.ensures c.from.ensures c.self.invariant.rising (sym c.if-not-has_at.ensures) in
     let many : length c.push_reserved.new.self.items + length c.remove-slot.new.self.items ≡ length o.free.items + length es =
     ap (λ (slots : List Written). length slots + length c.remove-slot.new.self.items) c.push_reserved.ensures.items
-    ∙ ap (λ (xs : List Entry). length (o.free.items ++ c.remove-slot.result.slot ∷ []) + length xs) c.remove-slot.ensures.items
+    ∙ ap (λ (xs : List OutboxEntry). length (o.free.items ++ c.remove-slot.result.slot ∷ []) + length xs) c.remove-slot.ensures.items
     ∙ as_many_slots o.free.items es i c.remove-slot.result.slot within in
     let slot : c.remove-slot.result.slot.room ≡ o.room =
-    ap (λ (e : Entry). e.slot.room) c.remove-slot.ensures.value ∙ entry_at o.room es i c.remove-slot.result c.self.invariant.entry_room within in
+    ap (λ (e : OutboxEntry). e.slot.room) c.remove-slot.ensures.value ∙ entry_at o.room es i c.remove-slot.result c.self.invariant.entry_room within in
     record {
       rising = subst (λ (ps : List Pending). Rises 0 o.fresh ps) (sym gone) (rises_filter (λ p. not (is_numbered n p)) (waiting_in es) 0 o.fresh c.self.invariant.rising);
       fresh = c.self.invariant.fresh;
       handed = c.self.invariant.handed;
       few = (let few = c.self.invariant.few in omega (arith, few, many));
       free_room = subst (λ (slots : List Written). HaveRoom o.room slots) (sym c.push_reserved.ensures.items) (room_push o.room o.free.items c.remove-slot.result.slot c.self.invariant.free_room slot);
-      entry_room = subst (λ (xs : List Entry). HaveRoom o.room (slots_of xs)) (sym c.remove-slot.ensures.items) (entry_gone o.room es i c.self.invariant.entry_room);
+      entry_room = subst (λ (xs : List OutboxEntry). HaveRoom o.room (slots_of xs)) (sym c.remove-slot.ensures.items) (entry_gone o.room es i c.self.invariant.entry_room);
       free_capacity = (let fits = c.self.invariant.free_capacity in omega (arith, fits, many, c.push_reserved.ensures.capacity));
       entry_capacity = (let fits = c.self.invariant.entry_capacity in omega (arith, fits, many, c.remove-slot.ensures.capacity));
     }
@@ -94,7 +94,7 @@ returns-clause-after c =
     ∙ gone_seen c.deref.result.now seen es i c.from.result n o.fresh c.deref.ensures.value c.deref-2.ensures.value c.place_of-place.ensures c.from.ensures c.self.invariant.rising (sym c.if-not-has_at.ensures) in
     let many : length c.push_reserved.new.self.items + length c.remove-slot.new.self.items ≡ length o.free.items + length es =
     ap (λ (slots : List Written). length slots + length c.remove-slot.new.self.items) c.push_reserved.ensures.items
-    ∙ ap (λ (xs : List Entry). length (o.free.items ++ c.remove-slot.result.slot ∷ []) + length xs) c.remove-slot.ensures.items
+    ∙ ap (λ (xs : List OutboxEntry). length (o.free.items ++ c.remove-slot.result.slot ∷ []) + length xs) c.remove-slot.ensures.items
     ∙ as_many_slots o.free.items es i c.remove-slot.result.slot within in
     same_queue _ _ (gone ∙ ap (λ (q : Queue). others n q.pending) c.self.view_is) (ap (λ (q : Queue). q.handed) c.self.view_is) (ap (λ (q : Queue). q.fresh) c.self.view_is)
     (many ∙ ap (λ (q : Queue). q.places) c.self.view_is) (ap (λ (q : Queue). q.room) c.self.view_is)

@@ -2,15 +2,15 @@ use Rattle.std.proofs.Common.{◌≡◌, ℕ, List, Option, Some, None, option_m
 use Rattle.std.proofs.lemmas.Option.{slice_get-map}
 use Rattle.hs_outbox.specs.Queue.{Pending, Queue, first_offered}
 use Rattle.hs_outbox.specs.Layout.{entry_of, waiting_in}
-use Rattle.hs_outbox.specs.declared.outbox.Entry.{Entry}
+use Rattle.hs_outbox.specs.declared.outbox.OutboxEntry.{OutboxEntry}
 use Rattle.hs_outbox.proofs.Places.{first_is}
 use Rattle.hs_outbox.proofs.Layouts.{rising_seen, seen_at}
 use Rattle.hs_outbox.proofs.outbox.Outbox.next.Goals as goal
 
 -- what was found at the place is what is offered first
-offered : (seen : List Entry) (place : ℕ) (q : Queue) (found : Option Entry) → found ≡ slice_get seen place
+offered : (seen : List OutboxEntry) (place : ℕ) (q : Queue) (found : Option OutboxEntry) → found ≡ slice_get seen place
     → slice_get (waiting_in seen) place ≡ first_offered q → first_offered q ≡ option_map entry_of found
-offered seen place q found is at = sym at ∙ slice_get-map entry_of seen place ∙ ap (λ (o : Option Entry). option_map entry_of o) (sym is)
+offered seen place q found is at = sym at ∙ slice_get-map entry_of seen place ∙ ap (λ (o : Option OutboxEntry). option_map entry_of o) (sym is)
 
 pub place_of-place-requires : goal.place_of-place-requires
 place_of-place-requires c = rising_seen c.deref.result.now c.self.inside.entries.items c.self.inside.fresh c.deref.ensures.value c.self.invariant.fresh c.self.invariant.rising

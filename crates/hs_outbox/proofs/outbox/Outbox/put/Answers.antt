@@ -8,20 +8,20 @@ use Rattle.hs_outbox.specs.Queue.{Pending, Queue, IsOpen, Causes, with, pending_
 use Rattle.hs_outbox.specs.Lives.{Rises}
 use Rattle.hs_outbox.specs.Layout.{entry_of, waiting_in, slots_of, HaveRoom, answer_for, queue_in}
 use Rattle.hs_outbox.specs.declared.outbox.Put.{Put}
-use Rattle.hs_outbox.specs.declared.outbox.Entry.{Entry}
+use Rattle.hs_outbox.specs.declared.outbox.OutboxEntry.{OutboxEntry}
 use Rattle.hs_outbox.proofs.Rising.{rises_behind}
 use Rattle.hs_outbox.proofs.Layouts.{same_queue, as_many, room_front, room_last, entry_push, waiting_push, put_is}
 use Rattle.hs_outbox.proofs.outbox.Outbox.put.Goals as goal
 
 -- a slot goes from those that are free to the entries
-moved : (free rest : List Written) (spare : Written) (es : List Entry) (e : Entry) → free ≡ rest ++ spare ∷ [] → length rest + length (es ++ e ∷ []) ≡ length free + length es
+moved : (free rest : List Written) (spare : Written) (es : List OutboxEntry) (e : OutboxEntry) → free ≡ rest ++ spare ∷ [] → length rest + length (es ++ e ∷ []) ≡ length free + length es
 moved free rest spare es e items = omega (arith, ap length items, length-append rest (spare ∷ []), length-append es (e ∷ []))
 
 -- one was free
-one_free : (free rest : List Written) (spare : Written) (es : List Entry) → free ≡ rest ++ spare ∷ [] → length (waiting_in es) < length free + length es
+one_free : (free rest : List Written) (spare : Written) (es : List OutboxEntry) → free ≡ rest ++ spare ∷ [] → length (waiting_in es) < length free + length es
 one_free free rest spare es items = omega (arith, ap length items, length-append rest (spare ∷ []), as_many es)
 
-rising_more : (es : List Entry) (e : Entry) (fresh from : ℕ) → Rises 0 fresh (waiting_in es) → fresh ≤ e.number → e.number ≡ from → Rises 0 (from + 1) (waiting_in (es ++ e ∷ []))
+rising_more : (es : List OutboxEntry) (e : OutboxEntry) (fresh from : ℕ) → Rises 0 fresh (waiting_in es) → fresh ≤ e.number → e.number ≡ from → Rises 0 (from + 1) (waiting_in (es ++ e ∷ []))
 rising_more es e fresh from rise above same =
     subst (λ (ps : List Pending). Rises 0 (from + 1) ps) (sym (waiting_push es e))
     (rises_behind (waiting_in es) (entry_of e ∷ []) 0 fresh (from + 1) rise (above, omega (arith, same)))
@@ -32,20 +32,20 @@ invariant_of-self-in-Ok c =
     let es = o.entries.items in
     let rest = c.pop.new.self.items in
     let spare = c.in-Some.spare in
-    let e : Entry = record { number = c.args.message.now.head.number; slot = c.write.new.self } in
+    let e : OutboxEntry = record { number = c.args.message.now.head.number; slot = c.write.new.self } in
     let taken : o.free.items ≡ rest ++ spare ∷ [] = c.in-Some.ensures.items in
     let room : spare.room ≡ o.room = room_last o.room rest spare (subst (λ (slots : List Written). HaveRoom o.room slots) taken c.self.invariant.free_room) in
     let many : length rest + length c.push_reserved.new.self.items ≡ length o.free.items + length es =
-    ap (λ (xs : List Entry). length rest + length xs) c.push_reserved.ensures.items ∙ moved o.free.items rest spare es e taken in
+    ap (λ (xs : List OutboxEntry). length rest + length xs) c.push_reserved.ensures.items ∙ moved o.free.items rest spare es e taken in
     let above : o.fresh ≤ e.number = omega (arith, c.if-from-self.false, c.from.ensures) in
     record {
-      rising = subst (λ (xs : List Entry). Rises 0 (c.from-in-Ok.result + 1) (waiting_in xs)) (sym c.push_reserved.ensures.items)
+      rising = subst (λ (xs : List OutboxEntry). Rises 0 (c.from-in-Ok.result + 1) (waiting_in xs)) (sym c.push_reserved.ensures.items)
           (rising_more es e o.fresh c.from-in-Ok.result c.self.invariant.rising above (sym c.from-in-Ok.ensures));
       fresh = omega (arith, c.from-in-Ok.ensures);
       handed = c.self.invariant.handed;
       few = (let few = c.self.invariant.few in omega (arith, few, many));
       free_room = room_front o.room rest (spare ∷ []) (subst (λ (slots : List Written). HaveRoom o.room slots) taken c.self.invariant.free_room);
-      entry_room = subst (λ (xs : List Entry). HaveRoom o.room (slots_of xs)) (sym c.push_reserved.ensures.items) (entry_push o.room es e c.self.invariant.entry_room (c.in-Ok.ensures.room ∙ room));
+      entry_room = subst (λ (xs : List OutboxEntry). HaveRoom o.room (slots_of xs)) (sym c.push_reserved.ensures.items) (entry_push o.room es e c.self.invariant.entry_room (c.in-Ok.ensures.room ∙ room));
       free_capacity = (let fits = c.self.invariant.free_capacity in omega (arith, fits, many, c.pop.ensures.capacity));
       entry_capacity = (let fits = c.self.invariant.entry_capacity in omega (arith, fits, many, c.push_reserved.ensures.capacity));
     }
@@ -57,11 +57,11 @@ longer : (n wanted a b : ℕ) → wanted ≡ n → a < wanted → a ≡ b → b 
 longer n wanted a b is above same = omega (arith, is, above, same)
 
 -- the message stands behind what waited
-joined : (es : List Entry) (e : Entry) (q : Queue) (m : PlainMessage) → waiting_in es ≡ q.pending → e.slot.bytes ≡ message_bytes m → e.number ≡ m.head.number
+joined : (es : List OutboxEntry) (e : OutboxEntry) (q : Queue) (m : PlainMessage) → waiting_in es ≡ q.pending → e.slot.bytes ≡ message_bytes m → e.number ≡ m.head.number
     → waiting_in es ++ entry_of e ∷ [] ≡ q.pending ++ pending_of m ∷ []
 joined es e q m waiting bytes number = λ k. waiting k ++ record { number = number k; bytes = bytes k } ∷ []
 
-is_open : (q old : Queue) (m : PlainMessage) (free rest : List Written) (spare : Written) (es : List Entry) → old ≡ q → old.fresh ≤ m.head.number → old.pending ≡ waiting_in es
+is_open : (q old : Queue) (m : PlainMessage) (free rest : List Written) (spare : Written) (es : List OutboxEntry) → old ≡ q → old.fresh ≤ m.head.number → old.pending ≡ waiting_in es
     → old.places ≡ length free + length es → free ≡ rest ++ spare ∷ [] → IsOpen q m
 is_open q old m free rest spare es same above waiting places items =
     subst (λ (r : Queue). IsOpen r m) same
@@ -80,9 +80,9 @@ returns-in-Ok-clause-done c = λ done.
     room_last o.room rest spare (subst (λ (slots : List Written). HaveRoom o.room slots) taken c.self.invariant.free_room) ∙ ap (λ (r : Queue). r.room) c.self.view_is in
     let free : IsOpen q m = is_open q (queue_in o) m o.free.items rest spare es c.self.view_is (omega (arith, c.if-from-self.false, c.from.ensures)) refl refl taken in
     let fits : length (message_bytes m) ≤ q.room = le_along (length (message_bytes m)) spare.room q.room c.in-Ok.ensures.fits room in
-    let e : Entry = record { number = m.head.number; slot = c.write.new.self } in
+    let e : OutboxEntry = record { number = m.head.number; slot = c.write.new.self } in
     let many : length rest + length c.push_reserved.new.self.items ≡ length o.free.items + length es =
-    ap (λ (xs : List Entry). length rest + length xs) c.push_reserved.ensures.items ∙ moved o.free.items rest spare es e taken in
+    ap (λ (xs : List OutboxEntry). length rest + length xs) c.push_reserved.ensures.items ∙ moved o.free.items rest spare es e taken in
     let waiting : waiting_in c.push_reserved.new.self.items ≡ q.pending ++ pending_of m ∷ [] =
     ap waiting_in c.push_reserved.ensures.items ∙ waiting_push es e ∙ joined es e q m (ap (λ (r : Queue). r.pending) c.self.view_is) c.in-Ok.ensures.bytes refl in
     same_queue _ (with q (pending_of m)) waiting (ap (λ (r : Queue). r.handed) c.self.view_is) (ap (λ n. n + 1) c.from-in-Ok.ensures)
