@@ -101,7 +101,8 @@ impl AgentActor {
         self.desk.agent.log().as_slice()
     }
 
-    /// The messages that wait go to the coordinator, where this is the agent of the node.
+    /// Brings what the agent told, and the coordinator has not got yet, to the coordinator, where this is the agent of the node.
+    /// After it no message waits at the agent.
     pub fn tell(&mut self, coordinator: &mut CoordinatorActor, node: NodeId) -> Result<(), Memory>
         requires { node.0 < length coordinator.old.told }
         ensures only { OnOk result (self.new ≡ record self.old { said = [] }) }
@@ -116,7 +117,7 @@ impl AgentActor {
         Ok(())
     }
 
-    /// The coordinator's asks for the node are sent, and wait behind those that were.
+    /// Fetches the asks that the coordinator has for the node. They wait at the agent behind those that it has not taken yet.
     pub fn ask(&mut self, coordinator: &CoordinatorActor, node: NodeId) -> Result<(), Memory>
         requires { node.0 < MAX_NODES }
         ensures only { OnOk result (self.new ≡ record self.old { asks = self.old.asks ++ asks_for node.0 coordinator.now.asks }) }

@@ -90,7 +90,7 @@ impl ClosedAgent {
         })
     }
 
-    /// A pass: as in the rounds, over what is left.
+    /// The agent makes a pass as in the rounds, over what its closed links still held and the asks that wait.
     pub fn pass(&mut self) -> Result<(), Memory>
         requires { (W : PlainWorkload) × (work : NodeWork) × (all : AllSent) × IsClosedAgent W work all self.old × IsFew W work }
         ensures { (W : PlainWorkload) (work : NodeWork) (all : AllSent) → IsClosedAgent W work all self.old → IsFew W work
@@ -100,7 +100,8 @@ impl ClosedAgent {
         Ok(())
     }
 
-    /// The messages that wait go to the coordinator, where this is the agent of the node.
+    /// Brings what the agent told, and the coordinator has not got yet, to the coordinator, where this is the agent of the node.
+    /// After it no message waits at the agent.
     pub fn tell(&mut self, coordinator: &mut CoordinatorActor, node: NodeId) -> Result<(), Memory>
         requires { node.0 < length coordinator.old.told }
         ensures only { OnOk result (self.new ≡ record self.old { said = [] }) }
@@ -115,7 +116,7 @@ impl ClosedAgent {
         Ok(())
     }
 
-    /// The coordinator's asks for the node are sent, and wait behind those that were.
+    /// Fetches the asks that the coordinator has for the node. They wait at the agent behind those that it has not taken yet.
     pub fn ask(&mut self, coordinator: &CoordinatorActor, node: NodeId) -> Result<(), Memory>
         requires { node.0 < MAX_NODES }
         ensures only { OnOk result (self.new ≡ record self.old { asks = self.old.asks ++ asks_for node.0 coordinator.now.asks }) }

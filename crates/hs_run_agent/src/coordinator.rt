@@ -84,7 +84,7 @@ impl CoordinatorActor {
         add_asks(&self.asks, node, asks)
     }
 
-    /// No ask waits any more: all were fetched.
+    /// Lets all asks go, once each node has fetched its own.
     pub fn forget_asks(&mut self)
         ensures only { self.new ≡ record self.old { asks = [] } }
         ensures stands { (W : PlainWorkload) (heard : Messages) (moved : Tellings) (asked asked' : Askings) → IsCoordinatorActor W heard moved asked self.old → AreFetched W self.old.asks asked asked'
