@@ -104,7 +104,7 @@ impl Groups {
 
     /// Takes a message in which a node tells of a group, in the life of this epoch: the group is followed from then on, a node
     /// that a crumb names for the first time is to be asked, and an `Answer` of the latest life answers the node's ask
-    /// (`docs/RULES.md`, "The hub"). `ToldOutcome` has what `hear` answers of the epoch. `Refused` comes where a node is named that is
+    /// (`docs/RULES.md`, "The hub"). `Taken` has what `hear` answers of the epoch. `Refused` comes where a node is named that is
     /// not there, and `Full` where it would begin one group too many while the oldest is not settled; after both all is as it
     /// was. Takes no memory.
     pub fn told(&mut self, node: NodeId, epoch: u64, told: &Told) -> ToldOutcome
