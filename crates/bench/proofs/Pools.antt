@@ -5,7 +5,7 @@ use Rattle.std.specs.List.{list_any}
 use mathlib.Core.Option.{some}
 use lib.ListN.{get_elem?}
 use borrow.Author.Tests.{eq-eqb}
-use Rattle.hs_lists.proofs.Counts.{count_cons}
+use Rattle.hs_base.proofs.Counts.{count_cons}
 use Rattle.hs_words.specs.Chunks.{Contents}
 use Rattle.hs_words.specs.PoolHistory.{PoolEvent, queue_after, IsHistoryBack}
 use Rattle.hs_words.proofs.Waiting.{is, waits_once, waiting_below}

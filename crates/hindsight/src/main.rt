@@ -3,7 +3,7 @@
 
 use hs_base::{Memory, OpenGate};
 use hs_cli::{Status, hindsight};
-use hs_streams::{StdinSource, StdoutSink};
+use hs_workload::{StdinSource, StdoutSink};
 use std::env;
 use std::io::ErrorKind;
 use std::process::ExitCode;

@@ -1,7 +1,7 @@
 -- What is kept after a chunk came is what the model says then, before anything has to give way.
 use Rattle.std.proofs.Common.{◌≡◌, ℕ, ◌+◌, ◌≤◌, ◌<◌, ◌^◌, false, List, [], ◌∷◌, ◌++◌, length, map, Some, None, slice_get, refl, sym, ap, subst, ◌∙◌, arith}
 use Rattle.hs_agent.proofs.Prelude.{AreLeft, ChunkNote, unoffered, filter_map, AllByRecursion, option_map, option_map_or, option_and_then, option_to_list, append_assoc, map-append, length-map, length-append, all_weaker, all_append, all_front, all_back, TraceId, Group, Header, Sheet, used_of, header_of, Buffer, Pin, claim_of, with_pin, pin_for, Pinning, Remembers, Indexed, PlainIndexedTrace, noted_of, others, touch, count_chunks, with_chunk, chunks_left, AgentState, Taken, ChunkStanding, is_indexed, Pinned, Abandoned, pinning_group, pinned_for, mark_of, bytes_at, with_indexed, with_pinned, with_abandoned, Tagged, Placed, place_of, placed_at, Kept, Holds, HasPage, IsKept, IsIndexed, Point, pinned_place, waiting_chunks, let_go, with_left, abandoned_for, noted}
-use Rattle.hs_lists.proofs.Places.{get_last}
+use Rattle.hs_base.proofs.Places.{get_last}
 use Rattle.hs_index.specs.Index.{with_touched, trace_of}
 use Rattle.hs_index.specs.Index as index
 use Rattle.hs_law_agent.specs.Standings.{Indexed as IsIn}

@@ -2,7 +2,7 @@
 use Rattle.std.proofs.Common.{◌≡◌, ◌≤◌, ℕ, suc, zero, length, take, slice_get, Bool, true, false, cond, ◌||◌, List, [], ◌∷◌, map, fold, Option, Some, None, IsSome, refl, sym, ap, subst, ◌∙◌}
 use Rattle.hs_agent.proofs.Prelude.{AllByRecursion, list_any, option_map_or, all_weaker, TraceId, Ask, same_trace, Claim, Remembered, claim_of, Remembers, drops, relieved, Tagged, let_go_all, abandoned_going, claimed_for, AgentState, ClaimedTrace, is_claimed, claim_trace, claim_unclaimed, claim_each, traces_of, claim_for, same_trace-refl, Kept, Holds, Point, with_state}
 use Rattle.std.proofs.lemmas.List.Folds.{list_any-append}
-use Rattle.hs_lists.proofs.Parts.{take_whole}
+use Rattle.hs_base.proofs.Parts.{take_whole}
 use Rattle.hs_agent.proofs.Claimed.{claimed-plain}
 use Rattle.hs_agent.proofs.Unchanged.{abandon-keeps}
 use Rattle.hs_agent.proofs.Relieving.{holds-abandoned}

@@ -1,7 +1,7 @@
 -- The nodes that a message names are those to which a crumb of one of its traces leads.
 use Rattle.std.proofs.Common.{◌≡◌, ℕ, Bool, true, false, cond, ◌||◌, ◌&&◌, List, [], ◌∷◌, filter, fold, Option, Some, None, nat_eq, eq-eqb, refl, sym, ap, ◌∙◌, true≢false}
 use Rattle.hs_agent.proofs.Prelude.{list_any, AllByRecursion, option_map, option_map_or, IsSome, or-false, eqb-true, ne_eqb, TraceId, NodeSet, Crumb, has_node, no_nodes, with_node, has-no_nodes, has-with_node, same_trace, Claim, claim_of, Indexed, noted_of, same_crumb, has_crumb, crumb_nodes, Tagged, crumbs_known}
-use Rattle.hs_lists.proofs.Bools.{or_assoc}
+use Rattle.hs_base.proofs.Bools.{or_assoc}
 use Rattle.hs_pins.specs.Remembered as pins
 
 abbrev crumb_to : TraceId → ℕ → Crumb

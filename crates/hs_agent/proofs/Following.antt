@@ -1,7 +1,7 @@
 -- An agent follows its run from call to call.
 use Rattle.std.proofs.Common.{◌≡◌, ◌≤◌, append-nil, ℕ, Bool, true, false, cond, List, [], ◌∷◌, ◌++◌, slice_set, Some, None, IsSome, refl, sym, ap, subst, ◌∙◌}
 use Rattle.hs_agent.proofs.Prelude.{Step, Chunk, Crumbed, Triggered, Asked, Turn, back_after, came_back, fold-append, option_map_or, PlainSettings, Schedule, IsSchedule, Buffer, buffer_of, IsInOnePlace, PlacesMatch, EventsLeadOn, ListsGoOn, AgentState, Answered, Given, Missed, Unread, Took, Gave, note, step_of, take_input, step_of_answer, give_back, take_answer, after_gave, Kept, PlainAgent, Holds, Point, answered, AgentRun, input_of, taken_in, Follows, StandsAt, point_of, state_of, after_offer, Input}
-use Rattle.hs_lists.proofs.Options.{some_item}
+use Rattle.hs_base.proofs.Options.{some_item}
 use Rattle.hs_base.specs.declared.limits.TheConstants.{MOST_NODES}
 use Rattle.hs_words.specs.declared.token.Given.{Given as Answer}
 use Rattle.hs_words.specs.declared.token.Given.TheVariants as given

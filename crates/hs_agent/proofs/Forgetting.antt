@@ -2,8 +2,8 @@
 use Rattle.std.proofs.Common.{◌≡◌, ℕ, Bool, true, false, cond, not, ◌||◌, ◌&&◌, List, [], ◌∷◌, map, filter, Option, Some, None, refl, sym, ap, subst, ◌∙◌, true≢false}
 use Rattle.hs_agent.proofs.Prelude.{list_any, find, filter_map, AllByRecursion, option_map_or, option_and_then, all_weaker, or-false, TraceId, Group, Crumb, has_node, has-no_nodes, same_trace, same_trace-true, Claim, claim_of, Pin, Remembers, Indexed, is_of, PlainIndexedTrace, noted_of, nothing, Tagged, ClaimedTrace, claim_note, same_crumb, has_crumb, forget_group, is_settled, pinned_for, Kept, Point, Holds, plain_claim, pinned_place, crumbs_known, with_state}
 use Rattle.hs_records.specs.declared.books.Claim as noted
-use Rattle.hs_lists.proofs.Filters.{filter_mapped}
-use Rattle.hs_lists.proofs.Tests.{list_any_map}
+use Rattle.hs_base.proofs.Filters.{filter_mapped}
+use Rattle.hs_base.proofs.Tests.{list_any_map}
 use Rattle.hs_pins.specs.Priorities.{same_group}
 use Rattle.hs_pins.specs.Remembered as pins
 use Rattle.hs_pins.specs.Abandoning.{groups_of}

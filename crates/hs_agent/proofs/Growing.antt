@@ -1,7 +1,7 @@
 -- What stays where a chunk more was taken.
 use Rattle.std.proofs.Common.{◌≡◌, ℕ, ◌<◌, List, [], ◌∷◌, ◌++◌, length, Option, Some, None, slice_get, refl, ap, ◌∙◌}
 use Rattle.hs_agent.proofs.Prelude.{filter_map, AllByRecursion, cons_option, option_map, option_and_then, Left, Group, ChunkNote, PlainSettings, page_bytes, Buffer, Taken, pinning_group, pinned_for, bytes_at, Placed, place_of, IsKept, HasPage, with_left}
-use Rattle.hs_lists.proofs.Places.{get_front, get_front_same}
+use Rattle.hs_base.proofs.Places.{get_front, get_front_same}
 use Rattle.hs_agent.proofs.NotedFates.{with_left-later}
 
 pub is_kept-front : {L : Type 0} (buffers others : List (Buffer L)) (placed : Placed L) → IsKept buffers placed → IsKept (buffers ++ others) placed

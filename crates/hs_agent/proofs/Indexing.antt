@@ -6,7 +6,7 @@ use Rattle.std.proofs.lemmas.Bool.{not-true}
 use Rattle.std.proofs.lemmas.List.Elements.{filter-append}
 use Rattle.std.proofs.lemmas.List.Folds.{find-append}
 use Rattle.std.proofs.lemmas.List.Sums.{sum_by_push}
-use Rattle.hs_lists.proofs.Options.{option_or_none}
+use Rattle.hs_base.proofs.Options.{option_or_none}
 use Rattle.hs_index.specs.Index.{is_other}
 use Rattle.hs_index.specs.Index as index
 use Rattle.hs_law_agent.specs.Standings.{Indexed as IsIn}

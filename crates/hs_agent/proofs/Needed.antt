@@ -3,7 +3,7 @@
 use Rattle.std.proofs.Common.{◌≡◌, ℕ, zero, suc, add-one, ◌+◌, ◌≤◌, cond, List, [], ◌∷◌, length, take, drop, slice_get, Some, refl, sym, ap, ◌∙◌, arith}
 use Rattle.std.proofs.lemmas.Option.{slice_get_within, get_or_from_slice_get}
 use Rattle.hs_agent.proofs.Prelude.{find, option_map_or, sum_by-cons, by_answer, TraceId, same_trace, Indexed, is_of, nothing, noted_of, others, chunk_count, count_chunks, same_trace-true, Tagged}
-use Rattle.hs_lists.proofs.Parts.{drop_next}
+use Rattle.hs_base.proofs.Parts.{drop_next}
 use Rattle.hs_agent.specs.Asking.{named_chunks, needed}
 use Rattle.hs_agent.proofs.Indexing.{noted-others, noted-gone}
 use Rattle.hs_agent.proofs.ClaimedAll.{fold-more}

@@ -2,7 +2,7 @@
 use Rattle.std.proofs.Common.{◌≡◌, ◌≢◌, ℕ, zero, suc, ◌<◌, Bool, true, false, ◌||◌, nat_eq, eq-eqb, List, [], ◌∷◌, ◌++◌, length, map, Option, Some, None, slice_get, slice_set, refl, sym, ap, subst, ◌∙◌, arith, true≢false, append-nil}
 use Rattle.hs_agent.proofs.Prelude.{AllByRecursion, option_map_or, option_and_then, option_to_list, append_assoc, map-append, map-map, length-append, all_append, all_weaker, Pin, is_among, Tagged, Placed, place_of, Left, ChunkNote, AreLeft, left_at, with_left, Going, going_buffer, going_left, behind, unoffered}
 use Rattle.std.proofs.lemmas.List.{length-set}
-use Rattle.hs_lists.proofs.Places.{get_front_same}
+use Rattle.hs_base.proofs.Places.{get_front_same}
 use Rattle.hs_agent.specs.Trying.{lefts_noted}
 
 -- ---- a write in a list

@@ -42,10 +42,10 @@ pub use Rattle.hs_law_agent.specs.Standings.{Abandoned, ChunkStanding, Evicted, 
 pub use Rattle.hs_law_agent.specs.State.{AgentState, ClaimedTrace, is_abandoned, is_claimed, start}
 pub use Rattle.hs_law_agent.specs.Stepping.{admit, admits, after, after_event, after_from, after_gave, AgentEvent, Answered, Asked, Chunk, claim_for, count_admitted, Crumbed, Gave, give_back, Given, group_of, late_crumb, Missed, note, note_trigger, pin_chunk, step_of, step_of_answer, take_answer, take_ask, take_chunk, take_crumb, take_input, take_trigger, tell_late, Took, Triggered, Turn, Unread, with_abandoned, with_indexed, with_pinned, with_touched}
 pub use Rattle.hs_law_agent.specs.Turning.{report, reported_standing, turn, visit}
-pub use Rattle.hs_lists.proofs.Alls.{all_and, all_append, all_back, all_front, all_map, all_unmap, all_weaker}
-pub use Rattle.hs_lists.proofs.Bools.{by_answer}
-pub use Rattle.hs_lists.proofs.Counts.{one_if}
-pub use Rattle.hs_lists.proofs.Lent.{written_back}
+pub use Rattle.hs_base.proofs.Alls.{all_and, all_append, all_back, all_front, all_map, all_unmap, all_weaker}
+pub use Rattle.hs_base.proofs.Bools.{by_answer}
+pub use Rattle.hs_base.proofs.Counts.{one_if}
+pub use Rattle.hs_base.proofs.Lent.{written_back}
 pub use Rattle.hs_pins.proofs.Order.{same_group-true}
 pub use Rattle.hs_pins.proofs.Sound.{staying_few}
 pub use Rattle.hs_pins.specs.Abandoning.{drops, leaving, relieved}

@@ -3,7 +3,7 @@ use Rattle.std.proofs.Common.{◌≡◌, ℕ, ◌<◌, ◌≤◌, Bool, true, fa
 use Rattle.hs_agent.proofs.Prelude.{AreLeft, unoffered, length-map, mark_of, going_buffer, going_left, Placed, filter_map, ◌≢◌, AllByRecursion, cons_option, option_map, option_map_or, option_to_list, is_some, IsSome, append_assoc, map-append, All-from_recursion, recursion_from_All, slice_get_within, map-map, all_weaker, all_append, all_front, all_back, all_map, all_unmap, all_and, used_in, used_of, page_bytes, chunks_left, Pin, Remembered, waiting, used_bytes, Share, SendsEach, visited, Taken, AgentState, has_crumb, claim_note, bytes_at, visit, turn, PlacesMatch, count_of, Tagged, place_of, Kept, Point, Holds, IsKept, HasPage, IsIndexed, RemembersAs, with_state, pinned_place, plain_claim, waiting_chunks, all_held, let_go_all, reported, reported_going, page_in, SendsNext, costs_of, id_of}
 use Rattle.std.specs.List.{AllPairs}
 use Rattle.std.proofs.lemmas.List.Elements.{filter_map-append}
-use Rattle.hs_lists.proofs.Alls.{pairs_head, pairs_tail}
+use Rattle.hs_base.proofs.Alls.{pairs_head, pairs_tail}
 use Rattle.hs_law_agent.specs.Turning.{shares_after}
 use Rattle.hs_law_agent.specs.Turning as model
 use Rattle.hs_agent.specs.Trying.{lefts_noted}

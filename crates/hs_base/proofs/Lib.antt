@@ -2,3 +2,17 @@ pub mod LateralsLemmas
 pub mod NodeSetLemmas
 pub mod RankLemmas
 pub mod Updates
+pub mod Bools
+pub mod Numbers
+pub mod Options
+pub mod Parts
+pub mod Places
+pub mod Alls
+pub mod Filters
+pub mod Tests
+pub mod Counts
+pub mod Ranges
+pub mod Lent
+pub mod Sequences
+pub mod Stable
+pub mod Loops

@@ -1,5 +1,6 @@
 //! The ground that every crate of Hindsight stands on: ids, ranks, fates and settings, lists whose
-//! room contracts can see, and the traits of the outside world with their in-memory forms.
+//! room contracts can see, and the traits of the outside world with their in-memory forms. In `proofs/` stand, by subject, the lemmas
+//! on lists, Booleans, numbers and options that std lacks, each once, for the proofs of all other crates.
 #![tactic(auto)]
 
 mod ids;

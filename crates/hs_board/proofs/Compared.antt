@@ -2,9 +2,9 @@
 use Rattle.std.proofs.Common.{◌≡◌, ℕ, ◌+◌, ◌<◌, ◌≤◌, inl, inr, List, length, length-set, set, slice_get, Some, refl, sym, ap, subst, ◌∙◌, arith}
 use Rattle.std.proofs.lemmas.Option.{same_Some, slice_get_within}
 use Rattle.std.specs.List.{AllByRecursion}
-use Rattle.hs_lists.proofs.Alls.{all_by_place}
-use Rattle.hs_lists.proofs.Numbers.{same_or_less}
-use Rattle.hs_lists.proofs.Places.{get_other, get_set_cases}
+use Rattle.hs_base.proofs.Alls.{all_by_place}
+use Rattle.hs_base.proofs.Numbers.{same_or_less}
+use Rattle.hs_base.proofs.Places.{get_other, get_set_cases}
 use Rattle.hs_board.specs.declared.progress.Progress.{Progress}
 use Rattle.hs_board.specs.Looking.{Looking}
 use Rattle.hs_board.specs.Shown.{IsFront}

@@ -6,7 +6,7 @@ use Rattle.hs_board.specs.Shown.{IsFront, IsAmong, IsLast}
 use Rattle.hs_board.proofs.Fronts.{among_front}
 use Rattle.hs_board.specs.Looking.{Looking}
 use Rattle.std.specs.Prelude.{Result, Ok, Err, OnOk, OnErr}
-use Rattle.hs_lists.proofs.Alls.{all_push, all_weaker}
+use Rattle.hs_base.proofs.Alls.{all_push, all_weaker}
 use Rattle.hs_board.specs.Watching.{ShownTotals, IsFrom, IsRising, Watching, Watches, KeepsWatching, EndsAtLatest, IsSeenOf, Showing, WatchStands, KnowLast}
 
 module _ (shown known known' : ShownTotals) (front : IsFront known known') where

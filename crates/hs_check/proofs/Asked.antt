@@ -6,9 +6,9 @@ use Rattle.hs_base.specs.NodeSets.{has_node}
 use Rattle.hs_law_journal.specs.Following.{Asks, asks_to}
 use Rattle.hs_law_journal.specs.Pace.{asks_enough}
 use Rattle.hs_law_journal.specs.Passes.{taken_in}
-use Rattle.hs_check_clauses.specs.declared.found.Found.{Found}
-use Rattle.hs_check_clauses.specs.Finding.{AreAsked, IsFound}
-use Rattle.hs_check_clauses.proofs.Knowing.{asks_counted, heard_is_told}
+use Rattle.hs_check_follow.specs.declared.found.Found.{Found}
+use Rattle.hs_check_follow.specs.Finding.{AreAsked, IsFound}
+use Rattle.hs_check_follow.proofs.Knowing.{asks_counted, heard_is_told}
 use Rattle.hs_check.specs.declared.kinds.Kind.TheVariants as kinds
 use Rattle.hs_check.proofs.Firsts.{first_of, first_le}
 use Rattle.hs_check.proofs.Heard.{heard_is, all_heard, most_is}

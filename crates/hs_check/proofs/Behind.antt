@@ -4,7 +4,7 @@ use Rattle.std.proofs.Common.{◌≡◌, ℕ, zero, suc, ◌+◌, ◌<◌, ◌�
 use Rattle.hs_check.proofs.Prelude.{slice_get, option_map, count_by, ◌||◌, flat_map, list_any, option_and_then, option_map_or, take-append_seam, eq-eqb, cases_lt, append_assoc, append-nil, length-append, length-map, map-append, take-append-drop, take-map, sum_by-cons, slice_get-map, one_if, Step, EventsAddThis, EventsGoOn, ListsHaveTheirChunks, Taken, AgentState, GivenPlace, PlainSettings, DrawnPage, NodeRun, ComesByEvents, state_behind, page_of, given_page, is_give}
 use Rattle.std.specs.Prelude.{filter_map}
 use Rattle.std.proofs.lemmas.List.Sums.{sum_by-append}
-use Rattle.hs_lists.proofs.Places.{get_front_same}
+use Rattle.hs_base.proofs.Places.{get_front_same}
 use Rattle.hs_records.specs.declared.journal.Step.TheVariants as steps
 use Rattle.hs_law_agent.specs.Laws.{count_of, given_places, sheets_of, brought_by, noted_as}
 use Rattle.hs_law_agent.specs.Standings.{is_let_go, stands}

@@ -5,7 +5,7 @@ use Rattle.std.proofs.Math.Nat.{le-max_left, le-max_right}
 use Rattle.std.proofs.lemmas.Bool.{leb-true}
 use Rattle.hs_law_journal.specs.Following.{is_from}
 use Rattle.hs_law_journal.specs.Pace.{due_by}
-use Rattle.hs_check_clauses.specs.Finding.{behind_passes}
+use Rattle.hs_check_follow.specs.Finding.{behind_passes}
 use Rattle.hs_check.proofs.Firsts.{first_of, first_next, first_congr, first_always, first_both, Rises}
 
 -- ---- counts of a beginning

@@ -4,9 +4,9 @@ use Rattle.hs_check.proofs.Prelude.{slice_get, option_map, flat_map, range_with_
 use Rattle.std.proofs.lemmas.List.{nil_from_length}
 use Rattle.std.proofs.lemmas.List.FromFn.{length-range_with_len, get_or-range_with_len}
 use Rattle.std.proofs.lemmas.Option.{slice_get-get_or, slice_get_within, same_Some}
-use Rattle.hs_lists.proofs.Places.{get_there}
-use Rattle.hs_lists.proofs.Tests.{list_all_at}
-use Rattle.hs_lists.proofs.Ranges.{range_append}
+use Rattle.hs_base.proofs.Places.{get_there}
+use Rattle.hs_base.proofs.Tests.{list_all_at}
+use Rattle.hs_base.proofs.Ranges.{range_append}
 use Rattle.hs_check_follow.specs.Parting.{books_left}
 use Rattle.hs_check_follow.specs.Whole.{AllAt}
 use Rattle.hs_check_follow.specs.declared.coordinator.FollowedCoordinator.{FollowedCoordinator}

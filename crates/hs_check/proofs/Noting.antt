@@ -4,7 +4,7 @@ use Rattle.hs_check.proofs.Prelude.{◌||◌, list_any, option_map_or, lt-ltb, l
 use Rattle.std.specs.Prelude.{max}
 use Rattle.std.specs.List.{cons_option}
 use Rattle.std.proofs.Math.Bool.{or-false}
-use Rattle.hs_lists.proofs.Counts.{count_push}
+use Rattle.hs_base.proofs.Counts.{count_push}
 use Rattle.hs_records.specs.declared.journal.Step.TheVariants as steps
 use Rattle.hs_check.specs.Showing.{HasRoom}
 

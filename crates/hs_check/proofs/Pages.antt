@@ -3,12 +3,12 @@
 use Rattle.std.proofs.Common.{◌≡◌, ℕ, zero, suc, ◌+◌, ◌-◌, ◌<◌, ◌≤◌, Bool, true, false, eqb, ltb, List, [], ◌∷◌, ◌++◌, map, Option, Some, None, refl, sym, ap, ◌∙◌, inl, inr, arith}
 use Rattle.hs_check.proofs.Prelude.{slice_get, option_map, ◌&&◌, ◌||◌, flat_map, list_any, range_with_len, AllByRecursion, option_and_then, option_map_or, and_parts, and_from, and_right, eq-eqb, ne_eqb, lt-ltb, le-ltb, cases_eq, cases_lt, map-append, list_any-append, all_each, all_append, Draw, PlainJournal, PlainWorkload, DrawnPage, has_buffer, stamp_of, ClientSends, draws_at, place_of, draw_stamps, rise, rise_above, same_page, FoundClient, FoundPage, AreFound, IsFoundClient, starts_of, drawn_lists, PageDraw, first_stamp, page_draws, all_page_draws, is_named, is_passed}
 use Rattle.std.proofs.lemmas.Bool.{and_left, eqb-true, ltb-true, false_from_ne_true, true≢false}
-use Rattle.hs_lists.proofs.Tests.{list_any_none}
+use Rattle.hs_base.proofs.Tests.{list_any_none}
 use Rattle.hs_base.specs.declared.ids.ClientId.{ClientId}
-use Rattle.hs_law_sends.specs.Drawn.{drawn_from}
-use Rattle.hs_law_sends.specs.Sending.{operations_at, client_sends}
-use Rattle.hs_law_sends.specs.Timing.{TimedPage, timed_pages}
-use Rattle.hs_law_sends.proofs.Order.{page_at as own_at}
+use Rattle.hs_client.specs.Drawn.{drawn_from}
+use Rattle.hs_client.specs.Sending.{operations_at, client_sends}
+use Rattle.hs_client.specs.Timing.{TimedPage, timed_pages}
+use Rattle.hs_client.proofs.Order.{page_at as own_at}
 
 -- the page of a client's number and its own
 abbrev pub page_at : List ClientSends → ℕ → ℕ → Option DrawnPage

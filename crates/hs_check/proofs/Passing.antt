@@ -2,13 +2,13 @@
 use Rattle.std.proofs.Common.{◌≡◌, ℕ, zero, suc, ◌+◌, ◌-◌, ◌*◌, ◌<◌, ◌≤◌, Bool, true, false, cond, ltb, leb, min, List, [], ◌∷◌, ◌++◌, length, map, take, get_or, refl, sym, ap, ◌∙◌, arith}
 use Rattle.hs_check.proofs.Prelude.{count_by, ◌&&◌, flat_map, range_with_len, list_all, get_or-map-range_with_len, length-map-range_with_len, count_map, one_if, count_cons, MAX_TAKEN, Step, PlainSettings, ClientSends, Chunks, Crumbs, Triggers, takes, client_in_pace, passes_of, put_step, ends_between, one_more, behind_each, FoundClient, IsFoundClient, sent_in, enough_at, all_enough, numbers_in_pace}
 use Rattle.std.proofs.lemmas.List.Sums.{length-filter}
-use Rattle.hs_law_sends.specs.Sending.{Sent, sent_within}
+use Rattle.hs_client.specs.Sending.{Sent, sent_within}
 use Rattle.hs_law_journal.specs.Following.{Queue}
 use Rattle.hs_law_journal.specs.Pace.{takes_enough, queue_in_pace}
 use Rattle.hs_check.specs.Counting.{count_in}
-use Rattle.hs_check_clauses.specs.Finding.{numbers_of}
+use Rattle.hs_check_follow.specs.Finding.{numbers_of}
 use Rattle.hs_check.proofs.Tallied.{sent_by}
-use Rattle.hs_check_clauses.proofs.PassFronts.{begins}
+use Rattle.hs_check_follow.proofs.PassFronts.{begins}
 
 pub more_is : (b : Bool) (count : ℕ) → one_more b count ≡ count + one_if b
 more_is true count = refl

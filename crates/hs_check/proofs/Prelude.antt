@@ -15,15 +15,15 @@ pub use Rattle.hs_check.specs.Showing.{HasGiven, is_give, is_named, is_passed, I
 pub use Rattle.hs_check.specs.declared.clause.Clause.{Clause}
 pub use Rattle.hs_check.specs.declared.page_draws.PageDraw.{PageDraw}
 pub use Rattle.hs_check.specs.declared.shown.Shown.{Shown}
-pub use Rattle.hs_check_clauses.proofs.Bared.{clients_counted}
-pub use Rattle.hs_check_clauses.proofs.Knowing.{found_as_many, found_at, found_counted, known_at, nodes_counted}
-pub use Rattle.hs_check_clauses.proofs.NodeEvents.{drawn_lists, lists_are}
-pub use Rattle.hs_check_clauses.proofs.Ranges.{each_holds, step_fails, step_more}
-pub use Rattle.hs_check_clauses.specs.Finding.{AreFound, IsFoundClient, IsFoundNode, starts_of}
-pub use Rattle.hs_check_clauses.specs.Happening.{drawn_from}
-pub use Rattle.hs_check_clauses.specs.declared.found.FoundClient.{FoundClient}
-pub use Rattle.hs_check_clauses.specs.declared.found.FoundNode.{FoundNode}
-pub use Rattle.hs_check_clauses.specs.declared.found.FoundPage.{FoundPage}
+pub use Rattle.hs_check_follow.proofs.Bared.{clients_counted}
+pub use Rattle.hs_check_follow.proofs.Knowing.{found_as_many, found_at, found_counted, known_at, nodes_counted}
+pub use Rattle.hs_check_follow.proofs.NodeEvents.{drawn_lists, lists_are}
+pub use Rattle.hs_check_follow.proofs.Ranges.{each_holds, step_fails, step_more}
+pub use Rattle.hs_check_follow.specs.Finding.{AreFound, IsFoundClient, IsFoundNode, starts_of}
+pub use Rattle.hs_check_follow.specs.Happening.{drawn_from}
+pub use Rattle.hs_check_follow.specs.declared.found.FoundClient.{FoundClient}
+pub use Rattle.hs_check_follow.specs.declared.found.FoundNode.{FoundNode}
+pub use Rattle.hs_check_follow.specs.declared.found.FoundPage.{FoundPage}
 pub use Rattle.hs_coord.specs.Following.{Message, Messages}
 pub use Rattle.hs_law_agent.specs.Laws.{EventsAddThis, EventsGoOn, ListsHaveTheirChunks}
 pub use Rattle.hs_law_agent.specs.Standings.{Taken}
@@ -39,10 +39,10 @@ pub use Rattle.hs_law_journal.specs.Played.{Played, played, state_behind}
 pub use Rattle.hs_law_journal.specs.Pooled.{given_page, node_pages, page_of}
 pub use Rattle.hs_law_journal.specs.Shape.{are_numbered, draw_stamps, has_stamps, log_stamps, node_draws, node_has_stamps, node_stamps, rise, rise_above, step_stamp}
 pub use Rattle.hs_law_journal.specs.Unreads.{before_unreads, may_be_unread, same_page}
-pub use Rattle.hs_law_sends.specs.Drawn.{DrawnPage, has_buffer, stamp_of}
-pub use Rattle.hs_law_sends.specs.Sending.{ClientSends, draws_at, place_of}
-pub use Rattle.hs_lists.proofs.Alls.{all_append, all_each}
-pub use Rattle.hs_lists.proofs.Counts.{count_cons, count_map, one_if}
+pub use Rattle.hs_client.specs.Drawn.{DrawnPage, has_buffer, stamp_of}
+pub use Rattle.hs_client.specs.Sending.{ClientSends, draws_at, place_of}
+pub use Rattle.hs_base.proofs.Alls.{all_append, all_each}
+pub use Rattle.hs_base.proofs.Counts.{count_cons, count_map, one_if}
 pub use Rattle.hs_records.specs.Books.{agent_book_of}
 pub use Rattle.hs_records.specs.Journals.{journal_of, PlainJournal}
 pub use Rattle.hs_records.specs.Plain.{PlainSettings, PlainWorkload, settings_of}

@@ -3,7 +3,7 @@ use Rattle.std.proofs.Common.{◌≡◌, ℕ, zero, suc, ◌+◌, ◌-◌, ◌<�
 use Rattle.hs_check.proofs.Prelude.{zip, ◌&&◌, ◌||◌, AllByRecursion, flat_map, range_with_len, list_all, and-true, cases_lt, lt-ltb, le-ltb, ne_eqb, and_parts, and_from, and_right, list_all-append, all_each, Step, log_stamps, rise, rise_above}
 use Rattle.std.proofs.lemmas.Bool.{cases_order}
 use Rattle.std.proofs.lemmas.Bool.Decides.{nat_tests}
-use Rattle.hs_lists.proofs.Bools.{and_assoc}
+use Rattle.hs_base.proofs.Bools.{and_assoc}
 use Rattle.hs_law_journal.proofs.Logs.{above_all}
 
 -- ---- all of all

@@ -4,7 +4,7 @@ use Rattle.hs_check.proofs.Prelude.{count_by, ◌&&◌, range_with_len, list_all
 use Rattle.std.proofs.Math.Nat.{div-lt_iff_lt-mul}
 use Rattle.std.proofs.lemmas.List.{get_or-set_same, get_or-set_other, get_or_past}
 use Rattle.std.proofs.lemmas.List.Sums.{count_by_more_yes, count_by_more_no, sum_by_more}
-use Rattle.hs_check_clauses.proofs.Numbered.{total, total_is}
+use Rattle.hs_check_follow.proofs.Numbered.{total, total_is}
 
 -- ---- one more
 

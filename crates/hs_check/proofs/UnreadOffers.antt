@@ -1,18 +1,18 @@
 -- The unread offers of a followed node could be unread exactly where its log, its draws and the pages that were found say so.
 use Rattle.std.proofs.Common.{◌≡◌, ℕ, zero, suc, ◌+◌, ◌-◌, ◌*◌, ◌<◌, Bool, true, false, eqb, leb, ltb, List, [], ◌∷◌, ◌++◌, length, map, take, Option, Some, None, refl, sym, ap, ◌∙◌, subst, inl, inr, arith}
 use Rattle.hs_check.proofs.Prelude.{slice_get, option_map, filter, count_by, not, ◌&&◌, ◌||◌, flat_map, list_all, list_any, range_with_len, AllByRecursion, option_and_then, option_map_or, and_parts, le-leb, lt-leb, cases_lt, length-map, slice_get-map, all_append, Draw, Step, PlainJournal, EventsAddThis, EventsGoOn, ListsHaveTheirChunks, Taken, GivenPlace, PlainWorkload, DrawnPage, has_buffer, stamp_of, ClientSends, draws_at, place_of, NodeRun, log_at, followed, ComesByEvents, FollowingPlaysOut, is_turn, played, state_behind, node_pages, page_of, given_page, has_stamps, node_has_stamps, node_stamps, node_draws, draw_stamps, log_stamps, are_numbered, rise, same_page, may_be_unread, before_unreads, FoundNode, FoundPage, AreFound, IsFoundClient, drawn_from, drawn_lists, lists_are, each_holds, PageDraw, all_page_draws, is_named, is_passed}
-use Rattle.hs_lists.proofs.Tests.{list_all_map}
-use Rattle.hs_lists.proofs.Alls.{all_at, all_filter}
-use Rattle.hs_law_sends.specs.Sending.{node_sends}
+use Rattle.hs_base.proofs.Tests.{list_all_map}
+use Rattle.hs_base.proofs.Alls.{all_at, all_filter}
+use Rattle.hs_client.specs.Sending.{node_sends}
 use Rattle.hs_law_journal.specs.Gives.{GivesAreNoted}
 use Rattle.hs_law_journal.specs.Laws.{AgentsComeByEvents}
 use Rattle.hs_law_journal.specs.Pooled.{by_stamp, pool_events}
 use Rattle.hs_law_journal.specs.Unreads.{round_of, pages_by_stamp, is_given_in, is_drawn_past, may_be_uncollected}
-use Rattle.hs_check_clauses.specs.Finding.{named, given_name}
-use Rattle.hs_check_clauses.specs.Happening.{pool_event, node_timed}
-use Rattle.hs_check_clauses.proofs.Knowing.{KnownAt}
-use Rattle.hs_check_clauses.proofs.Pooling.{noted, told_events}
-use Rattle.hs_check_clauses.proofs.Sorting.{buckets-map}
+use Rattle.hs_check_follow.specs.Finding.{named, given_name}
+use Rattle.hs_check_follow.specs.Happening.{pool_event, node_timed}
+use Rattle.hs_check_follow.proofs.Knowing.{KnownAt}
+use Rattle.hs_check_follow.proofs.Pooling.{noted, told_events}
+use Rattle.hs_check_follow.proofs.Sorting.{buckets-map}
 use Rattle.hs_check.specs.Showing.{given_by, may_wait}
 use Rattle.hs_check.specs.Showing as showing
 use Rattle.hs_check.proofs.Behind.{given_behind, pages_stay}

@@ -1,8 +1,8 @@
 -- The clauses in the parts in which they are asked: those that look at the journal alone; the eighth, whether it can be followed; and
 -- those that look at what following it found.
 use Rattle.std.specs.Prelude.{◌≡◌, ℕ, true, not, List, [], ◌∷◌, ◌++◌, Option, option_map, find, refl}
-use Rattle.hs_check_clauses.specs.Finding.{IsFound}
-use Rattle.hs_check_clauses.specs.declared.found.Found.{Found}
+use Rattle.hs_check_follow.specs.Finding.{IsFound}
+use Rattle.hs_check_follow.specs.declared.found.Found.{Found}
 use Rattle.hs_records.specs.Journals.{PlainJournal}
 use Rattle.hs_law_journal.specs.Ends.{is_followed, has_rounds, is_bare}
 use Rattle.hs_law_journal.specs.Following.{followed}

@@ -1,11 +1,11 @@
 -- Gives beside draws, page by page: of the stamps of a log, which rise, those of passes before the page's round are below its draw
 -- and those of passes behind it above. So it is enough to look at the last one before and at the first one behind.
 use Rattle.std.specs.Prelude.{◌≡◌, ℕ, ◌+◌, ◌-◌, ◌/◌, Bool, true, false, ◌&&◌, ◌||◌, ◌==◌, nat_lt, min, List, [], ◌∷◌, length, map, slice_index, refl}
-use Rattle.hs_check_clauses.specs.declared.found.FoundClient.{FoundClient}
+use Rattle.hs_check_follow.specs.declared.found.FoundClient.{FoundClient}
 use Rattle.hs_records.specs.declared.journal.Draw.{Draw}
 use Rattle.hs_records.specs.declared.journal.Draw.TheVariants as draws
-use Rattle.hs_law_sends.specs.Drawn.{DrawnPage, stamp_of}
-use Rattle.hs_law_sends.specs.Sending.{ClientSends}
+use Rattle.hs_client.specs.Drawn.{DrawnPage, stamp_of}
+use Rattle.hs_client.specs.Sending.{ClientSends}
 
 -- how many stamps there are behind so many passes, where that is told of no pass and of each
 abbrev pub stamps_behind : List ℕ → ℕ → ℕ

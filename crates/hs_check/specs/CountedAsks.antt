@@ -6,7 +6,7 @@ use Rattle.hs_base.specs.declared.ids.NodeId.{NodeId}
 use Rattle.hs_base.specs.declared.limits.TheConstants.{MAX_TAKEN}
 use Rattle.hs_base.specs.declared.node_set.NodeSet.{NodeSet}
 use Rattle.hs_base.specs.NodeSets.{has_node}
-use Rattle.hs_check_clauses.specs.declared.found.FoundNode.{FoundNode}
+use Rattle.hs_check_follow.specs.declared.found.FoundNode.{FoundNode}
 use Rattle.hs_law_journal.specs.Pace.{due_of}
 use Rattle.hs_check.specs.Counting.{one_more}
 

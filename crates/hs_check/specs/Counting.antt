@@ -8,7 +8,7 @@ use Rattle.hs_law_journal.specs.Following as queues
 use Rattle.hs_law_journal.specs.Shape.{step_stamp}
 use Rattle.hs_check.specs.declared.kinds.Kind.{Kind}
 use Rattle.hs_check.specs.declared.kinds.Kind.TheVariants as kinds
-use Rattle.hs_check_clauses.specs.Offering.{ends_front}
+use Rattle.hs_check_follow.specs.Offering.{ends_front}
 
 -- whether a step is of a kind
 abbrev pub is_of : Kind → Step → Bool

@@ -1,7 +1,7 @@
 -- What is left where a lawful journal was followed: the books of the clients, and agents that have nothing pinned.
 use Rattle.std.specs.Prelude.{◌≡◌, List, [], map}
 use Rattle.hs_agent.specs.Keeping.{PlainAgent}
-use Rattle.hs_check_clauses.specs.Finding.{AreFound}
+use Rattle.hs_check_follow.specs.Finding.{AreFound}
 use Rattle.hs_check_follow.specs.Nodes.{FollowedAgentStands}
 use Rattle.hs_check_follow.specs.declared.parting.FollowedParts.{FollowedParts}
 use Rattle.hs_records.specs.Books.{PlainAgentBook, client_book_of}

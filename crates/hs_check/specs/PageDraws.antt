@@ -3,8 +3,8 @@
 use Rattle.std.specs.Prelude.{◌≡◌, ℕ, ◌+◌, true, false, List, [], ◌∷◌, ◌++◌, Option, Some, None, refl}
 use Rattle.hs_records.specs.declared.journal.Draw.{Draw}
 use Rattle.hs_records.specs.declared.journal.Draw.TheVariants as draws
-use Rattle.hs_law_sends.specs.Drawn.{has_buffer, stamp_of}
-use Rattle.hs_check_clauses.specs.declared.found.FoundClient.{FoundClient}
+use Rattle.hs_client.specs.Drawn.{has_buffer, stamp_of}
+use Rattle.hs_check_follow.specs.declared.found.FoundClient.{FoundClient}
 use Rattle.hs_check.specs.declared.page_draws.PageDraw.{PageDraw}
 
 -- the stamp of the first of these draws

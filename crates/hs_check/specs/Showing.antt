@@ -10,7 +10,7 @@ use Rattle.hs_records.specs.declared.journal.Step.TheVariants as steps
 use Rattle.hs_law_journal.specs.Passes.{is_turn}
 use Rattle.hs_law_journal.specs.Shape.{log_stamps}
 use Rattle.hs_law_journal.specs.Unreads.{round_of}
-use Rattle.hs_check_clauses.specs.declared.found.FoundPage.{FoundPage}
+use Rattle.hs_check_follow.specs.declared.found.FoundPage.{FoundPage}
 use Rattle.hs_check.specs.declared.page_draws.NodePage.{NodePage}
 use Rattle.hs_check.specs.declared.page_draws.PageDraw.{PageDraw}
 use Rattle.hs_check.specs.declared.shown.Shown.{Shown}

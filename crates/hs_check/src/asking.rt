@@ -12,7 +12,7 @@ use crate::clause::Clause;
 use crate::pace::has_pace;
 use crate::unreads::has_unreads;
 use hs_base::Memory;
-use hs_check_clauses::{
+use hs_check_follow::{
     Found, has_answers, has_history, has_offers, has_passes, has_rounds, has_shape, has_stamps,
     is_bare,
 };

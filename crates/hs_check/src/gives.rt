@@ -9,14 +9,14 @@ ghost use Rattle.hs_law_journal.specs.Played.{played};
 ghost use Rattle.hs_law_journal.specs.Shape.{has_stamps, log_stamps};
 ghost use Rattle.hs_records.specs.Validity.{IsValid};
 ghost use Rattle.hs_records.specs.Views.{workload_of};
-ghost use Rattle.hs_check_clauses.specs.Finding.{IsFoundNode};
-ghost use Rattle.hs_check_clauses.specs.Happening.{drawn_from};
+ghost use Rattle.hs_check_follow.specs.Finding.{IsFoundNode};
+ghost use Rattle.hs_check_follow.specs.Happening.{drawn_from};
 ghost use Rattle.hs_check.specs.Besides.{stands_beside, all_beside, clients_beside, draws_by};
 
 use crate::counts::at;
 use crate::kinds::Kind;
 use hs_base::Memory;
-use hs_check_clauses::{FoundClient, FoundNode, drawn_of, log_of, stamp_of, step_stamp};
+use hs_check_follow::{FoundClient, FoundNode, drawn_of, log_of, stamp_of, step_stamp};
 use hs_records::{Draw, Journal, Step, Workload};
 use std::alloc::Global;
 

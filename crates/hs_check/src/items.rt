@@ -6,15 +6,15 @@ ghost use Rattle.hs_base.specs.declared.limits.TheConstants.{MAX_CLIENTS, MAX_TA
 ghost use Rattle.hs_law_journal.specs.Pace.{client_in_pace};
 ghost use Rattle.hs_law_journal.specs.Passes.{passes_of};
 ghost use Rattle.hs_records.specs.Plain.{PlainSettings};
-ghost use Rattle.hs_law_sends.specs.Sending.{ClientSends};
-ghost use Rattle.hs_check_clauses.specs.Finding.{AreFound, IsFoundClient};
+ghost use Rattle.hs_client.specs.Sending.{ClientSends};
+ghost use Rattle.hs_check_follow.specs.Finding.{AreFound, IsFoundClient};
 ghost use Rattle.hs_check.specs.Counting.{is_of};
 ghost use Rattle.hs_check.specs.Pacing.{sent_in, all_enough, numbers_in_pace};
 
 use crate::kinds::Kind;
 use hs_base::Memory;
 use hs_base::limits::MAX_TAKEN;
-use hs_check_clauses::FoundClient;
+use hs_check_follow::FoundClient;
 use hs_records::Step;
 use std::alloc::Global;
 

@@ -5,7 +5,7 @@ ghost use Rattle.hs_check.specs.Counting.{is_of, behind_each};
 
 use crate::counts::{one_more, push_where};
 use hs_base::Memory;
-use hs_check_clauses::is_last;
+use hs_check_follow::is_last;
 use hs_records::Step;
 use std::alloc::Global;
 

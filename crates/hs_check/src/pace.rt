@@ -10,15 +10,15 @@ ghost use Rattle.hs_law_journal.specs.Played.{played};
 ghost use Rattle.hs_law_journal.specs.Shape.{has_stamps};
 ghost use Rattle.hs_records.specs.Validity.{IsValid};
 ghost use Rattle.hs_records.specs.Views.{workload_of};
-ghost use Rattle.hs_check_clauses.specs.Finding.{IsFound, IsFoundNode};
-ghost use Rattle.hs_check_clauses.specs.Happening.{drawn_from};
+ghost use Rattle.hs_check_follow.specs.Finding.{IsFound, IsFoundNode};
+ghost use Rattle.hs_check_follow.specs.Happening.{drawn_from};
 ghost use Rattle.hs_check.specs.Besides.{draws_by};
 
 use crate::asks::asks_in_pace;
 use crate::gives::gives_in_pace;
 use crate::items::items_in_pace;
 use hs_base::Memory;
-use hs_check_clauses::{Found, FoundNode, log_of};
+use hs_check_follow::{Found, FoundNode, log_of};
 use hs_law_journal::laws::{following_plays_out, runs_are_of_the_journal};
 use hs_records::{Journal, Workload};
 use std::alloc::Global;

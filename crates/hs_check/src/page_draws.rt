@@ -4,13 +4,13 @@ ghost use Rattle.std.specs.Prelude.{◌≡◌, ◌≤◌, ◌*◌, ◌++◌, len
 ghost use Rattle.hs_base.specs.declared.limits.TheConstants.{MAX_CLIENTS};
 ghost use Rattle.hs_records.specs.Journals.{journal_of};
 ghost use Rattle.hs_law_journal.specs.Pooled.{by_stamp};
-ghost use Rattle.hs_law_sends.specs.Drawn.{has_buffer};
-ghost use Rattle.hs_check_clauses.specs.Happening.{drawn_from};
+ghost use Rattle.hs_client.specs.Drawn.{has_buffer};
+ghost use Rattle.hs_check_follow.specs.Happening.{drawn_from};
 ghost use Rattle.hs_check.specs.declared.page_draws.PageDraw.{PageDraw};
 ghost use Rattle.hs_check.specs.PageDraws.{first_stamp, page_draws, all_page_draws};
 
 use hs_base::Memory;
-use hs_check_clauses::{FoundClient, drawn_of, stamp_of};
+use hs_check_follow::{FoundClient, drawn_of, stamp_of};
 use hs_records::{Draw, Journal};
 use std::alloc::Global;
 

@@ -4,12 +4,12 @@ ghost use Rattle.std.specs.Prelude.{◌≡◌, ◌==◌, ◌+◌, ◌<◌, ◌^�
 ghost use Rattle.std.specs.Option.{option_map_or};
 ghost use Rattle.hs_records.specs.declared.journal.Step.{Step};
 ghost use Rattle.hs_law_journal.specs.Unreads.{round_of};
-ghost use Rattle.hs_check_clauses.specs.declared.found.FoundPage.{FoundPage};
+ghost use Rattle.hs_check_follow.specs.declared.found.FoundPage.{FoundPage};
 ghost use Rattle.hs_check.specs.Showing.{may_be_unread, may_wait, HasGiven, IsShown, HasRoom};
 
 use crate::page_draws::{NodePage, PageDraw};
 use hs_base::Memory;
-use hs_check_clauses::FoundPage;
+use hs_check_follow::FoundPage;
 use hs_records::Step;
 use std::alloc::Global;
 use std::collections::HashSet;

@@ -13,8 +13,8 @@ ghost use Rattle.hs_law_journal.specs.Shape.{has_stamps};
 ghost use Rattle.hs_law_journal.specs.Unreads.{before_unreads, has_unreads};
 ghost use Rattle.hs_records.specs.Validity.{IsValid};
 ghost use Rattle.hs_records.specs.Views.{workload_of};
-ghost use Rattle.hs_check_clauses.specs.Finding.{IsFound};
-ghost use Rattle.hs_check_clauses.specs.Happening.{drawn_from, node_timed};
+ghost use Rattle.hs_check_follow.specs.Finding.{IsFound};
+ghost use Rattle.hs_check_follow.specs.Happening.{drawn_from, node_timed};
 ghost use Rattle.hs_check.specs.declared.page_draws.PageDraw.{PageDraw};
 ghost use Rattle.hs_check.specs.PageDraws.{all_page_draws};
 ghost use Rattle.hs_check.specs.Showing.{may_be_unread};
@@ -22,7 +22,7 @@ ghost use Rattle.hs_check.specs.Showing.{may_be_unread};
 use crate::page_draws::{PageDraw, draws_in_order};
 use crate::shown::Shown;
 use hs_base::{Memory, Settings};
-use hs_check_clauses::{Found, FoundNode, FoundPage, events_of, is_unread, log_of};
+use hs_check_follow::{Found, FoundNode, FoundPage, events_of, is_unread, log_of};
 use hs_law_agent::laws::{events_add_this, events_go_on, lists_have_their_chunks};
 use hs_law_journal::laws::{
     agents_come_by_events, following_plays_out, gives_are_noted, runs_are_of_the_journal,

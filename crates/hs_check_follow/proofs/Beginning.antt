@@ -4,7 +4,7 @@ use Rattle.hs_check_follow.proofs.Prelude.{and_parts, same_Some, range_with_len,
 use Rattle.std.proofs.lemmas.List.FromFn.{length-map-range_with_len}
 use Rattle.std.proofs.lemmas.Nat.{div-mul-add, mod-mul-add}
 use Rattle.hs_agent.specs.Runs as agents
-use Rattle.hs_check_clauses.specs.Beginning.{MayBegin}
+use Rattle.hs_check_follow.specs.Asking.{MayBegin}
 use Rattle.hs_law_journal.specs.Shape.{same_counts}
 use Rattle.hs_law_outcome.specs.Outcomes.{client_at}
 use Rattle.hs_law_outcome.proofs.Entries.{same_length, same_many}

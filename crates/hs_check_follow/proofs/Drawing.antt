@@ -1,8 +1,8 @@
 -- Draws that get a buffer where the given ones do. What is sent is that of the given ones: a front while draws are left, and all in the end.
 use Rattle.std.proofs.Common.{◌≡◌, ℕ, zero, suc, ◌+◌, ◌≤◌, Bool, true, false, cond, List, [], ◌∷◌, ◌++◌, length, map, filter, Some, None, refl, sym, ap, ◌∙◌, arith, append_assoc, length-append}
-use Rattle.hs_check_follow.proofs.Prelude.{lt-ltb, append-nil, length-map, map-append, nil_from_length, slice_get, get_front, ClientId, Draw, ReplayClientIsAt, PlainReplayClient, DrawsAll, pages_of, Operation, PlainSettings, AreBracketed, count_started, has_buffer, drawn_from, IsTimely, TimedPagesAreThePages, TimedPagesAreTimely, Sent, sends_of, sent_chunks, sent_within, AllChunksAreSent, started_within, TimedPage, timed_pages, Sheet, DrawScript, script_way}
-use Rattle.hs_law_sends.specs.Drawn.{DrawnPage}
-use Rattle.hs_law_sends.specs.Sending.{sheet_of}
+use Rattle.hs_check_follow.proofs.Prelude.{lt-ltb, append-nil, length-map, map-append, nil_from_length, slice_get, get_front, ClientId, Draw, ReplayClientIsAt, PlainReplayClient, DrawsAll, pages_of, Operation, PlainSettings, AreBracketed, count_started, has_buffer, IsTimely, TimedPagesAreThePages, TimedPagesAreTimely, Sent, sends_of, sent_chunks, sent_within, AllChunksAreSent, started_within, TimedPage, timed_pages, Sheet, DrawScript, script_way}
+use Rattle.hs_client.specs.Drawn.{DrawnPage, drawn_from}
+use Rattle.hs_client.specs.Sending.{sheet_of}
 use Rattle.hs_check_follow.proofs.Scripted.{kinds_are}
 use Rattle.hs_check_follow.proofs.Starts.{started_short}
 

@@ -1,9 +1,9 @@
 -- What was found at the nodes is found of their runs.
 use Rattle.std.proofs.Common.{◌≡◌, ℕ, zero, suc, ◌+◌, ◌≤◌, true, nat_eq, List, [], ◌∷◌, ◌++◌, length, map, drop, Option, Some, None, refl, sym, ap, subst, ◌∙◌, arith, slice_get, option_map, eqb-true, append_assoc}
 use Rattle.hs_check_follow.proofs.Prelude.{and_parts, map-append, nil_from_length, same_Some, slice_get-map, list_all, range_with_len, flat_map, nil_behind, all_at, AreAsked, AreFound, IsFoundClient, FoundPage, Listing, NodeSet, FollowedClient, PlainJournal, Step, RunsAreOfTheJournal, NodeRun, Run, log_at, is_done, AgentState, GivenPlace, PlainWorkload, ClientSends, client_sends, named_at, name_of, hand_of, said_of, IsFoundOf, AllAt, FollowedCoordinator, FollowedNode}
-use Rattle.hs_check_clauses.specs.Finding.{IsFound, IsFoundNode, given_name, named}
-use Rattle.hs_check_clauses.specs.declared.found.Found.{Found}
-use Rattle.hs_check_clauses.specs.declared.found.FoundNode.{FoundNode}
+use Rattle.hs_check_follow.specs.Finding.{IsFound, IsFoundNode, given_name, named}
+use Rattle.hs_check_follow.specs.declared.found.Found.{Found}
+use Rattle.hs_check_follow.specs.declared.found.FoundNode.{FoundNode}
 use Rattle.hs_law_journal.specs.Extending.{IsOfJournal}
 use Rattle.hs_law_agent.specs.Standings.{Taken}
 use Rattle.hs_check_follow.specs.Parting.{found_left}

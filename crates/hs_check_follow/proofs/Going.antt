@@ -1,11 +1,11 @@
 -- One operation more: where the client stands when it has gone on, and what was taken then.
 use Rattle.std.proofs.Common.{◌≡◌, ℕ, ◌+◌, ◌<◌, ◌≤◌, Bool, false, List, [], ◌++◌, length, map, take, drop, sym, ap, subst, ◌∙◌, arith, length-append}
-use Rattle.hs_check_follow.proofs.Prelude.{append-nil, length-map, IsTrue, replicate, ClientId, Crumb, Trigger, Draw, ReplayClientIsAt, WentOn, PlainReplayClient, pages_of, Operation, PlainSettings, AreBracketed, count_started, has_buffer, drawn_from, TimedPagesAreThePages, TimedPagesAreTimely, ChunksAreInOrder, ClientSends, Sent, sends_of, sent_chunks, sent_within, done_behind, timed_pages, Sheet, Gathering, Keeping, DrawScript, HasChunks, HasItems, IsSentBy, Where, AtChunk, AtCrumb, AtTrigger, chunks_at, crumbs_at, triggers_at, WereChunks, WereCrumbs, WereTriggers, count_within, starts_within, script_way}
+use Rattle.hs_check_follow.proofs.Prelude.{append-nil, length-map, IsTrue, replicate, ClientId, Crumb, Trigger, Draw, ReplayClientIsAt, WentOn, PlainReplayClient, pages_of, Operation, PlainSettings, AreBracketed, count_started, has_buffer, TimedPagesAreThePages, TimedPagesAreTimely, ChunksAreInOrder, ClientSends, Sent, sends_of, sent_chunks, sent_within, done_behind, timed_pages, Sheet, Gathering, Keeping, DrawScript, HasChunks, HasItems, IsSentBy, Where, AtChunk, AtCrumb, AtTrigger, chunks_at, crumbs_at, triggers_at, WereChunks, WereCrumbs, WereTriggers, count_within, starts_within, script_way}
 use Rattle.std.proofs.lemmas.List.{length-take-le, take-append-drop}
 use Rattle.hs_replay_client.specs.Places.{TellsBare}
-use Rattle.hs_law_sends.specs.Drawn.{drawn_pages}
-use Rattle.hs_law_sends.specs.Order.{CrumbsAreInOrder, TriggersAreInOrder}
-use Rattle.hs_law_sends.specs.SoFar.{FirstChunksAreSent, FirstOperationsSend, pages_within}
+use Rattle.hs_client.specs.Drawn.{drawn_pages, drawn_from}
+use Rattle.hs_client.specs.Order.{CrumbsAreInOrder, TriggersAreInOrder}
+use Rattle.hs_client.specs.SoFar.{FirstChunksAreSent, FirstOperationsSend, pages_within}
 use Rattle.hs_check_follow.specs.Gathering.{AreChunks, AreCrumbs, AreTriggers}
 use Rattle.hs_check_follow.proofs.Drawing.{drawn_more, kinds_left, kinds_more}
 use Rattle.hs_check_follow.proofs.Queues.{none_more}

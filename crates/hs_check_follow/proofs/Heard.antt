@@ -2,7 +2,7 @@
 use Rattle.std.proofs.Common.{◌≡◌, ◌≢◌, inl, inr, ℕ, ◌+◌, ◌<◌, ◌≤◌, Bool, true, false, cond, List, [], ◌∷◌, ◌++◌, length, drop, Option, Some, None, refl, sym, ap, subst, ◌∙◌, arith, option_map, slice_get, count_by, append_assoc, append-nil, length-set, eqb, eqb-true, eq-eqb}
 use Rattle.hs_check_follow.proofs.Prelude.{option_and_then, slice_get_within, get_there, get_set_cases, all_at, NodeId, NodeSet, Ask, Told, ChangesAt, AreAsked, Messages, PlainJournal, asks_to, NodeRun, Run, PlainWorkload, MayHearAt, HasHeard, HasNotHeard, AreSent, sent_by, FollowedCoordinator, FollowedNode}
 use Rattle.std.proofs.lemmas.Option.{slice_get_past}
-use Rattle.hs_lists.proofs.Counts.{count_push}
+use Rattle.hs_base.proofs.Counts.{count_push}
 use Rattle.hs_base.specs.NodeSets.{has_node}
 use Rattle.hs_coord.specs.Following.{Message, message, first_of, is_newly_asked, AreAsks}
 use Rattle.hs_coord.specs.Kept.{HasTaken}

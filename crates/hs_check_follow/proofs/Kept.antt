@@ -1,7 +1,7 @@
 -- Chunks that are kept: one more joins them, and the first is taken.
 use Rattle.std.proofs.Common.{◌≡◌, ℕ, suc, ◌+◌, true, cond, List, [], ◌∷◌, ◌++◌, length, map, drop, Option, option_map, Some, None, refl, sym, ap, subst, ◌∙◌, arith}
 use Rattle.hs_check_follow.proofs.Prelude.{MatchOption, slice_get, option_to_list, ClientId, Draw, Operation, PlainSettings, Sent, sends_of, Sheet, Unleased, buffer_of, IsFilled, HavePages, Keeping, HasChunks}
-use Rattle.hs_check_follow.proofs.Counting.{drop_next, drop_none}
+use Rattle.hs_check_follow.proofs.QueuesLeft.{drop_next, drop_none}
 use Rattle.hs_check_follow.proofs.Queues.{one_number}
 
 more_pages : (size : ℕ) (items : List (Sent Sheet)) (chunks : List Unleased) (item : Sent Sheet) (chunk : Unleased) → chunk.chunk.page ≡ Some item.item → chunk.chunk.size ≡ size → HavePages size items chunks

@@ -1,4 +1,25 @@
 mod Prelude
+pub mod Counts
+pub mod PagesCounted
+pub mod Numbered
+pub mod Ranges
+pub mod Sorting
+pub mod Valid
+pub mod QueuePlaces
+pub mod PassFronts
+pub mod WholePasses
+pub mod Walked
+pub mod Knowing
+pub mod Bared
+pub mod Offered
+pub mod PoolEvents
+pub mod Replayed
+pub mod Histories
+pub mod NodeEvents
+pub mod Pooling
+pub mod Answered
+pub mod Answering
+pub mod Rounded
 pub mod Queues
 pub mod Kept
 pub mod Taking
@@ -10,7 +31,7 @@ pub mod Going
 pub mod Whole
 pub mod NothingSent
 pub mod Beginning
-pub mod Counting
+pub mod QueuesLeft
 pub mod Done
 pub mod Filing
 pub mod Noting

@@ -1,7 +1,7 @@
 -- One step more, and what is noted behind the passes.
 use Rattle.std.proofs.Common.{◌≡◌, ℕ, zero, suc, ◌+◌, ◌<◌, ◌≤◌, Bool, true, false, cond, List, [], ◌∷◌, ◌++◌, length, map, take, drop, refl, sym, ap, ◌∙◌, arith, length-append}
 use Rattle.hs_check_follow.proofs.Prelude.{map-append, Step, NodeRun, AgentState, AgentEvent, after, PlainSettings, ends_front, ends_within, behind_at, noted_if}
-use Rattle.hs_lists.proofs.Parts.{take_whole}
+use Rattle.hs_base.proofs.Parts.{take_whole}
 
 -- ---- ends
 

@@ -1,10 +1,10 @@
 -- The passes of a log end where its steps say so.
 use Rattle.std.proofs.Common.{◌≡◌, ℕ, zero, suc, ◌+◌, ◌≤◌, Bool, true, false, cond, List, [], ◌∷◌, length, map, take, refl, sym, ap, ◌∙◌, arith, length-append}
 use Rattle.hs_check_follow.proofs.Prelude.{flat_map, range_with_len, Step, NodeRun, AgentState, PlainSettings, ends_front, ends_within, behind_at}
-use Rattle.hs_lists.proofs.Parts.{map_alike}
+use Rattle.hs_base.proofs.Parts.{map_alike}
 use Rattle.hs_law_journal.specs.Passes.{ends_between, put_step, passes_of, steps_in}
 use Rattle.hs_law_journal.specs.Played.{state_behind}
-use Rattle.hs_check_clauses.specs.Finding.{behind_passes}
+use Rattle.hs_check_follow.specs.Finding.{behind_passes}
 
 -- ---- passes
 

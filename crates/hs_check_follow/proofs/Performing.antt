@@ -1,17 +1,17 @@
 -- What a node's parts are when a step was performed.
 use Rattle.std.proofs.Common.{◌≡◌, ℕ, zero, suc, ◌+◌, ◌<◌, ◌^◌, false, List, [], ◌∷◌, ◌++◌, map, Option, Some, None, IsSome, refl, sym, ap, subst, ◌∙◌, option_map, append-nil}
-use Rattle.hs_check_follow.proofs.Prelude.{map-append, same_Some, slice_get, option_and_then, get_front, set_same, all_at, sheet_in, Follows, after_offer, offered_next, state_of, Input, Told, FoundPage, Messages, PlainJournal, Step, Asks, Chunks, Crumbs, Triggers, takes, taken, NodeRun, event_of, perform, taken_still, MayTake, AgentState, GivenPlace, Given, Missed, Unread, AgentEvent, Took, Gave, after, Unleased, PlainSettings, PlainWorkload, Sheet, FollowedAgent, ClientsStand, HasPerformed, IsReadied, FollowedNodeStands, agent_run, name_of, named_at}
+use Rattle.hs_check_follow.proofs.Prelude.{map-append, same_Some, slice_get, option_and_then, get_front, set_same, all_at, sheet_in, Follows, after_offer, offered_next, state_of, Input, Told, FoundPage, Messages, PlainJournal, Step, Asks, Chunks, Crumbs, Triggers, takes, taken, NodeRun, perform, taken_still, MayTake, AgentState, GivenPlace, Given, Missed, Unread, AgentEvent, Took, Gave, after, Unleased, PlainSettings, PlainWorkload, Sheet, FollowedAgent, ClientsStand, HasPerformed, IsReadied, FollowedNodeStands, agent_run, name_of, named_at}
 use Rattle.std.specs.Prelude.{slice_set, IfSome}
 use Rattle.std.specs.List.{AllByRecursion}
 use Rattle.std.specs.Option.{option_to_list, option_map_or}
-use Rattle.hs_lists.proofs.Alls.{all_append}
+use Rattle.hs_base.proofs.Alls.{all_append}
 use Rattle.hs_agent.specs.Keeping.{PlainAgent}
 use Rattle.hs_agent.specs.Runs as agents
 use Rattle.hs_agent.specs.Runs.{IsTakable, Knows, after_input, buffers_in, first_place, input_of, point_of, told_in, with_back}
 use Rattle.hs_agent.specs.declared.input.Input.TheVariants as inputs
 use Rattle.hs_agent.proofs.Brought.{sheets_brought}
 use Rattle.hs_records.specs.declared.journal.Step.TheVariants as steps
-use Rattle.hs_law_journal.specs.Following.{offered}
+use Rattle.hs_law_journal.specs.Following.{offered, event_of}
 use Rattle.hs_law_agent.specs.Laws.{EventsGoOn, EventsAddThis, StepsSayWhatTheyTell, brought_by, sheets_of}
 use Rattle.hs_law_agent.specs.Stepping.{Answered, after_event, after_gave, step_of_answer, told_by}
 use Rattle.hs_check_follow.specs.Nodes.{FollowedAgentStands, FitsChunk, IsOffer, MayTakeNext}

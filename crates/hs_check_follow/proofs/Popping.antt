@@ -1,13 +1,13 @@
 -- Taking an item out of a client's queues: the step that takes it is ready, and all else stays.
 use Rattle.std.proofs.Common.{◌≡◌, inl, inr, ℕ, suc, ◌+◌, ◌<◌, ◌≤◌, true, false, List, [], ◌∷◌, ◌++◌, length, drop, set, Option, Some, None, refl, sym, ap, subst, ◌∙◌, arith, option_map, eq-eqb, nat_eq, length-set}
 use Rattle.hs_check_follow.proofs.Prelude.{length-map, nil_from_length, slice_get, MatchOption, option_and_then, get_set_cases, ClientId, IsFoundClient, IsFilled, Fills, MayFill, Filling, FollowedClient, PlainJournal, Step, Queue, Chunks, Crumbs, Triggers, takes, taken, NodeRun, taken_still, AgentEvent, Unleased, Operation, PlainWorkload, items_of, Sent, ClientSends, client_sends, draws_at, operations_at, place_of, ClientStands, ClientsStand, FillsAt, PopsChunk, own_operations}
-use Rattle.hs_lists.proofs.Ranges.{map_range_from}
+use Rattle.hs_base.proofs.Ranges.{map_range_from}
 use Rattle.hs_records.specs.Books.{client_book_of}
 use Rattle.hs_records.specs.declared.journal.Step.TheVariants as steps
 use Rattle.hs_law_journal.specs.Following.{next_of}
-use Rattle.hs_law_sends.specs.Sending.{node_sends}
+use Rattle.hs_client.specs.Sending.{node_sends}
 use Rattle.hs_check_follow.specs.Clients.{IsLeft, MayFillNext, MayFillAny, SameBeside}
-use Rattle.hs_check_follow.proofs.Counting.{taken_once, drop_next, drop_none, range_past}
+use Rattle.hs_check_follow.proofs.QueuesLeft.{taken_once, drop_next, drop_none, range_past}
 
 -- ---- one queue
 

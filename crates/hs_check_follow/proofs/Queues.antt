@@ -1,7 +1,7 @@
 -- What one operation more sends of a kind, and taking it item by item.
 use Rattle.std.proofs.Common.{◌≡◌, ℕ, zero, suc, ◌+◌, ◌<◌, ◌≤◌, Bool, true, false, cond, List, [], ◌∷◌, ◌++◌, length, take, Some, None, refl, sym, ap, subst, ◌∙◌, arith}
 use Rattle.hs_check_follow.proofs.Prelude.{ltb-true, ltb-false, lt-ltb, map-append, same_Some, slice_get, nat_lt, numbers_of, PlainReplayClient, items_of, AreInOrder, Sent, sent_within, HasItems, AreNumbers, count_within}
-use Rattle.hs_lists.proofs.Parts.{take_length}
+use Rattle.hs_base.proofs.Parts.{take_length}
 use Rattle.hs_replay_client.proofs.Lists.{later_none}
 use Rattle.hs_check_follow.specs.Gathering.{Was, Is}
 

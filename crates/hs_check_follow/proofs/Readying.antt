@@ -2,13 +2,13 @@
 use Rattle.std.proofs.Common.{◌≡◌, inl, inr, ℕ, ◌+◌, ◌<◌, ◌≤◌, false, List, [], ◌∷◌, ◌++◌, drop, Option, Some, None, IsSome, refl, sym, ap, subst, ◌∙◌, arith, option_map}
 use Rattle.hs_check_follow.proofs.Prelude.{slice_get_within, slice_get, sheet_in, Input, Listing, Ask, Crumb, Trigger, Messages, Filling, FollowedClient, PlainJournal, Step, Asks, Chunks, Crumbs, Triggers, takes, taken, asks_to, NodeRun, taken_still, Took, Unleased, PlainWorkload, ClientSends, client_sends, buffer_of, Sheet, ClientsStand, FillsAt, Pops, PopsChunk, IsNotReady, IsReadied, FollowedNodeStands, FollowedAgent}
 use Rattle.std.proofs.lemmas.Bool.{ne_eqb}
-use Rattle.hs_lists.proofs.Parts.{nil_of_rest}
+use Rattle.hs_base.proofs.Parts.{nil_of_rest}
 use Rattle.hs_agent.specs.declared.input.Input.TheVariants as inputs
 use Rattle.hs_records.specs.declared.journal.Step.TheVariants as steps
 use Rattle.hs_law_agent.specs.Stepping.{Chunk, Crumbed, Triggered, Asked}
 use Rattle.hs_words.specs.declared.token.Held.{Held}
 use Rattle.hs_check_follow.specs.Clients.{IsNoClient, PopsCrumb, PopsTrigger}
-use Rattle.hs_check_follow.proofs.Counting.{taken_once}
+use Rattle.hs_check_follow.proofs.QueuesLeft.{taken_once}
 use Rattle.hs_check_follow.proofs.Popping.{next_item, none_left, fills_there, clients_as, one_moves, one_same, client_same, chunk_gone, crumb_gone, trigger_gone, event_there, event_none, event_past}
 
 module _ (W : PlainWorkload) (J : PlainJournal) (heard : Messages) (run : NodeRun) (f : FollowedAgent) (s : FollowedNodeStands W J run run.state.log f) where

@@ -1,7 +1,7 @@
 -- All nodes and the coordinator, where one of them goes on.
 use Rattle.std.proofs.Common.{◌≡◌, ◌⊎◌, inl, inr, ℕ, zero, suc, ◌+◌, ◌-◌, ◌<◌, Bool, true, false, List, [], ◌∷◌, length, set, Option, Some, None, refl, sym, ap, subst, ◌∙◌, arith, option_map, slice_get, unwrap_or, length-set}
 use Rattle.hs_check_follow.proofs.Prelude.{range_with_len, same_Some, slice_get-map, slice_get_within, get_there, get_set_cases, Listing, NodeId, Ask, PlainJournal, Step, RunsAreOfTheJournal, asks_to, NodeRun, Run, run_start, step_node, followed, Stays, MayTake, PlainSettings, PlainWorkload, NodeAt, AllAt, MayStepAt, HasStepped, HasNotStepped, MayHearAt, HasHeard, HasNotHeard, HearsOn, StepsOn, NodeSteppedIf, SteppedAnyIf, left_of, left_steps, FollowedCoordinator, FollowedNode}
-use Rattle.hs_lists.proofs.Ranges.{range_found}
+use Rattle.hs_base.proofs.Ranges.{range_found}
 use Rattle.hs_law_journal.specs.Orders.{Leads, Goes, Performs, IsAtRest, OrdersAgree, with_node}
 use Rattle.hs_law_journal.specs.Fitting.{RunsFit}
 use Rattle.hs_check_follow.specs.Whole.{NodesAt, NodeStepped, NodeNotReady, NothingIsReady}

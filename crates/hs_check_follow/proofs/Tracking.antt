@@ -1,7 +1,7 @@
 -- A node goes on in its log.
 use Rattle.std.proofs.Common.{◌≡◌, ℕ, zero, suc, ◌+◌, ◌-◌, ◌<◌, ◌≤◌, List, [], ◌∷◌, length, map, drop, set, Bool, length-append, Option, Some, None, refl, sym, ap, subst, ◌∙◌, arith, option_map}
-use Rattle.hs_check_follow.proofs.Prelude.{same_Some, slice_get, Ask, Messages, PlainJournal, Step, log_at, NodeRun, event_of, perform, step_node, AgentEvent, PlainWorkload, HasPerformed, IsNotReady, FollowedNodeStands, MayStepAt, HasStepped, HasNotStepped, left_steps, Listing, ends_front, ends_within, Notes, hand_of, said_of, behind_at, FollowedAgent, FollowedNode}
-use Rattle.hs_law_journal.specs.Following.{step_of}
+use Rattle.hs_check_follow.proofs.Prelude.{same_Some, slice_get, Ask, Messages, PlainJournal, Step, log_at, NodeRun, perform, step_node, AgentEvent, PlainWorkload, HasPerformed, IsNotReady, FollowedNodeStands, MayStepAt, HasStepped, HasNotStepped, left_steps, Listing, ends_front, ends_within, Notes, hand_of, said_of, behind_at, FollowedAgent, FollowedNode}
+use Rattle.hs_law_journal.specs.Following.{step_of, event_of}
 use Rattle.hs_check_follow.proofs.Noting.{noted_more}
 
 pub drop_there : {A : Type 0} (xs : List A) (k : ℕ) (x : A) → slice_get xs k ≡ Some x → drop k xs ≡ x ∷ drop (k + 1) xs

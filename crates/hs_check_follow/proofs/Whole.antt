@@ -1,8 +1,9 @@
 -- All operations are done: what was taken is what the client sends at the given draws.
 use Rattle.std.proofs.Common.{◌≡◌, ℕ, ◌+◌, List, [], ◌∷◌, length, map, refl, sym, ap, subst, ◌∙◌, arith}
-use Rattle.hs_check_follow.proofs.Prelude.{ClientId, IsFoundClient, numbers_of, Draw, PlainReplayClient, Operation, PlainSettings, drawn_from, IsTimely, TimedPagesAreThePages, TimedPagesAreTimely, items_of, sends_of, sent_within, AllChunksAreSent, TimedPage, timed_pages, Gathering, DrawScript, KeepsAll, IsSentBy}
-use Rattle.hs_check_clauses.specs.Finding.{starts_of}
-use Rattle.hs_law_sends.specs.SoFar.{AllCrumbsAreSent, AllTriggersAreSent}
+use Rattle.hs_check_follow.proofs.Prelude.{ClientId, IsFoundClient, numbers_of, Draw, PlainReplayClient, Operation, PlainSettings, IsTimely, TimedPagesAreThePages, TimedPagesAreTimely, items_of, sends_of, sent_within, AllChunksAreSent, TimedPage, timed_pages, Gathering, DrawScript, KeepsAll, IsSentBy}
+use Rattle.hs_client.specs.Drawn.{drawn_from}
+use Rattle.hs_check_follow.specs.Finding.{starts_of}
+use Rattle.hs_client.specs.SoFar.{AllCrumbsAreSent, AllTriggersAreSent}
 use Rattle.hs_check_follow.proofs.Drawing.{all_started, in_time, pages_long, same_chunks}
 
 starts_are : (client : ClientId) (number : ℕ) (pages : List TimedPage) (draws : List Draw) → length draws ≡ length pages → starts_of (drawn_from client number pages draws) ≡ map (λ (p : TimedPage). p.started) pages

@@ -5,7 +5,7 @@ use Rattle.std.specs.Option.{option_to_list}
 use Rattle.hs_base.specs.declared.told.Crumb.{Crumb}
 use Rattle.hs_base.specs.declared.told.Trigger.{Trigger}
 use Rattle.hs_base.specs.Changing.{ChangesAt}
-use Rattle.hs_check_clauses.specs.Finding.{IsFoundClient}
+use Rattle.hs_check_follow.specs.Finding.{IsFoundClient}
 use Rattle.hs_check_follow.specs.Fillings.{IsFilling, MayFill, Fills}
 use Rattle.hs_check_follow.specs.declared.filling.Filling.{Filling}
 use Rattle.hs_check_follow.specs.declared.client.FollowedClient.{FollowedClient}
@@ -16,8 +16,8 @@ use Rattle.hs_law_journal.specs.Following.{Chunks, Crumbs, Triggers, taken}
 use Rattle.hs_law_outcome.specs.Outcomes.{client_book}
 use Rattle.hs_replay_client.specs.ReplayClients.{Unleased}
 use Rattle.hs_records.specs.Plain.{Operation, PlainWorkload}
-use Rattle.hs_law_sends.specs.OneMore.{items_of}
-use Rattle.hs_law_sends.specs.Sending.{ClientSends, client_sends, draws_at, operations_at, place_of}
+use Rattle.hs_client.specs.OneMore.{items_of}
+use Rattle.hs_client.specs.Sending.{ClientSends, client_sends, draws_at, operations_at, place_of}
 
 -- The first l crumbs and m triggers are gone.
 pub record IsLeft (sends : ClientSends) (l m : ℕ) (s : FollowedClient) : Type 0 where

@@ -2,7 +2,7 @@
 use Rattle.std.specs.Prelude.{◌≡◌, ℕ, zero, suc, ◌+◌, List, [], ◌∷◌, if◌then◌else◌, refl}
 use Rattle.hs_records.specs.declared.journal.Step.{Step}
 use Rattle.hs_records.specs.declared.journal.Step.TheVariants as steps
-use Rattle.hs_check_clauses.specs.Offering.{ends_front}
+use Rattle.hs_check_follow.specs.Offering.{ends_front}
 
 -- of the first so many steps, numbered on from here, those behind which a pass ends
 abbrev pub ends_within : ℕ → ℕ → List Step → List ℕ

@@ -8,8 +8,8 @@ use Rattle.hs_replay_client.specs.Places.{ReplayClientIsAt}
 use Rattle.hs_replay_client.specs.ReplayClients.{Unleased}
 use Rattle.hs_records.specs.Pages.{pages_of}
 use Rattle.hs_records.specs.Plain.{Operation, PlainSettings}
-use Rattle.hs_law_sends.specs.Drawn.{has_buffer}
-use Rattle.hs_law_sends.specs.Sending.{Sent, sends_of}
+use Rattle.hs_client.specs.Drawn.{has_buffer}
+use Rattle.hs_client.specs.Sending.{Sent, sends_of}
 use Rattle.hs_words.specs.Buffers.{buffer_of}
 use Rattle.hs_words.specs.Chunks.{Contents}
 use Rattle.hs_words.specs.Pages.{Sheet}

@@ -5,17 +5,17 @@ use Rattle.hs_base.specs.declared.ids.ClientId.{ClientId}
 use Rattle.hs_base.specs.declared.settings.AutoRule.{AutoRule}
 use Rattle.hs_base.specs.declared.told.Crumb.{Crumb}
 use Rattle.hs_base.specs.declared.told.Trigger.{Trigger}
-use Rattle.hs_check_clauses.specs.Finding.{numbers_of}
+use Rattle.hs_check_follow.specs.Finding.{numbers_of}
 use Rattle.hs_records.specs.declared.journal.Draw.{Draw}
 use Rattle.hs_replay_client.specs.Places.{ReplayClientIsAt}
 use Rattle.hs_replay_client.specs.ReplayClients.{PlainReplayClient}
 use Rattle.hs_records.specs.Pages.{pages_of}
 use Rattle.hs_records.specs.Plain.{Operation, PlainSettings}
-use Rattle.hs_law_sends.specs.Drawn.{has_buffer}
-use Rattle.hs_law_sends.specs.OneMore.{items_of}
-use Rattle.hs_law_sends.specs.Sending.{Sent, sends_of, sent_within}
-use Rattle.hs_law_sends.specs.SoFar.{started_within}
-use Rattle.hs_law_sends.specs.Timing.{TimedPage, timed_pages}
+use Rattle.hs_client.specs.Drawn.{has_buffer}
+use Rattle.hs_client.specs.OneMore.{items_of}
+use Rattle.hs_client.specs.Sending.{Sent, sends_of, sent_within}
+use Rattle.hs_client.specs.SoFar.{started_within}
+use Rattle.hs_client.specs.Timing.{TimedPage, timed_pages}
 use Rattle.hs_words.specs.Pages.{Sheet}
 use Rattle.hs_check_follow.specs.Keepings.{KeepsAll}
 use Rattle.hs_check_follow.specs.declared.gathering.Gathering.{Gathering}

@@ -1,6 +1,6 @@
 -- Chunks that are kept as a client sends them.
 use Rattle.std.specs.Prelude.{◌≡◌, ℕ, IsTrue, List, [], ◌∷◌, map, Some}
-use Rattle.hs_law_sends.specs.Sending.{Sent}
+use Rattle.hs_client.specs.Sending.{Sent}
 use Rattle.hs_replay_client.specs.ReplayClients.{Unleased}
 use Rattle.hs_words.specs.Buffers.{buffer_of}
 use Rattle.hs_words.specs.Pages.{Sheet}

@@ -1,3 +1,14 @@
+pub mod Asking
+pub mod Filling
+pub mod Finding
+pub mod Rounds
+pub mod Rising
+pub mod Walking
+pub mod Sources
+pub mod Offering
+pub mod Happening
+pub mod Replaying
+pub mod Answering
 pub mod Scripts
 pub mod Keepings
 pub mod Fillings

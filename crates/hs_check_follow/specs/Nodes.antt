@@ -8,7 +8,7 @@ use Rattle.hs_agent.specs.Runs as agents
 use Rattle.hs_agent.specs.declared.input.Input.{Input}
 use Rattle.hs_agent.specs.declared.input.Input.TheVariants as inputs
 use Rattle.hs_base.specs.declared.told.Ask.{Ask}
-use Rattle.hs_check_clauses.specs.declared.found.FoundPage.{FoundPage}
+use Rattle.hs_check_follow.specs.declared.found.FoundPage.{FoundPage}
 use Rattle.hs_coord.specs.Following.{Messages}
 use Rattle.hs_records.specs.Journals.{PlainJournal}
 use Rattle.hs_records.specs.declared.journal.Step.{Step}
@@ -21,7 +21,7 @@ use Rattle.hs_law_agent.specs.Stepping as model
 use Rattle.hs_law_agent.specs.Stepping.{AgentEvent, Took, step_of, after}
 use Rattle.hs_replay_client.specs.ReplayClients.{Unleased}
 use Rattle.hs_records.specs.Plain.{PlainSettings, PlainWorkload}
-use Rattle.hs_law_sends.specs.Sending.{node_sends}
+use Rattle.hs_client.specs.Sending.{node_sends}
 use Rattle.hs_words.specs.Buffers.{buffer_of}
 use Rattle.hs_words.specs.Pages.{Sheet}
 use Rattle.hs_check_follow.specs.Clients.{ClientsStand}

@@ -1,8 +1,8 @@
 -- What a node leaves where its log was followed.
 use Rattle.std.specs.Prelude.{◌≡◌, List, ◌++◌, length, map}
 use Rattle.hs_agent.specs.Runs as agents
-use Rattle.hs_check_clauses.specs.declared.found.FoundClient.{FoundClient}
-use Rattle.hs_check_clauses.specs.declared.found.FoundNode.{FoundNode}
+use Rattle.hs_check_follow.specs.declared.found.FoundClient.{FoundClient}
+use Rattle.hs_check_follow.specs.declared.found.FoundNode.{FoundNode}
 use Rattle.hs_check_follow.specs.declared.client.FollowedClient.{FollowedClient}
 use Rattle.hs_records.specs.declared.books.ClientBook.{ClientBook}
 use Rattle.hs_check_follow.specs.declared.node.FollowedNode.{FollowedNode}

@@ -4,7 +4,7 @@ use Rattle.std.specs.Prelude.{◌≡◌, ℕ, ◌≤◌, List, [], ◌∷◌, No
 use Rattle.hs_base.specs.declared.limits.TheConstants.{MIN_SIZE, MAX_SIZE}
 use Rattle.hs_records.specs.declared.journal.Draw.{Draw}
 use Rattle.hs_replay_client.specs.Wells.{Way}
-use Rattle.hs_law_sends.specs.Drawn.{has_buffer}
+use Rattle.hs_client.specs.Drawn.{has_buffer}
 use Rattle.hs_words.specs.Chunks.{Contents}
 use Rattle.hs_check_follow.specs.declared.script.DrawScript.{DrawScript}
 

@@ -3,13 +3,13 @@
 use Rattle.std.specs.Prelude.{◌≡◌, List, map}
 use Rattle.hs_base.specs.declared.ids.ClientId.{ClientId}
 use Rattle.hs_client.specs.Calls.{note_of}
-use Rattle.hs_check_clauses.specs.Finding.{IsFoundClient}
+use Rattle.hs_check_follow.specs.Finding.{IsFoundClient}
 use Rattle.hs_records.specs.Books.{client_book_of, PlainClientBook}
 use Rattle.hs_records.specs.declared.journal.Draw.{Draw}
 use Rattle.hs_records.specs.Pages.{pages_of}
 use Rattle.hs_records.specs.Plain.{Operation, PlainSettings}
-use Rattle.hs_law_sends.specs.OneMore.{items_of}
-use Rattle.hs_law_sends.specs.Sending.{sends_of}
+use Rattle.hs_client.specs.OneMore.{items_of}
+use Rattle.hs_client.specs.Sending.{sends_of}
 use Rattle.hs_replay_client.specs.Places.{Notes}
 use Rattle.hs_replay_client.specs.ReplayClients.{PlainReplayClient}
 use Rattle.hs_check_follow.specs.Fillings.{IsFilling}

@@ -4,7 +4,7 @@ use Rattle.hs_base.specs.Listing.{Listing}
 use Rattle.hs_base.specs.NodeSets.{has_node}
 use Rattle.hs_base.specs.declared.ids.NodeId.{NodeId}
 use Rattle.hs_base.specs.declared.told.Ask.{Ask}
-use Rattle.hs_check_clauses.specs.Finding.{AreAsked}
+use Rattle.hs_check_follow.specs.Finding.{AreAsked}
 use Rattle.hs_coord.specs.Following.{Messages}
 use Rattle.hs_coord.specs.Kept.{HasTaken}
 use Rattle.hs_coord.specs.declared.asks.Asks.{Asks}

@@ -8,9 +8,9 @@ ghost use Rattle.hs_check_follow.specs.Nodes.{IsTake, IsOffer, Readies, MayPerfo
 
 use crate::client::FollowedClient;
 use crate::clients::{next_chunk, next_crumb, next_trigger};
+use crate::found::FoundPage;
 use hs_agent::{Agent, Input};
 use hs_base::{Ask, List, Memory, Told};
-use hs_check_clauses::FoundPage;
 use hs_law_agent::laws::{events_add_this, events_go_on, steps_say_what_they_tell};
 use hs_records::{Step, Workload};
 use hs_words::{Chunk, Given};

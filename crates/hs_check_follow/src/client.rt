@@ -5,7 +5,7 @@ ghost use Rattle.hs_client.specs.Calls.{note_of};
 ghost use Rattle.hs_records.specs.Books.{client_book_of};
 ghost use Rattle.hs_records.specs.Pages.{pages_of};
 ghost use Rattle.hs_records.specs.Plain.{settings_of};
-ghost use Rattle.hs_law_sends.specs.Playable.{IsPlayable};
+ghost use Rattle.hs_client.specs.Playable.{IsPlayable};
 ghost use Rattle.hs_replay_client.specs.Places.{IsDone};
 ghost use Rattle.hs_replay_client.specs.ReplayClients.{PlainReplayClient};
 ghost use Rattle.hs_records.specs.Views.{operation_of};
@@ -13,12 +13,12 @@ ghost use Rattle.hs_check_follow.specs.Gathering.{AllIsSentBy};
 ghost use Rattle.hs_check_follow.specs.Sendings.{IsFollowedClient, NotesBut};
 
 use crate::filling::Filling;
+use crate::found::FoundClient;
 use crate::gathering::Gathering;
 use crate::keeping::may_keep;
 use crate::script::DrawScript;
 use hs_base::{ClientId, Crumb, List, Memory, Settings, Trigger};
-use hs_check_clauses::FoundClient;
-use hs_law_sends::laws::{
+use hs_client::sending_laws::{
     all_is_sent_in_the_end, timed_pages_are_the_pages, timed_pages_are_timely,
 };
 use hs_records::{ClientBook, Draw, Op};

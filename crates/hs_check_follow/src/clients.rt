@@ -1,7 +1,7 @@
 //! What is left of what a node's clients send.
 
 ghost use Rattle.std.specs.Prelude.{◌≡◌, ◌<◌, length, map, IfOk};
-ghost use Rattle.hs_law_sends.specs.Sending.{operations_at, place_of};
+ghost use Rattle.hs_client.specs.Sending.{operations_at, place_of};
 ghost use Rattle.hs_words.specs.Buffers.{buffer_in};
 ghost use Rattle.hs_records.specs.Views.{operation_of, workload_of};
 ghost use Rattle.hs_check_follow.specs.Clients.{MayFillNext, MayFillAny, Pops, PopsChunk, PopsCrumb, PopsTrigger};

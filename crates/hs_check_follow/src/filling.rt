@@ -1,8 +1,8 @@
 //! The chunks of a client that are still to be taken.
 
 ghost use Rattle.std.specs.Prelude.{◌≡◌, length, map, IfOk};
-ghost use Rattle.hs_law_sends.specs.Playable.{IsPlayable};
-ghost use Rattle.hs_law_sends.specs.Sending.{sends_of};
+ghost use Rattle.hs_client.specs.Playable.{IsPlayable};
+ghost use Rattle.hs_client.specs.Sending.{sends_of};
 ghost use Rattle.hs_records.specs.Pages.{pages_of};
 ghost use Rattle.hs_records.specs.Plain.{settings_of};
 ghost use Rattle.hs_words.specs.Buffers.{buffer_in};

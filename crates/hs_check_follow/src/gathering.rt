@@ -4,11 +4,11 @@ ghost use Rattle.std.specs.Prelude.{◌≡◌, ◌<◌, ◌++◌, length, map, r
 ghost use Rattle.hs_records.specs.Views.{operation_of};
 ghost use Rattle.hs_check_follow.specs.Gathering.{IsNew, WasSent, SendsFirst, SendsOneMore, WasSentChunks, IsSentChunks, WasSentCrumbs, IsSentCrumbs, WasSentTriggers, IsSentTriggers};
 
+use crate::found::FoundClient;
 use crate::keeping::Keeping;
 use crate::script::DrawScript;
 use hs_base::{AutoRule, Crumb, List, Memory, Trigger};
-use hs_check_clauses::FoundClient;
-use hs_law_sends::laws::{
+use hs_client::sending_laws::{
     items_are_sent_in_order, the_first_chunks_are_sent, the_first_operations_send,
     timed_pages_are_the_pages, timed_pages_are_timely,
 };

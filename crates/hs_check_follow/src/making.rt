@@ -5,7 +5,7 @@ ghost use Rattle.hs_base.specs.declared.limits.TheConstants.{MAX_NODES};
 ghost use Rattle.hs_records.specs.Journals.{journal_of};
 ghost use Rattle.hs_law_journal.specs.Following.{followed, node_start, run_start};
 ghost use Rattle.hs_records.specs.Views.{workload_of};
-ghost use Rattle.hs_check_clauses.specs.Beginning.{MayBegin};
+ghost use Rattle.hs_check_follow.specs.Asking.{MayBegin};
 ghost use Rattle.hs_check_follow.specs.Beginning.{IsNewFollowedCoordinator, AreNoAsks, AreNoCounts};
 ghost use Rattle.hs_check_follow.specs.Clients.{ClientStands};
 ghost use Rattle.hs_check_follow.specs.Whole.{NodeAt, AllAt};
@@ -18,8 +18,8 @@ use crate::node::FollowedNode;
 use crate::run::FollowedRun;
 use hs_agent::Agent;
 use hs_base::{Ask, ClientId, List, Memory, NodeId};
+use hs_client::sending_laws::valid_clients_may_be_played;
 use hs_coord::Coordinator;
-use hs_law_sends::laws::valid_clients_may_be_played;
 use hs_records::{Journal, Workload};
 use std::alloc::Global;
 

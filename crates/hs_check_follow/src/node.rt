@@ -6,8 +6,8 @@ ghost use Rattle.hs_check_follow.specs.Noting.{Notes};
 ghost use Rattle.hs_check_follow.specs.Whole.{MayStep, StepsOn, KnowsFollowedAgent};
 
 use crate::agent::FollowedAgent;
+use crate::offers::is_last;
 use hs_base::{Ask, List, Memory};
-use hs_check_clauses::is_last;
 use hs_records::{Step, Workload};
 
 /// An agent that follows its log, how many steps of the log it has performed, and how many buffers were in the hand and how many

@@ -2,7 +2,7 @@
 
 ghost use Rattle.std.specs.Prelude.{◌≡◌, ◌++◌, ◌∷◌, [], true, map, IfOk, OnOk};
 ghost use Rattle.std.specs.List.{flat_map};
-ghost use Rattle.hs_check_clauses.specs.Finding.{AreFound, IsFound};
+ghost use Rattle.hs_check_follow.specs.Finding.{AreFound, IsFound};
 ghost use Rattle.hs_records.specs.Journals.{PlainJournal};
 ghost use Rattle.hs_law_journal.specs.Following.{followed, is_done};
 ghost use Rattle.hs_records.specs.Plain.{PlainWorkload};
@@ -11,11 +11,11 @@ ghost use Rattle.hs_check_follow.specs.Whole.{AllAt};
 
 use crate::agent::FollowedAgent;
 use crate::client::FollowedClient;
+use crate::found::{Found, FoundClient, FoundNode};
 use crate::node::FollowedNode;
 use crate::run::FollowedRun;
 use hs_agent::Agent;
 use hs_base::{List, Memory};
-use hs_check_clauses::{Found, FoundClient, FoundNode};
 use hs_law_journal::laws::runs_are_of_the_journal;
 use hs_records::ClientBook;
 use std::alloc::Global;

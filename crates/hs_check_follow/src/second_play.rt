@@ -1,7 +1,7 @@
 //! The second time that a client does its operations.
 
 ghost use Rattle.std.specs.Prelude.{◌≡◌, ◌+◌, ◌<◌, length, map, IfOk, OnOk};
-ghost use Rattle.hs_law_sends.specs.Playable.{IsPlayable};
+ghost use Rattle.hs_client.specs.Playable.{IsPlayable};
 ghost use Rattle.hs_records.specs.Pages.{pages_of};
 ghost use Rattle.hs_records.specs.Plain.{settings_of};
 ghost use Rattle.hs_words.specs.Buffers.{buffer_in};
@@ -10,7 +10,7 @@ ghost use Rattle.hs_check_follow.specs.Fillings.{IsSecondPlay, MayPlay, PlaysOn,
 
 use crate::script::DrawScript;
 use hs_base::{AutoRule, ClientId, Memory, Settings};
-use hs_law_sends::laws::{
+use hs_client::sending_laws::{
     all_is_sent_in_the_end, timed_pages_are_the_pages, timed_pages_are_timely,
 };
 use hs_records::{Draw, Op};

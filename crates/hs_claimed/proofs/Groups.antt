@@ -6,8 +6,8 @@ use Rattle.std.specs.Option.{option_map_or}
 use Rattle.std.proofs.lemmas.Bool.{eqb-true, eq-eqb, and_parts, and_from}
 use Rattle.std.proofs.lemmas.Option.{same_Some, slice_get_within, slice_get-get_or}
 use Rattle.std.proofs.lemmas.List.Sums.{position_or_len_is}
-use Rattle.hs_lists.proofs.Bools.{by_answer, first_false, second_false}
-use Rattle.hs_lists.proofs.Places.{get_push_cases, get_set_cases}
+use Rattle.hs_base.proofs.Bools.{by_answer, first_false, second_false}
+use Rattle.hs_base.proofs.Places.{get_push_cases, get_set_cases}
 use Rattle.hs_base.specs.declared.ids.TraceId.{TraceId}
 use Rattle.hs_base.specs.declared.ids.GroupId.{GroupId}
 use Rattle.hs_base.specs.Ids.{same_trace}

@@ -7,9 +7,9 @@ use Rattle.std.proofs.lemmas.Bool.{and_from}
 use Rattle.std.proofs.lemmas.Option.{same_Some}
 use Rattle.std.proofs.lemmas.List.{length-replicate}
 use Rattle.std.proofs.lemmas.List.Concat.{flat_map-append}
-use Rattle.hs_lists.proofs.Bools.{by_answer, first_false, second_false, first_true, second_true}
-use Rattle.hs_lists.proofs.Places.{get_map, get_unmap, get_set_cases, get_push_cases, map_set, set_same}
-use Rattle.hs_lists.proofs.Parts.{map_append, map_drop, drop_front}
+use Rattle.hs_base.proofs.Bools.{by_answer, first_false, second_false, first_true, second_true}
+use Rattle.hs_base.proofs.Places.{get_map, get_unmap, get_set_cases, get_push_cases, map_set, set_same}
+use Rattle.hs_base.proofs.Parts.{map_append, map_drop, drop_front}
 use Rattle.hs_base.specs.declared.ids.TraceId.{TraceId}
 use Rattle.hs_base.specs.declared.ids.GroupId.{GroupId}
 use Rattle.hs_base.specs.declared.told.Group.{Group}

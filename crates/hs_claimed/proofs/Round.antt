@@ -1,7 +1,7 @@
 -- Each claim is looked at before a round is over.
 use Rattle.std.proofs.Common.{◌≡◌, ℕ, zero, suc, ◌+◌, ◌-◌, ◌<◌, ◌≤◌, true, false, length, refl, ap, arith, ◌∙◌}
 use Rattle.std.specs.Prelude.{nat_lt, nat_le, if◌then◌else◌}
-use Rattle.hs_lists.proofs.Bools.{by_answer}
+use Rattle.hs_base.proofs.Bools.{by_answer}
 use Rattle.hs_claimed.specs.Claims.{PlainClaims}
 use Rattle.hs_claimed.specs.Lives.{steps_on, ComesRound}
 

@@ -5,8 +5,8 @@ use Rattle.std.specs.List.{list_any}
 use Rattle.std.specs.Option.{option_map_or}
 use Rattle.std.proofs.lemmas.List.Quantifiers.{position-Some}
 use Rattle.std.proofs.lemmas.Option.{get_or_from_slice_get, slice_get-get_or}
-use Rattle.hs_lists.proofs.Bools.{by_answer}
-use Rattle.hs_lists.proofs.Places.{get_set_cases, get_push_cases}
+use Rattle.hs_base.proofs.Bools.{by_answer}
+use Rattle.hs_base.proofs.Places.{get_set_cases, get_push_cases}
 use Rattle.hs_base.specs.declared.ids.TraceId.{TraceId}
 use Rattle.hs_base.specs.declared.ids.GroupId.{GroupId}
 use Rattle.hs_base.specs.declared.node_set.NodeSet.{NodeSet}

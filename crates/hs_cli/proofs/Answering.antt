@@ -2,12 +2,12 @@
 use Rattle.std.proofs.Common.{◌≡◌, ◌∙◌, ◌≤◌, ℕ, List, [], ◌∷◌, Option, length, sym, ap, subst, arith}
 use Rattle.hs_base.specs.declared.limits.TheConstants.{MAX_INPUT}
 use Rattle.hs_records.specs.Plain.{PlainWorkload}
-use Rattle.hs_streams.specs.Input.{ReadWhole}
+use Rattle.hs_workload.specs.Input.{ReadWhole}
 use Rattle.hs_records.specs.Journals.{PlainJournal}
 use Rattle.hs_cli.specs.Answers.{IsSubject, IsFoundIn, IsAnswer, IsJudged}
 use Rattle.hs_ledger.specs.declared.ledger.Totals.{Totals}
 use Rattle.hs_ledger.specs.Totals.{totals_of}
-use Rattle.hs_law_lockstep.specs.Lockstep.{lockstep}
+use Rattle.hs_law_run.specs.Lockstep.{lockstep}
 use Rattle.hs_law_outcome.specs.Outcomes.{outcome_of}
 use Rattle.hs_report.specs.OutcomeText.{total_line}
 use Rattle.hs_text.specs.Text.{text_of}
@@ -16,8 +16,8 @@ use Rattle.hs_cli.specs.declared.answer.Subject.{Subject}
 use Rattle.hs_cli.specs.declared.answer.Subject.TheVariants.{Found, Refused, TooLong, Fault, NoMemory}
 use Rattle.hs_cli.specs.declared.command.Command.{Command}
 use Rattle.hs_cli.specs.declared.command.Command.TheVariants.{Replay, Run, Watch, Convert, Make, Drill, Check, Compare}
-use Rattle.hs_streams.specs.declared.status.Status.{Status}
-use Rattle.hs_streams.specs.declared.status.Status.TheVariants.{Done}
+use Rattle.hs_workload.specs.declared.status.Status.{Status}
+use Rattle.hs_workload.specs.declared.status.Status.TheVariants.{Done}
 
 -- a command that read its input is about what stands in it
 about_parts : (command : Command) (left left' : Option (List ℕ)) (input : List ℕ) (W : PlainWorkload) (journal : List ℕ) → IsReader command → ReadWhole left left' input

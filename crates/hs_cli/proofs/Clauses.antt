@@ -5,8 +5,8 @@ use Rattle.hs_cli.specs.Endings.{Ends, EndsWith, Wrote, WroteFront, Reading}
 use Rattle.hs_cli.specs.declared.command.Command.{Command}
 use Rattle.hs_cli.specs.declared.command.Command.TheVariants.{Watch}
 use Rattle.hs_cli.proofs.EndingLemmas.{worded}
-use Rattle.hs_streams.specs.declared.status.Status.{Status}
-use Rattle.hs_streams.specs.declared.status.Status.TheVariants.{Done, Usage, Refused, ReadFault, WriteFault, TooLong, Unlawful}
+use Rattle.hs_workload.specs.declared.status.Status.{Status}
+use Rattle.hs_workload.specs.declared.status.Status.TheVariants.{Done, Usage, Refused, ReadFault, WriteFault, TooLong, Unlawful}
 
 -- ---- of words that are `run --watch`
 

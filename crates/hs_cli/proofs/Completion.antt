@@ -9,14 +9,14 @@ use Rattle.hs_journal.specs.Laws.{TextsHaveOneJournal}
 use Rattle.hs_records.specs.Journals.{PlainJournal}
 use Rattle.hs_law_journal.specs.Lawful.{IsLawful}
 use Rattle.hs_check.specs.Parts.{workload_part, journal_part}
-use Rattle.hs_streams.specs.Input.{ReadWhole, ReadBeyond}
-use Rattle.hs_streams.specs.Refusals.{IsRefused}
-use Rattle.hs_streams.proofs.Taking.{taken_whole, taken_beyond}
+use Rattle.hs_workload.specs.Input.{ReadWhole, ReadBeyond}
+use Rattle.hs_workload.specs.Refusals.{IsRefused}
+use Rattle.hs_workload.proofs.Taking.{taken_whole, taken_beyond}
 use Rattle.hs_cli.specs.Endings.{WillBeAbout, IsAbout, AreParts, RefusesWorkload, RefusesJournal, Due, ComesTo, Owes, Ends, workload_in}
 use Rattle.hs_cli.specs.declared.command.Command.{Command}
 use Rattle.hs_cli.specs.declared.command.Command.TheVariants.{Replay, Run, Watch, Convert, Make, Drill, Check, Compare}
-use Rattle.hs_streams.specs.declared.status.Status.{Status}
-use Rattle.hs_streams.specs.declared.status.Status.TheVariants.{Done, Usage, Refused, ReadFault, WriteFault, Memory, TooLong, Unlawful}
+use Rattle.hs_workload.specs.declared.status.Status.{Status}
+use Rattle.hs_workload.specs.declared.status.Status.TheVariants.{Done, Usage, Refused, ReadFault, WriteFault, Memory, TooLong, Unlawful}
 
 -- a workload's text is not refused
 text_reads : (command : Command) (left left' : Option (List ℕ)) (W : PlainWorkload) (journal bytes text : List ℕ) → ReadWhole left left' bytes → IsRefused (workload_in command bytes) text

@@ -2,13 +2,13 @@
 use Rattle.std.proofs.Common.{◌≡◌, ℕ, List, Option, Some, ◌⊎◌, inl, inr, refl, sym, subst}
 use Rattle.hs_base.specs.Outside.{Rose, Gains}
 use Rattle.hs_records.specs.Plain.{PlainWorkload}
-use Rattle.hs_streams.specs.Written.{GainsFront}
+use Rattle.hs_workload.specs.Written.{GainsFront}
 use Rattle.hs_cli.specs.Answers.{IsAnswer}
 use Rattle.hs_cli.specs.Endings.{IsAbout, Owes, IsDue, EndsWith, Ends}
 use Rattle.hs_cli.specs.declared.command.Command.{Command}
-use Rattle.hs_streams.specs.declared.status.Status.{Status}
-use Rattle.hs_streams.specs.declared.status.Status.TheVariants.{Done, Usage, Refused, ReadFault, WriteFault, Memory, TooLong, Unlawful}
-use Rattle.hs_streams.specs.Statuses.{NoneFailed}
+use Rattle.hs_workload.specs.declared.status.Status.{Status}
+use Rattle.hs_workload.specs.declared.status.Status.TheVariants.{Done, Usage, Refused, ReadFault, WriteFault, Memory, TooLong, Unlawful}
+use Rattle.hs_workload.specs.Statuses.{NoneFailed}
 
 -- what `finish` answers
 abbrev pub Finishes : Status → List ℕ → Option (List ℕ) → Option (List ℕ) → ℕ → ℕ → Status → Type 0

@@ -10,13 +10,13 @@ use Rattle.hs_report.specs.declared.form.Form.TheVariants.{Text as Lines}
 use Rattle.hs_records.specs.Plain.{PlainWorkload}
 use Rattle.hs_records.specs.Validity.{IsValid}
 use Rattle.hs_records.specs.Views.{workload_of}
-use Rattle.hs_streams.specs.Input.{ReadBeyond, ReadFront}
-use Rattle.hs_streams.specs.Refusals.{IsRefused}
+use Rattle.hs_workload.specs.Input.{ReadBeyond, ReadFront}
+use Rattle.hs_workload.specs.Refusals.{IsRefused}
 use Rattle.hs_cli.specs.Endings.{IsReader, IsAbout, AreParts, Due, RefusesWorkload, IsRefusedJournal, IsUnlawful, workload_in}
 use Rattle.hs_cli.specs.declared.command.Command.{Command}
 use Rattle.hs_cli.specs.declared.command.Command.TheVariants.{Check}
-use Rattle.hs_streams.specs.declared.status.Status.{Status}
-use Rattle.hs_streams.specs.declared.status.Status.TheVariants.{Done, Refused as RefusedStatus, Unlawful}
+use Rattle.hs_workload.specs.declared.status.Status.{Status}
+use Rattle.hs_workload.specs.declared.status.Status.TheVariants.{Done, Refused as RefusedStatus, Unlawful}
 use Rattle.hs_cli.specs.declared.answer.Subject.{Subject}
 use Rattle.hs_cli.specs.declared.answer.Subject.TheVariants.{Found, Refused, TooLong, Fault, NoMemory}
 

@@ -13,7 +13,7 @@ use Rattle.hs_journal.specs.Grammar.{Reads as ReadsJournal}
 use Rattle.hs_journal.specs.Faults.{first_fault as first_journal_fault}
 use Rattle.hs_law_journal.specs.Lawful.{IsLawful, first_unlawful}
 use Rattle.hs_ledger.specs.Totals.{totals_of}
-use Rattle.hs_law_lockstep.specs.Lockstep.{lockstep}
+use Rattle.hs_law_run.specs.Lockstep.{lockstep}
 use Rattle.hs_law_outcome.specs.Outcomes.{outcome_of}
 use Rattle.hs_report.specs.OutcomeText.{outcome_text, total_line}
 use Rattle.hs_report.specs.declared.form.Form.TheVariants.{Text as Lines}
@@ -23,15 +23,15 @@ use Rattle.hs_compare.specs.ComparisonText.{comparison_text}
 use Rattle.hs_run.specs.Seen.{AreSeen}
 use Rattle.hs_compare.specs.Lines.{comparison_of}
 use Rattle.hs_board.specs.WatchText.{watch_text}
-use Rattle.hs_streams.specs.Input.{ReadWhole, ReadBeyond, ReadFront}
-use Rattle.hs_streams.specs.Refusals.{IsRefused, too_long_text}
-use Rattle.hs_streams.specs.Written.{GainsFront}
+use Rattle.hs_workload.specs.Input.{ReadWhole, ReadBeyond, ReadFront}
+use Rattle.hs_workload.specs.Refusals.{IsRefused, too_long_text}
+use Rattle.hs_workload.specs.Written.{GainsFront}
 use Rattle.hs_cli.specs.Messages.{usage_text, journal_refusal_text, unlawful_text}
 use Rattle.hs_cli.specs.declared.command.Command.{Command}
 use Rattle.hs_cli.specs.declared.command.Command.TheVariants.{Replay, Run, Watch, Convert, Make, Drill, Check, Compare}
-use Rattle.hs_streams.specs.declared.status.Status.{Status}
-use Rattle.hs_streams.specs.declared.status.Status.TheVariants.{Done, Usage, Refused, ReadFault, WriteFault, Memory, TooLong, Unlawful}
-use Rattle.hs_streams.specs.Statuses.{NoneFailed}
+use Rattle.hs_workload.specs.declared.status.Status.{Status}
+use Rattle.hs_workload.specs.declared.status.Status.TheVariants.{Done, Usage, Refused, ReadFault, WriteFault, Memory, TooLong, Unlawful}
+use Rattle.hs_workload.specs.Statuses.{NoneFailed}
 
 -- ---- what a command owes
 

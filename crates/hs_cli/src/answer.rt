@@ -8,7 +8,7 @@ ghost use Rattle.hs_cli.specs.Commands.{IsSized, is_watched, only_looks};
 ghost use Rattle.hs_cli.specs.Endings.{Due, IsReader, IsUntouched, drill_text, workload_in, journal_in};
 ghost use Rattle.hs_cli.specs.declared.command.Command.TheVariants.{Replay, Run, Convert};
 ghost use Rattle.hs_cli.specs.Answers.{IsSubject, IsFoundIn, IsAnswer};
-ghost use Rattle.hs_streams.specs.declared.status.Status.TheVariants.{Done};
+ghost use Rattle.hs_workload.specs.declared.status.Status.TheVariants.{Done};
 
 use crate::checking::judge;
 use crate::command::Command;
@@ -16,14 +16,16 @@ use crate::comparing::comparison;
 use hs_base::{Bytes, Gate, Memory, Source};
 use hs_check::split_input;
 use hs_json::{Parts, outcome_parts};
-use hs_law_lockstep::laws::schedule_is_lawful;
+use hs_law_run::lockstep_laws::schedule_is_lawful;
 use hs_make::make_workload;
 use hs_records::Workload;
 use hs_replay::{into_outcome, replay};
 use hs_report::{Form, write_total};
 use hs_run::run;
-use hs_streams::{ReadInput, Status, read_all, refusal_line};
-use hs_workload::{ReadError, read_workload, versions_are_exchanged, write_workload};
+use hs_workload::{
+    ReadError, ReadInput, Status, read_all, read_workload, refusal_line, versions_are_exchanged,
+    write_workload,
+};
 use std::alloc::Global;
 use std::marker::Sync;
 use std::thread::Threads;

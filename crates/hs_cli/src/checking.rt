@@ -18,7 +18,7 @@ use hs_json::outcome_parts;
 use hs_law_journal::laws::lawful_is_decided;
 use hs_records::{Journal, Workload};
 use hs_report::Form;
-use hs_streams::Status;
+use hs_workload::Status;
 use std::alloc::Global;
 
 /// What `check` answers: that the text is no journal's, or what the journal is for the workload.

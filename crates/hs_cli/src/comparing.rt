@@ -4,7 +4,7 @@ ghost use Rattle.std.specs.Prelude.{◌≡◌, IfOk};
 ghost use Rattle.hs_cli.specs.Commands.{AreSamplers};
 ghost use Rattle.hs_cli.specs.Endings.{compared_text};
 ghost use Rattle.hs_compare.specs.Plain.{plain_comparison};
-ghost use Rattle.hs_law_lockstep.specs.Lockstep.{lockstep};
+ghost use Rattle.hs_law_run.specs.Lockstep.{lockstep};
 ghost use Rattle.hs_compare.specs.SamplerLaws.{compared_by};
 ghost use Rattle.hs_records.specs.Validity.{IsValid};
 ghost use Rattle.hs_records.specs.Views.{workload_of};
@@ -31,7 +31,7 @@ fn compared(
 }
 
 /// The text of a comparison: what this workload comes to by the lockstep schedule, beside what other samplers keep of it
-/// (`docs/FORMATS.md`, "What `compare` writes").
+/// (`docs/FORMATS.md`, "The program").
 pub(crate) fn comparison(
     alloc: Global,
     workload: &Workload,

@@ -10,6 +10,6 @@ mod unwatched;
 mod watching;
 
 pub use command::Command;
-pub use hs_streams::Status;
+pub use hs_workload::Status;
 pub use top::hindsight;
 pub use unwatched::hindsight_unwatched;

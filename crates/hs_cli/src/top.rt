@@ -5,7 +5,7 @@ ghost use Rattle.hs_base.specs.Outside.{Rose};
 ghost use Rattle.hs_records.specs.Plain.{PlainWorkload};
 ghost use Rattle.hs_cli.specs.Commands.{command_in};
 ghost use Rattle.hs_cli.specs.declared.command.Command.{Command};
-ghost use Rattle.hs_streams.specs.Input.{ReadFront};
+ghost use Rattle.hs_workload.specs.Input.{ReadFront};
 ghost use Rattle.hs_cli.specs.Endings.{Wrote, WroteFront, IsUntouched, Reading, WillBeAbout, ComesTo};
 
 use crate::command::asks_to_watch;
@@ -13,8 +13,7 @@ use crate::unwatched::hindsight_unwatched;
 use crate::watching::watch;
 use hs_base::{Gate, Sink, Source};
 use hs_journal::laws::texts_have_one_journal;
-use hs_streams::Status;
-use hs_workload::one_workload_a_text;
+use hs_workload::{Status, one_workload_a_text};
 use std::alloc::Global;
 use std::marker::Sync;
 use std::sync::Wait;

@@ -4,15 +4,14 @@ ghost use Rattle.std.specs.Prelude.{◌≡◌, ◌<◌, ◌⊎◌, ℕ, false, L
 ghost use Rattle.hs_base.specs.Outside.{Rose};
 ghost use Rattle.hs_records.specs.Plain.{PlainWorkload};
 ghost use Rattle.hs_cli.specs.Commands.{unwatched_in, is_watched, IsSized};
-ghost use Rattle.hs_streams.specs.Input.{ReadFront};
+ghost use Rattle.hs_workload.specs.Input.{ReadFront};
 ghost use Rattle.hs_cli.specs.Endings.{Ends, EndsWith, Wrote, WroteFront, IsReader, IsUntouched, Reading, WillBeAbout, ComesTo};
 
 use crate::answer::{Subject, answer_for, subject_of};
 use crate::command::{Command, unwatched_in};
 use hs_base::{Gate, Sink, Source};
 use hs_journal::laws::texts_have_one_journal;
-use hs_streams::{Status, finish, finish_both, refuse_too_long};
-use hs_workload::one_workload_a_text;
+use hs_workload::{Status, finish, finish_both, one_workload_a_text, refuse_too_long};
 use std::alloc::Global;
 use std::marker::Sync;
 use std::thread::Threads;

@@ -22,7 +22,7 @@ use hs_json::write_outcome;
 use hs_records::Workload;
 use hs_report::Form;
 use hs_run::{Watched, run_watched};
-use hs_streams::{Status, finish, refuse_too_long};
+use hs_workload::{Status, finish, refuse_too_long};
 use std::alloc::Global;
 use std::marker::Sync;
 use std::sync::Wait;

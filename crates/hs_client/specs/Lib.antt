@@ -1,3 +1,16 @@
 pub mod Core
 pub mod Layout
 pub mod Calls
+pub mod Timing
+pub mod Drawn
+pub mod Sending
+pub mod Laws
+pub mod SoFar
+pub mod HandedOut
+pub mod Draws
+pub mod OneMore
+pub mod Order
+pub mod Samples
+pub mod TimingExamples
+pub mod SendingExamples
+pub mod Playable

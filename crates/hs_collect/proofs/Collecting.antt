@@ -2,7 +2,7 @@
 use Rattle.std.proofs.Common.{◌≡◌, ℕ, ◌==◌, Bool, true, false, not, ◌||◌, cond, List, [], ◌∷◌, ◌++◌, filter, All, map, Some, refl, sym, ap, ◌∙◌, subst, arith}
 use Rattle.hs_collect.proofs.Prelude.{list_any, flat_map, IsDistinct, lookup, set_value, append-nil, map-append, All-cons, All-head, All-tail, All-nil, All-push, filter-append, flat_map-append, nat_tests, TraceId, Sheet, Placed, is_of, page_pieces, pieces_of, AreWholes, AreCollected, first_seen, Collection}
 use Rattle.std.specs.List.{AllByRecursion}
-use Rattle.hs_lists.proofs.Bools.{second_false, first_false}
+use Rattle.hs_base.proofs.Bools.{second_false, first_false}
 use Rattle.hs_collect.proofs.Seen.{is_trace, any-others, none-unseen}
 
 -- ---- the traces that were seen

@@ -2,7 +2,7 @@
 use Rattle.std.proofs.Common.{◌≡◌, ℕ, zero, suc, ◌<◌, Bool, true, false, not, List, [], ◌∷◌, ◌++◌, map, take, drop, set, get_or, length, option_map, unwrap_or, refl, sym, ap, ◌∙◌, arith}
 use Rattle.hs_collect.proofs.Prelude.{slice_get, RecordId, TraceRecord, Placed, is_same, placed_of, join_at, is_before}
 use Rattle.std.proofs.lemmas.List.{map-set, set-get_or}
-use Rattle.hs_lists.proofs.Lent.{written_back}
+use Rattle.hs_base.proofs.Lent.{written_back}
 use Rattle.hs_base.specs.Listing.{Listing}
 
 set-join : (wholes : List Placed) (last : ℕ) (whole : Placed) (bytes : List ℕ) → last < length wholes → whole ≡ get_or wholes last whole

@@ -4,7 +4,7 @@ use Rattle.std.proofs.Common.{◌≡◌, ℕ, zero, suc, ◌+◌, ◌-◌, ◌�
 use Rattle.hs_collect.proofs.Prelude.{append_assoc, append-nil, take-append-le, All-nil, All-push, All-weaker, ClientId, RecordId, Header, Piece, is_behind, Placed, is_same, pieces_from, Precedes, AreInOrder, AreWholes, is_before, join_at, IsPlaceBehind, GoesBehind, Joins}
 use Rattle.std.specs.Int.{from_bool}
 use Rattle.std.proofs.lemmas.List.{take-append-drop, drop-append-le, take_at, drop_at}
-use Rattle.hs_lists.proofs.Counts.{from_bool_one}
+use Rattle.hs_base.proofs.Counts.{from_bool_one}
 use Rattle.hs_collect.proofs.Listed.{all_middle, pairs_before}
 use Rattle.hs_collect.proofs.Ids.{precedes_next, next_number, before_number, before_last, lower_number, same_ids}
 use Rattle.hs_collect.proofs.Joined.{length-joined}

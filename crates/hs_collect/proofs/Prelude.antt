@@ -9,7 +9,7 @@ pub use Rattle.hs_collect.specs.Joining.{GoesBehind, is_before, IsPlaceBehind, j
 pub use Rattle.hs_collect.specs.Views.{Collection, collection_of, placed_of, wholes_of}
 pub use Rattle.hs_collect.specs.declared.records.TraceRecord.{TraceRecord}
 pub use Rattle.hs_collect.specs.declared.records.TraceRecords.{TraceRecords}
-pub use Rattle.hs_lists.proofs.Alls.{pairs_head, pairs_tail}
+pub use Rattle.hs_base.proofs.Alls.{pairs_head, pairs_tail}
 pub use Rattle.hs_words.specs.Pages.{Piece, piece_of, Sheet}
 pub use Rattle.hs_words.specs.declared.page.Header.{Header}
 pub use Rattle.hs_words.specs.declared.page.Point.{Point}

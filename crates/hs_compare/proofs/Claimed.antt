@@ -1,7 +1,7 @@
 -- The claimed traces of an outcome: those that were claimed at some node.
 use Rattle.std.proofs.Common.{◌≡◌, ℕ, Bool, true, false, ◌||◌, cond, List, [], ◌∷◌, refl, sym, ap, ◌∙◌, slice_get, Some, eqb, eqb-true, ltb}
 use Rattle.hs_compare.proofs.Prelude.{AllByRecursion, flat_map, IsIn, all_each, TraceId, is_among, NodeRun, put_trace, rising_traces, claimed_at}
-use Rattle.hs_lists.proofs.Bools.{or_twice, or_swap}
+use Rattle.hs_base.proofs.Bools.{or_twice, or_swap}
 use Rattle.hs_compare.proofs.Lists.{all_themselves, in_flat}
 use Rattle.hs_compare.proofs.Naming.{Among, among_all, among_in}
 

@@ -2,8 +2,8 @@
 use Rattle.std.proofs.Common.{◌≡◌, ℕ, ◌+◌, ◌<◌, ◌==◌, ◌||◌, ◌&&◌, cond, Bool, true, false, List, [], ◌∷◌, ◌++◌, length, get_or, take, map, refl, sym, ap, ◌∙◌, arith}
 use Rattle.hs_compare.proofs.Prelude.{not, count_by, AllByRecursion, list_any, take_more, sum_by-cons, TraceId, Entry, is_reported, is_gap, is_limited, is_counted}
 use Rattle.std.proofs.Math.Bool.{or-true, or-false}
-use Rattle.hs_lists.proofs.Numbers.{nat_eq_itself}
-use Rattle.hs_lists.proofs.Alls.{all_weaker}
+use Rattle.hs_base.proofs.Numbers.{nat_eq_itself}
+use Rattle.hs_base.proofs.Alls.{all_weaker}
 use Rattle.hs_compare.specs.Ringing.{is_among}
 use Rattle.hs_compare.proofs.Counted.{Counts, among_more}
 use Rattle.hs_compare.proofs.Queued.{same_ids}

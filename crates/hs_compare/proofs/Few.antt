@@ -3,7 +3,7 @@ use Rattle.std.proofs.Common.{◌≡◌, ℕ, suc, ◌+◌, ◌*◌, ◌^◌, �
 use Rattle.hs_compare.proofs.Prelude.{zip, slice_get, AllByRecursion, flat_map, range_with_len, sum_by-cons, length_map, ClientId, TraceId, MAX_OPERATIONS, is_among, client_at, Operation, Begin, Point, Crumb, End, Fire, Sample, PlainWorkload, Record, numbered_from, record_at, records_of, open_behind, operations_at, comings_of, all_comings, named_in, RingKeepsEachOnce, tail_keeps, ring_keeps, IsValid, operations_few, Coming, is_same, times, coming_of, bytes_in, Ringing, ringing_by}
 use Rattle.std.proofs.lemmas.List.Sums.{sum_by-append}
 use Rattle.std.proofs.lemmas.List.Sorted.{length_permutation}
-use Rattle.hs_lists.proofs.Filters.{filter_few}
+use Rattle.hs_base.proofs.Filters.{filter_few}
 use Rattle.hs_base.specs.declared.limits.TheConstants.{MAX_PAYLOAD}
 use Rattle.hs_records.specs.Plain.{PlainSettings}
 use Rattle.hs_compare.specs.Coming as samplers

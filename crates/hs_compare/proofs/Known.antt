@@ -1,7 +1,7 @@
 -- The records of named traces. A named trace has all its records among them, so it has its count where these alone are counted.
 use Rattle.std.proofs.Common.{◌≡◌, ◌==◌, ◌||◌, cond, Bool, true, false, List, [], ◌∷◌, filter, refl, sym, ap, ◌∙◌, eqb-true}
 use Rattle.hs_compare.proofs.Prelude.{AllByRecursion, all_each, IsIn, TraceId, Entry, Coming, AreCounted, is_counted, is_same, times, times_in, marked, marks_of_named, traces_of}
-use Rattle.hs_lists.proofs.Alls.{all_always, all_filter}
+use Rattle.hs_base.proofs.Alls.{all_always, all_filter}
 use Rattle.hs_compare.specs.Counting.{HasCountsOf}
 use Rattle.hs_compare.specs.Ringing.{is_among}
 use Rattle.hs_compare.proofs.Claiming.{traces_in, each_among}

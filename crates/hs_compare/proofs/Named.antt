@@ -2,9 +2,9 @@
 use Rattle.std.proofs.Common.{◌≡◌, ℕ, ◌+◌, ◌<◌, ◌≤◌, ◌==◌, cond, Bool, true, false, List, [], ◌∷◌, ◌++◌, length, get_or, map, filter, take, Some, None, refl, sym, ap, ◌∙◌, arith}
 use Rattle.hs_compare.proofs.Prelude.{slice_get, flat_map, map-append, take_more, filter-append, slice_get_within, ClientId, TraceId, AutoRule, Trigger, Operation, Sent, sent_triggers, names_in, items_at, sent_comings, events_at, name_at, names_by, comes_at, points_by, sent_names, names_of, event_of, AreInTurn, events_in, events_of, both_of, NumberedEvent}
 use Rattle.std.proofs.lemmas.Option.{get_or_from_slice_get, slice_get-get_or}
-use Rattle.hs_check_clauses.specs.Finding.{numbers_of}
-use Rattle.hs_law_sends.specs.OneMore.{items_of}
-use Rattle.hs_law_sends.specs.Order.{AreInOrder}
+use Rattle.hs_check_follow.specs.Finding.{numbers_of}
+use Rattle.hs_client.specs.OneMore.{items_of}
+use Rattle.hs_client.specs.Order.{AreInOrder}
 use Rattle.hs_compare.specs.Coming as samplers
 use Rattle.hs_compare.specs.Happens.{names_at}
 use Rattle.hs_compare.specs.declared.happening.ScriptEvent.TheVariants.{Names}

@@ -4,7 +4,7 @@ use Rattle.std.proofs.Common.{◌≡◌, ℕ, zero, suc, ◌+◌, ◌-◌, ◌*�
 use Rattle.hs_compare.proofs.Prelude.{AllByRecursion, flat_map, range_with_len, eqb-false, length-map, div-add-mod', mod-lt, all_each, all_append, range_append, ClientId, TraceId, Trigger, Operation, PlainWorkload, NumberedOperation, Record, open_behind, numbered_from, numbered_of, record_at, records_of, Sent, operations_at, sent_triggers, AllTriggersAreSent, point_numbers, rounds_for, rounds_of, client_at, SamplerEvent, Comes, Names, comings_of, sent_comings, items_at, names_in, events_at, events_in_order, all_comings, named_by, named_in, brought_by}
 use Rattle.std.proofs.lemmas.Grind.{flat_map-append}
 use Rattle.std.proofs.Math.Nat.{suc-mul, add-mul, mul-le-mul_right}
-use Rattle.hs_lists.proofs.Parts.{flat_alike}
+use Rattle.hs_base.proofs.Parts.{flat_alike}
 use Rattle.hs_compare.specs.Coming.{Coming, events_of}
 use Rattle.hs_compare.specs.SamplerLaws.{all_names, TheOrderHasAll}
 use Rattle.hs_compare.proofs.Lists.{in_map}

@@ -2,7 +2,7 @@
 -- the page's trace. With that, and as claimed traces are named, an entry is parted by three tests.
 use Rattle.std.proofs.Common.{◌≡◌, ℕ, ◌+◌, ◌≤◌, Bool, true, false, not, ◌&&◌, ◌||◌, cond, List, [], ◌∷◌, length, refl, sym, ap, subst, ◌∙◌, Option, Some, None, map, option_map, slice_get, eqb, eqb-true}
 use Rattle.hs_compare.proofs.Prelude.{AllByRecursion, div-add-mod', same_Some, all_at, ClientId, TraceId, is_among, Draw, PlainJournal, Entry, is_reported, ClaimedTrace, pages_of, Operation, PlainWorkload, records_of, operations_at, place_of, NodeRun, Run, followed, claimed_at, outcome_of, EachRecordHasOneEntry, name_of, is_first, named_in, CanBeCompared, ClaimedTracesAreNamed, IsParted, KeptIsParted}
-use Rattle.hs_lists.proofs.Alls.{all_each_both}
+use Rattle.hs_base.proofs.Alls.{all_each_both}
 use Rattle.hs_base.specs.declared.limits.TheConstants.{MIN_SIZE}
 use Rattle.hs_base.specs.declared.told.Group.{Group}
 use Rattle.hs_base.specs.Ids.{same_trace}

@@ -3,8 +3,8 @@
 use Rattle.std.proofs.Common.{◌≡◌, inl, inr, ℕ, Bool, true, false, cond, List, [], ◌∷◌, ◌++◌, refl, sym, subst, Option, Some, None, slice_get, option_map, count_by}
 use Rattle.hs_compare.proofs.Prelude.{AllByRecursion, range_with_len, same_Some, IsIn, all_at, all_append, all_map, TraceId, Trigger, PlainJournal, PlainWorkload, Sent, operations_at, place_of, sent_triggers, ClaimsOnly, ClaimsAreOfWhatIsBrought, NodeRun, Run, names_in}
 use Rattle.std.specs.Option.{option_and_then}
-use Rattle.hs_lists.proofs.Options.{mapped_from}
-use Rattle.hs_lists.proofs.Alls.{all_always, all_set}
+use Rattle.hs_base.proofs.Options.{mapped_from}
+use Rattle.hs_base.proofs.Alls.{all_always, all_set}
 use Rattle.hs_base.specs.declared.ids.NodeId.{NodeId}
 use Rattle.hs_base.specs.declared.told.Ask.{Ask}
 use Rattle.hs_base.specs.declared.told.Told.{Told}
@@ -12,7 +12,7 @@ use Rattle.hs_coord.specs.Following.{Message, Messages, message, is_of, first_of
 use Rattle.hs_records.specs.declared.journal.Step.{Step}
 use Rattle.hs_records.specs.declared.journal.Step.TheVariants as steps
 use Rattle.hs_law_agent.specs.Stepping.{Given, Missed, Unread, Chunk, Crumbed, Triggered, Asked, Turn, AgentEvent, Took, Gave}
-use Rattle.hs_law_sends.specs.Sending.{ClientSends, client_sends, node_sends}
+use Rattle.hs_client.specs.Sending.{ClientSends, client_sends, node_sends}
 use Rattle.hs_law_agent.specs.Bringing.{AllPass, TellsOf, BringsOnly}
 use Rattle.hs_law_journal.specs.Following.{Chunks, Crumbs, Triggers, Asks, taken, asks_behind, asks_to, node_start, run_start, next_of, event_of, perform, step_of, message_of, hear, is_from}
 use Rattle.hs_law_journal.specs.Orders.{Performs, Leads, Stays, Goes}

@@ -4,8 +4,8 @@ use Rattle.hs_compare.proofs.Prelude.{zip, flat_map, range_with_len, same_Some, 
 use Rattle.std.specs.Option.{option_to_list}
 use Rattle.std.proofs.lemmas.List.FromFn.{length-range_with_len}
 use Rattle.hs_records.specs.Records.{record_in}
-use Rattle.hs_law_sends.specs.OneMore.{open_after, next_behind}
-use Rattle.hs_law_sends.proofs.OneMore.{open_push}
+use Rattle.hs_client.specs.OneMore.{open_after, next_behind}
+use Rattle.hs_client.proofs.OneMore.{open_push}
 use Rattle.hs_compare.specs.Coming as samplers
 use Rattle.hs_compare.proofs.Order.{beside_length}
 use Rattle.hs_compare.specs.Points.{coming_seen, record_seen}

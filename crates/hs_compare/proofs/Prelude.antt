@@ -7,7 +7,7 @@ pub use Rattle.hs_base.specs.declared.ids.TraceId.{TraceId}
 pub use Rattle.hs_base.specs.declared.limits.TheConstants.{MAX_OPERATIONS}
 pub use Rattle.hs_base.specs.declared.settings.AutoRule.{AutoRule}
 pub use Rattle.hs_base.specs.declared.told.Trigger.{Trigger}
-pub use Rattle.hs_check_clauses.specs.Beginning.{MayBegin}
+pub use Rattle.hs_check_follow.specs.Asking.{MayBegin}
 pub use Rattle.hs_compare.specs.Beginning.{AreFirstScripts, AreScripts, first_comings}
 pub use Rattle.hs_compare.specs.Coming.{all_comings, Comes, comings_of, events_at, events_in_order, items_at, named_by, named_in, Names, names_in, SamplerEvent, sent_comings}
 pub use Rattle.hs_compare.specs.Comparing.{comparison_by, line_of_marked, line_of_sent, marks_of_head, marks_of_named, marks_of_reported}
@@ -40,18 +40,18 @@ pub use Rattle.hs_law_journal.specs.Lawful.{IsLawful}
 pub use Rattle.hs_law_outcome.proofs.Among.{in_filter, is_first}
 pub use Rattle.hs_law_outcome.specs.Outcomes.{claimed_at, client_at, outcome_of, put_trace, rising_traces}
 pub use Rattle.hs_law_outcome.specs.Records.{EachRecordHasOneEntry, name_of, Named}
-pub use Rattle.hs_law_sends.specs.OneMore.{OneMoreOperation}
-pub use Rattle.hs_law_sends.specs.Sending.{draws_at, operations_at, place_of, Sent, sent_triggers, trigger_in, triggers_behind}
-pub use Rattle.hs_law_sends.specs.SoFar.{AllTriggersAreSent}
-pub use Rattle.hs_law_sends.specs.Timing.{point_numbers}
+pub use Rattle.hs_client.specs.OneMore.{OneMoreOperation}
+pub use Rattle.hs_client.specs.Sending.{draws_at, operations_at, place_of, Sent, sent_triggers, trigger_in, triggers_behind}
+pub use Rattle.hs_client.specs.SoFar.{AllTriggersAreSent}
+pub use Rattle.hs_client.specs.Timing.{point_numbers}
 pub use Rattle.hs_ledger.specs.Totals.{is_reported}
 pub use Rattle.hs_ledger.specs.declared.ledger.Entry.{Entry}
-pub use Rattle.hs_lists.proofs.Alls.{all_append, all_at, all_each, all_flat_range, all_map}
-pub use Rattle.hs_lists.proofs.Counts.{count_alike, length_cons_if, one_if}
-pub use Rattle.hs_lists.proofs.Options.{on_ok_map}
-pub use Rattle.hs_lists.proofs.Parts.{length_map}
-pub use Rattle.hs_lists.proofs.Places.{IsIn, row_is}
-pub use Rattle.hs_lists.proofs.Ranges.{range_append}
+pub use Rattle.hs_base.proofs.Alls.{all_append, all_at, all_each, all_flat_range, all_map}
+pub use Rattle.hs_base.proofs.Counts.{count_alike, length_cons_if, one_if}
+pub use Rattle.hs_base.proofs.Options.{on_ok_map}
+pub use Rattle.hs_base.proofs.Parts.{length_map}
+pub use Rattle.hs_base.proofs.Places.{IsIn, row_is}
+pub use Rattle.hs_base.proofs.Ranges.{range_append}
 pub use Rattle.hs_records.proofs.Sizes.{operations_few}
 pub use Rattle.hs_records.specs.Journals.{PlainJournal}
 pub use Rattle.hs_records.specs.Pages.{pages_of}

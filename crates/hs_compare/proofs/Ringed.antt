@@ -1,8 +1,8 @@
 -- The ring of ids goes as the ring of whole records does.
 use Rattle.std.proofs.Common.{◌≡◌, ℕ, ◌+◌, ◌-◌, cond, ◌==◌, ◌||◌, Bool, true, false, List, [], ◌∷◌, ◌++◌, length, drop, filter, map, refl, sym, ap, ap₂, ◌∙◌, subst, arith, append_assoc}
 use Rattle.hs_compare.proofs.Prelude.{not, fold, count_by, flat_map, map-append, append-nil, sum_by_push, length_map, TraceId, is_among, SamplerRing, is_of, last_ones, ring_step, each_once, is_noted_of, ids_in, traces_in, last_noted, event_of, ring_after, rings_after, ringing_by}
-use Rattle.hs_lists.proofs.Parts.{map_drop}
-use Rattle.hs_lists.proofs.Filters.{filter_mapped}
+use Rattle.hs_base.proofs.Parts.{map_drop}
+use Rattle.hs_base.proofs.Filters.{filter_mapped}
 use Rattle.hs_compare.specs.Coming.{Coming}
 use Rattle.hs_compare.specs.Coming as samplers
 use Rattle.hs_compare.specs.Samplers as rings

@@ -2,7 +2,7 @@
 use Rattle.std.proofs.Common.{◌≡◌, ℕ, ◌-◌, ◌*◌, ◌<◌, Bool, true, false, not, cond, List, [], ◌∷◌, ◌++◌, length, refl, sym, arith, map, filter, fold, zip, eqb, eqb-true, Contains}
 use Rattle.hs_compare.proofs.Prelude.{AllByRecursion, flat_map, range_with_len, IsIn, all_each, all_append, all_flat_range, all_map, ClientId, TraceId, AutoRule, is_among, Operation, PlainWorkload, Sent, operations_at, sent_triggers, point_numbers, rounds_of, client_at, in_filter, SamplerEvent, Comes, Names, comings_of, sent_comings, items_at, names_in, events_at, events_in_order, all_comings, named_in, is_of, tail_keeps, SamplerRing, empty_ring, last_ones, ring_step, ring_keeps}
 use Rattle.std.proofs.lemmas.List.Elements.{All-from_recursion}
-use Rattle.hs_lists.proofs.Alls.{all_drop, all_flat_map}
+use Rattle.hs_base.proofs.Alls.{all_drop, all_flat_map}
 use Rattle.hs_law_outcome.proofs.Among.{contained}
 use Rattle.hs_compare.specs.Coming.{Coming, events_of}
 use Rattle.hs_compare.specs.SamplerLaws.{RingKeepsLess}

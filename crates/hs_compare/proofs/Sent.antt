@@ -2,7 +2,7 @@
 use Rattle.std.proofs.Common.{◌≡◌, ℕ, zero, suc, ◌+◌, ◌-◌, ◌*◌, ◌/◌, ◌%◌, ◌<◌, ◌≤◌, true, List, [], ◌∷◌, length, refl, sym, subst, Option, Some, None, arith, map, filter, fold, slice_get, unwrap_or, eqb, eq-eqb, ltb, ltb-true, max}
 use Rattle.hs_compare.proofs.Prelude.{AllByRecursion, flat_map, range_with_len, div-add-mod', slice_get_within, mod-lt, IsIn, all_each, ClientId, TraceId, Trigger, Operation, PlainWorkload, Sent, operations_at, sent_triggers, AllTriggersAreSent, rounds_for, rounds_of, client_at, is_first, in_filter, SamplerEvent, Comes, Names, sent_comings, items_at, names_in, events_at, events_in_order, named_by, named_in}
 use Rattle.std.proofs.Math.Nat.{div-lt_iff_lt-mul}
-use Rattle.hs_lists.proofs.Counts.{max_at_least}
+use Rattle.hs_base.proofs.Counts.{max_at_least}
 use Rattle.hs_law_outcome.proofs.Among.{of_all}
 use Rattle.hs_compare.specs.Coming.{events_of}
 use Rattle.hs_compare.proofs.Lists.{all_filtered, all_themselves, in_back, in_flat, in_map, in_range}

@@ -1,8 +1,8 @@
 -- The records that come stand one for one with the entries, and each entry has the trace of its record.
 use Rattle.std.proofs.Common.{◌≡◌, ℕ, suc, ◌+◌, List, [], ◌∷◌, ◌++◌, length, refl, sym, ap, subst, ◌∙◌, Some, arith, map, option_map, slice_get, zip}
 use Rattle.hs_compare.proofs.Prelude.{AllByRecursion, flat_map, range_with_len, all_each, all_flat_range, ClientId, PlainJournal, Entry, PlainWorkload, Record, records_of, operations_at, IsLawful, client_at, outcome_of, EachRecordHasOneEntry, Named, name_of, comings_of, all_comings, name_of_coming, EntriesStandByTheRecords}
-use Rattle.hs_lists.proofs.Alls.{all_unmap}
-use Rattle.hs_lists.proofs.Parts.{map_append}
+use Rattle.hs_base.proofs.Alls.{all_unmap}
+use Rattle.hs_base.proofs.Parts.{map_append}
 use Rattle.hs_records.specs.Laws.{traces_of}
 use Rattle.hs_law_outcome.specs.Records.{EndsItsTraces, named_from, client_records, all_records}
 use Rattle.hs_compare.specs.Coming.{Coming}

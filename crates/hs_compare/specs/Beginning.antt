@@ -4,7 +4,7 @@ use Rattle.std.specs.List.{flat_map, range_with_len}
 use Rattle.hs_law_outcome.specs.Outcomes.{client_at}
 use Rattle.hs_records.specs.Plain.{PlainWorkload}
 use Rattle.hs_compare.specs.Coming.{Coming, comings_of}
-use Rattle.hs_law_sends.specs.Sending.{operations_at}
+use Rattle.hs_client.specs.Sending.{operations_at}
 use Rattle.hs_compare.specs.declared.script.Script.{Script}
 use Rattle.hs_compare.specs.Scripts.{IsClientScript}
 

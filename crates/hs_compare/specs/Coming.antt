@@ -10,8 +10,8 @@ use Rattle.hs_base.specs.declared.told.Trigger.{Trigger}
 use Rattle.hs_base.specs.Samples.{golden, twice}
 use Rattle.hs_records.specs.Plain.{Operation, Begin, Point, End, Fire, PlainWorkload}
 use Rattle.hs_records.specs.Records.{Record, records_of}
-use Rattle.hs_law_sends.specs.Sending.{Sent, operations_at, sent_triggers}
-use Rattle.hs_law_sends.specs.Timing.{point_numbers}
+use Rattle.hs_client.specs.Sending.{Sent, operations_at, sent_triggers}
+use Rattle.hs_client.specs.Timing.{point_numbers}
 use Rattle.hs_law_journal.specs.Ends.{rounds_of}
 use Rattle.hs_law_journal.specs.Workloads.{short_of_pins}
 use Rattle.hs_law_outcome.specs.Outcomes.{client_at}

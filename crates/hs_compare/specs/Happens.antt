@@ -6,7 +6,7 @@ use Rattle.hs_base.specs.declared.told.Trigger.{Trigger}
 use Rattle.hs_records.specs.Plain.{Operation}
 use Rattle.hs_compare.specs.Coming.{names_in, sent_comings}
 use Rattle.hs_compare.specs.Coming as samplers
-use Rattle.hs_law_sends.specs.Sending.{Sent}
+use Rattle.hs_client.specs.Sending.{Sent}
 use Rattle.hs_compare.specs.declared.coming.Coming.{Coming}
 use Rattle.hs_compare.specs.declared.happening.ScriptEvent.TheVariants.{Comes, Names}
 use Rattle.hs_compare.specs.declared.happening.NumberedEvent.{NumberedEvent}

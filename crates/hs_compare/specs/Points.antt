@@ -3,7 +3,7 @@ use Rattle.std.specs.Prelude.{◌≡◌, ℕ, List, [], ◌∷◌, ◌++◌, len
 use Rattle.hs_base.specs.declared.ids.ClientId.{ClientId}
 use Rattle.hs_records.specs.Plain.{Operation}
 use Rattle.hs_records.specs.Records.{Record, record_in, records_of}
-use Rattle.hs_law_sends.specs.OneMore.{open_after}
+use Rattle.hs_client.specs.OneMore.{open_after}
 use Rattle.hs_compare.specs.Coming.{comings_of}
 use Rattle.hs_compare.specs.Happens.{coming_of, points_by}
 use Rattle.hs_compare.specs.Walking.{AreOf, IsScript}

@@ -12,7 +12,7 @@ use Rattle.hs_records.specs.Journals.{PlainJournal}
 use Rattle.hs_ledger.specs.declared.ledger.Entry.{Entry}
 use Rattle.hs_ledger.specs.Totals.{is_reported}
 use Rattle.hs_records.specs.Plain.{PlainWorkload}
-use Rattle.hs_law_sends.specs.Sending.{Sent, operations_at, sent_triggers}
+use Rattle.hs_client.specs.Sending.{Sent, operations_at, sent_triggers}
 use Rattle.hs_law_journal.specs.Journals
 use Rattle.hs_law_journal.specs.Lawful.{IsLawful}
 use Rattle.hs_law_journal.specs.Workloads.{evicted_then_claimed, one_token}

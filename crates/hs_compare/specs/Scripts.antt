@@ -5,7 +5,7 @@ use Rattle.hs_base.specs.declared.ids.ClientId.{ClientId}
 use Rattle.hs_base.specs.declared.settings.AutoRule.{AutoRule}
 use Rattle.hs_base.specs.declared.told.Trigger.{Trigger}
 use Rattle.hs_records.specs.Plain.{Operation, Fire, Sample}
-use Rattle.hs_law_sends.specs.Sending.{Sent, sent_triggers}
+use Rattle.hs_client.specs.Sending.{Sent, sent_triggers}
 use Rattle.hs_compare.specs.Coming as samplers
 use Rattle.hs_compare.specs.Happens.{names_at}
 use Rattle.hs_compare.specs.Points.{IsScriptOf}

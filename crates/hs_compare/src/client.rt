@@ -4,7 +4,7 @@ ghost use Rattle.std.specs.Prelude.{◌≡◌, length, map, IfOk};
 ghost use Rattle.std.specs.List.{list_any};
 ghost use Rattle.hs_records.specs.Pages.{pages_of};
 ghost use Rattle.hs_records.specs.Plain.{settings_of};
-ghost use Rattle.hs_law_sends.specs.Playable.{IsPlayable};
+ghost use Rattle.hs_client.specs.Playable.{IsPlayable};
 ghost use Rattle.hs_records.specs.Views.{operation_of};
 ghost use Rattle.hs_records.specs.declared.operation.Op.{Op};
 ghost use Rattle.hs_compare.specs.Scripts.{may_trigger, names_of, IsClientScript};
@@ -14,7 +14,7 @@ use crate::names::names_of;
 use crate::script::{Script, script_of};
 use hs_base::{ClientId, List, Memory, Settings};
 use hs_check_follow::{FollowedClient, send};
-use hs_law_sends::laws::items_are_sent_in_order;
+use hs_client::sending_laws::items_are_sent_in_order;
 use hs_records::{Draw, Op};
 use std::alloc::Global;
 

@@ -2,14 +2,14 @@
 
 ghost use Rattle.std.specs.Prelude.{◌≤◌, ◌≡◌, fold, IfOk};
 ghost use Rattle.hs_records.specs.Journals.{journal_of};
-ghost use Rattle.hs_law_lockstep.specs.Lockstep.{lockstep};
+ghost use Rattle.hs_law_run.specs.Lockstep.{lockstep};
 ghost use Rattle.hs_outcome.specs.Outcomes.{IsOutcome};
 ghost use Rattle.hs_compare.specs.Coming.{events_in_order};
 ghost use Rattle.hs_compare.specs.SamplerLaws.{compared_by, SumsToTail};
 ghost use Rattle.hs_compare.specs.Samplers.{ring_step, empty_ring};
 ghost use Rattle.hs_records.specs.Validity.{IsValid};
 ghost use Rattle.hs_records.specs.Views.{workload_of};
-ghost use Rattle.hs_check_clauses.specs.Beginning.{MayBegin};
+ghost use Rattle.hs_check_follow.specs.Asking.{MayBegin};
 ghost use Rattle.hs_compare.specs.Plain.{plain_comparison};
 ghost use Rattle.hs_compare.specs.Whole.{ringing_by};
 
@@ -23,8 +23,8 @@ use crate::ring_tail::RingTail;
 use crate::scripts::scripts_of;
 use crate::walk::walk;
 use hs_base::Memory;
-use hs_check_clauses::count_rounds;
-use hs_law_lockstep::laws::schedule_is_lawful;
+use hs_check_follow::count_rounds;
+use hs_law_run::lockstep_laws::schedule_is_lawful;
 use hs_outcome::Outcome;
 use hs_records::{Journal, Workload};
 use std::alloc::Global;

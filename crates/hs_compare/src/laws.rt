@@ -3,13 +3,13 @@
 ghost use Rattle.hs_compare.specs.SamplerLaws.{RingKeepsLess, TheOrderHasAll, RingKeepsEachOnce, ClaimedTracesAreNamed, EntriesStandByTheRecords, KeptIsParted, GapsAreInGapLines, TailIsTheSum};
 ghost use Rattle.hs_compare.specs.SamplerExamples.{Examples};
 
+use hs_client::sending_laws::all_is_sent_in_the_end;
 use hs_law_agent::laws::claims_are_of_what_is_brought;
 use hs_law_journal::laws::following_plays_out;
 use hs_law_outcome::laws::{
     agents_keep_their_model, each_fate_has_its_cause, each_record_has_one_entry,
     reported_pages_are_of_clients,
 };
-use hs_law_sends::laws::all_is_sent_in_the_end;
 use hs_records::pages_carry_the_records;
 
 /// Whatever room a ring has, tail keeps all that the ring keeps.

@@ -9,7 +9,7 @@ ghost use Rattle.hs_compare.specs.Points.{Operations, HasGone, brought, coming_s
 use crate::coming::Coming;
 use hs_base::limits::MAX_OPERATIONS;
 use hs_base::{ClientId, RecordId, TraceId};
-use hs_law_sends::laws::one_operation_more;
+use hs_client::sending_laws::one_operation_more;
 use hs_records::Op;
 
 /// A record that an operation brings.

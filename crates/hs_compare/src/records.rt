@@ -3,7 +3,7 @@
 ghost use Rattle.std.specs.Prelude.{◌≡◌, ◌<◌, ◌≤◌, ◌++◌, ◌∷◌, [], List, length, map, IfOk, OnOk};
 ghost use Rattle.hs_law_outcome.specs.Outcomes.{client_at};
 ghost use Rattle.hs_compare.specs.Coming.{all_comings, comings_of};
-ghost use Rattle.hs_law_sends.specs.Sending.{operations_at};
+ghost use Rattle.hs_client.specs.Sending.{operations_at};
 ghost use Rattle.hs_records.specs.Validity.{IsValid};
 ghost use Rattle.hs_records.specs.Views.{operation_of, workload_of};
 ghost use Rattle.hs_compare.specs.Happens.{coming_of};
@@ -14,7 +14,7 @@ use crate::places::client_at;
 use crate::points::RecordWalk;
 use hs_base::limits::MAX_OPERATIONS;
 use hs_base::{ClientId, List, Memory};
-use hs_law_sends::laws::{one_operation_more, valid_clients_may_be_played};
+use hs_client::sending_laws::{one_operation_more, valid_clients_may_be_played};
 use hs_records::{Op, Workload};
 use std::alloc::Global;
 

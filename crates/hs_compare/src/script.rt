@@ -11,7 +11,7 @@ use crate::points::RecordWalk;
 use crate::ring_tail::RingTail;
 use hs_base::limits::MAX_OPERATIONS;
 use hs_base::{ClientId, List, Memory};
-use hs_law_sends::laws::one_operation_more;
+use hs_client::sending_laws::one_operation_more;
 use hs_records::Op;
 use std::alloc::Global;
 

@@ -3,17 +3,17 @@
 ghost use Rattle.std.specs.Prelude.{◌<◌, length, IfOk};
 ghost use Rattle.hs_records.specs.Journals.{journal_of};
 ghost use Rattle.hs_law_outcome.specs.Outcomes.{client_at};
-ghost use Rattle.hs_law_sends.specs.Sending.{operations_at};
+ghost use Rattle.hs_client.specs.Sending.{operations_at};
 ghost use Rattle.hs_records.specs.Views.{workload_of};
 ghost use Rattle.hs_compare.specs.Scripts.{IsClientScript};
 ghost use Rattle.hs_compare.specs.Beginning.{AreScripts};
-ghost use Rattle.hs_check_clauses.specs.Beginning.{MayBegin};
+ghost use Rattle.hs_check_follow.specs.Asking.{MayBegin};
 
 use crate::client::client_script;
 use crate::places::client_at;
 use crate::script::Script;
 use hs_base::{List, Memory};
-use hs_law_sends::laws::valid_clients_may_be_played;
+use hs_client::sending_laws::valid_clients_may_be_played;
 use hs_records::{Journal, Workload};
 use std::alloc::Global;
 

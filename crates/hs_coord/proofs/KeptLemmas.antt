@@ -6,7 +6,7 @@ use Rattle.std.specs.Cmp.{IsEquivalence}
 use Rattle.std.specs.Map.{lookup}
 use Rattle.std.specs.Option.{option_map_or}
 use Rattle.std.proofs.lemmas.Bool.{and_parts, and_from, eqb-true, false_from_ne_true}
-use Rattle.hs_lists.proofs.Bools.{or_assoc}
+use Rattle.hs_base.proofs.Bools.{or_assoc}
 use Rattle.hs_base.specs.declared.ids.GroupId.{GroupId}
 use Rattle.hs_base.specs.declared.node_set.NodeSet.{NodeSet}
 use Rattle.hs_base.specs.NodeSets.{has_node}

@@ -9,7 +9,7 @@ use Rattle.std.specs.declared.cmp.Ordering.{Ordering}
 use Rattle.std.specs.declared.cmp.Ordering.TheVariants.{Less, Equal, Greater}
 use Rattle.std.proofs.lemmas.Bool.{and_from, and_parts, both_ways, or_cases, or_left}
 use Rattle.std.proofs.lemmas.Map.{lookup-remove_entry}
-use Rattle.hs_lists.proofs.Alls.{all_append, all_each, all_map, all_push}
+use Rattle.hs_base.proofs.Alls.{all_append, all_each, all_map, all_push}
 use Rattle.hs_base.specs.declared.ids.NodeId.{NodeId}
 use Rattle.hs_base.specs.declared.ids.TraceId.{TraceId}
 use Rattle.hs_base.specs.declared.told.Ask.{Ask}

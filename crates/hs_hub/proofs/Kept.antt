@@ -13,7 +13,7 @@ use Rattle.std.proofs.lemmas.Map.{none_passes_from_lookup, lookup-set_value, loo
 use Rattle.std.proofs.lemmas.Map.Keys.{IsDistinct-head, IsDistinct-tail, IsDistinct-cons}
 use Rattle.std.proofs.lemmas.Map.Views.{any-filter_same}
 use Rattle.std.proofs.lemmas.Option.{same_Some}
-use Rattle.hs_lists.proofs.Alls.{all_map}
+use Rattle.hs_base.proofs.Alls.{all_map}
 use Rattle.hs_base.specs.declared.ids.NodeId.{NodeId}
 use Rattle.hs_base.specs.declared.ids.TraceId.{TraceId}
 use Rattle.hs_base.specs.declared.told.Ask.{Ask}

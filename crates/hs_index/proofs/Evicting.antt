@@ -6,7 +6,7 @@ use Rattle.std.specs.Option.{option_map_or}
 use Rattle.std.proofs.lemmas.Bool.{lt-ltb, le-ltb, ltb-false, or_parts, or_from}
 use Rattle.std.proofs.lemmas.List.{length-append, length-map, nil_from_length}
 use Rattle.std.proofs.lemmas.List.Sums.{sum_by-cons, sum_by_push}
-use Rattle.hs_lists.proofs.Bools.{by_answer}
+use Rattle.hs_base.proofs.Bools.{by_answer}
 use Rattle.hs_base.specs.declared.ids.TraceId.{TraceId}
 use Rattle.hs_index.specs.Index.{PlainIndexedTrace, Indexed, is_of, nothing, noted_of, others, touch, chunk_count, count_chunks, is_over, leaving, kept, evicted}
 

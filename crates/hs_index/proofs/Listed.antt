@@ -15,7 +15,7 @@ use Rattle.std.proofs.lemmas.Map.Entries.{none_past_head}
 use Rattle.std.proofs.lemmas.Map.Keys.{IsDistinct-tail}
 use borrow.Author.Tests.{eqb-true}
 use Rattle.lru.specs.LruCache.{promoted}
-use Rattle.hs_lists.proofs.Bools.{by_answer}
+use Rattle.hs_base.proofs.Bools.{by_answer}
 use Rattle.hs_base.specs.declared.ids.TraceId.{TraceId}
 use Rattle.hs_base.specs.Ids.{same_trace}
 use Rattle.hs_index.specs.Index.{PlainIndexedTrace, Indexed, is_of, is_other, nothing, noted_of, others, chunk_count, count_chunks}

@@ -1,7 +1,7 @@
 -- The traces that stay are the longest end of the list that is within the limits.
 use Rattle.std.proofs.Common.{◌≡◌, ℕ, ◌≤◌, false, List, [], ◌∷◌, ◌++◌, length, refl, sym, ap, ◌∙◌, arith}
 use Rattle.std.proofs.lemmas.List.{length-append}
-use Rattle.hs_lists.proofs.Bools.{by_answer}
+use Rattle.hs_base.proofs.Bools.{by_answer}
 use Rattle.hs_index.specs.Index.{Indexed, is_over, kept}
 use Rattle.hs_index.specs.Calls.{IsLongestEnd}
 use Rattle.hs_index.proofs.Evicting.{within-not-over, all-stay, first-leaves}

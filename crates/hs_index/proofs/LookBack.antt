@@ -17,8 +17,8 @@ use Rattle.hs_index.proofs.LongestEnd.{within}
 use Rattle.std.proofs.lemmas.Bool.{ltb-false, or_parts}
 use Rattle.std.proofs.Math.Bool.{or-false}
 use Rattle.std.proofs.Common.{nat_lt}
-use Rattle.hs_lists.proofs.Bools.{by_answer}
-use Rattle.hs_lists.proofs.Options.{option_or_none, is_some_false}
+use Rattle.hs_base.proofs.Bools.{by_answer}
+use Rattle.hs_base.proofs.Options.{option_or_none, is_some_false}
 use Rattle.hs_index.specs.Index.{count_chunks}
 
 bit-step : (b now before since brought : Bool) → before ≡ since → (b ≡ true → now ≡ (before || brought)) → (b ≡ false → now ≡ false) → now ≡ cond b (since || brought) false

@@ -3,7 +3,7 @@ use Rattle.std.proofs.Common.{◌≡◌, ℕ, List, [], ◌∷◌, ◌++◌, len
 use Rattle.std.specs.Prelude.{Bool, true, false, filter_map, Result, Ok, Err, OnOk, OnErr, IsErr}
 use Rattle.std.proofs.lemmas.Bool.{false_from_ne_true}
 use Rattle.std.specs.Option.{option_to_list}
-use Rattle.hs_lists.proofs.Alls.{all_push}
+use Rattle.hs_base.proofs.Alls.{all_push}
 use Rattle.hs_base.specs.declared.told.Crumb.{Crumb}
 use Rattle.hs_base.specs.declared.told.Group.{Group}
 use Rattle.hs_base.specs.declared.told.Told.{Told}

@@ -8,7 +8,7 @@ use Rattle.hs_journal.specs.Statements.{Statement, draw_statement, step_statemen
 use Rattle.hs_journal.specs.Grammar.{draw_statements, log_statements}
 use Rattle.hs_journal.specs.Forward.{onto_last}
 pub use Rattle.std.proofs.lemmas.List.{map_push}
-use Rattle.hs_lists.proofs.Alls.{all_push}
+use Rattle.hs_base.proofs.Alls.{all_push}
 
 pub onto_current : {A : Type 0} (finished : List (List A)) (current : List A) (x : A) → onto_last (finished ++ current ∷ []) x ≡ finished ++ (current ++ x ∷ []) ∷ []
 onto_current [] current x = refl

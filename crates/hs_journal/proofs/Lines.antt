@@ -4,7 +4,7 @@ use borrow.Author.Tests.{leb-true}
 use Rattle.std.specs.Prelude.{decimal, option_and_then, option_map, is_none}
 use Rattle.std.specs.List.{list_all, AllByRecursion}
 use Rattle.std.proofs.lemmas.Bool.{not-false}
-use Rattle.hs_lists.proofs.Numbers.{nat_eq_from}
+use Rattle.hs_base.proofs.Numbers.{nat_eq_from}
 use Rattle.hs_text.specs.Text.{line_of, number_of, has_bad_byte, numbers_of}
 use Rattle.hs_text.specs.TextLaws.{is_word, number_of-decimal, decimal-number_of, is_word-decimal, words_of-line_of, line_of-words_of}
 use Rattle.hs_text.specs.Steps.{◌>>=◌, first_that_holds}

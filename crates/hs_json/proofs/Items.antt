@@ -9,7 +9,7 @@ use Rattle.hs_ledger.specs.declared.ledger.Entry.{Entry}
 use Rattle.hs_law_outcome.specs.CollectedReports.{reported_wholes}
 use Rattle.hs_report.specs.OutcomeText.{placed_json, gap_json, report_json}
 use Rattle.hs_report.specs.Sources.{report_by}
-use Rattle.hs_lists.proofs.Loops.{Joins}
+use Rattle.hs_base.proofs.Loops.{Joins}
 use Rattle.hs_report.proofs.Loops.{unreported, shown_joins, unreported_join}
 
 abbrev pub record_items : List Entry → List TraceRecord → List (List ℕ)

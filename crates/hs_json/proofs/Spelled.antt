@@ -8,7 +8,7 @@ use Rattle.serde_json.specs.Data.{Data, number, unsigned, string, array, object,
 use Rattle.serde_json.specs.View.{view, items_of, items_view}
 use Rattle.serde_json.specs.Written.{has_float, items_have_float, compact_text, items_text}
 use Rattle.serde_json.specs.declared.value.Value.{Value}
-use Rattle.hs_lists.proofs.Bools.{first_false, second_false}
+use Rattle.hs_base.proofs.Bools.{first_false, second_false}
 use Rattle.hs_base.specs.declared.ids.RecordId.{RecordId}
 use Rattle.hs_collect.specs.Collected.{Placed}
 use Rattle.hs_ledger.specs.declared.ledger.Entry.{Entry}
@@ -16,7 +16,7 @@ use Rattle.hs_report.specs.OutcomeText.{fate_words, id_words, json_text, json_li
 use Rattle.hs_text.specs.Text.{line_of, payload_text}
 use Rattle.hs_json.specs.Spelling.{ArePlain, Spells, SpellEach, id_data}
 use Rattle.hs_json.proofs.Plain.{quoted_plain}
-use Rattle.hs_lists.proofs.Loops.{Joins, loop_more, loop_more_at}
+use Rattle.hs_base.proofs.Loops.{Joins, loop_more, loop_more_at}
 
 -- an item and those behind it, up to the bracket
 items_behind : (d : Data) (ds : List Data) → compact_text d ++ items_text true (items_of ds) ≡ join_with_byte 44 (map compact_text (d ∷ ds)) ++ 93 ∷ []

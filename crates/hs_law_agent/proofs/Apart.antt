@@ -1,7 +1,7 @@
 -- A visit of one trigger id leaves what waits for another.
 use Rattle.std.proofs.Common.{◌≡◌, ℕ, zero, suc, ◌+◌, Bool, true, false, cond, not, List, [], ◌∷◌, take, map, refl, sym, ap, ◌∙◌, arith, true≢false}
 use Rattle.hs_law_agent.proofs.Prelude.{filter, AllByRecursion, eqb-true, ne_eqb, filter_all, count_sent, ChunkStanding, Indexed, Pinned, Reported, Evicted, Abandoned, Taken, pinned_for, stands, is_among, moved_from, moved, AgentState, is_pinned_under, place_is_no_greater, put_before, by_priority, order_of, used_at, costs_of, reported_standing, report}
-use Rattle.hs_lists.proofs.Parts.{map_alike}
+use Rattle.hs_base.proofs.Parts.{map_alike}
 use Rattle.hs_words.specs.Chunks.{used_of}
 use Rattle.hs_law_agent.specs.Laws.{VisitsAreApart}
 use Rattle.hs_law_agent.proofs.Counts.{count-take, among_counted, passes_too, passes_moved_at}

@@ -2,7 +2,7 @@
 use Rattle.std.proofs.Common.{◌≡◌, ℕ, ◌+◌, ◌≤◌, Bool, true, false, cond, not, ◌||◌, List, [], ◌∷◌, ◌++◌, map, refl, sym, ap, ◌∙◌, arith, Option, Some, None, subst, true≢false}
 use Rattle.hs_law_agent.proofs.Prelude.{filter, fold, slice_get, option_map, option_map_or, option_and_then, cons_option, list_any, AllByRecursion, or_parts, eqb-true, ◌==◌, one_if, TraceId, Group, same_trace, same_group, PlainSettings, ChunkStanding, Indexed, Pinned, Reported, Evicted, Abandoned, Taken, trace_of, is_pinned, pinned_for, pinning_group, stands, pinned_groups, AgentState, ClaimedTrace, start, claim_of, is_claimed, AgentEvent, after_event, after_from, count_of, count_traces, claimed_traces, claiming_group, PlacesMatch}
 use Rattle.std.specs.Prelude.{filter_map}
-use Rattle.hs_lists.proofs.Alls.{all_at, all_by_place}
+use Rattle.hs_base.proofs.Alls.{all_at, all_by_place}
 use Rattle.hs_law_agent.specs.Standings.{is_evicted}
 use Rattle.hs_law_agent.specs.Laws.{AllWereOver, IsInOnePlace, IsWithin}
 use Rattle.hs_law_agent.specs.Lives.{is_of_group, claims_without, forget_group, is_settled, forget, Act, Does, Forgets, after_act, life_from, HeldByClaim, IsGood, GoesOnWell, LivesGoOnWell, EvictsNoClaimed, NothingClaimedGoes, Keeps, ClaimsStand, EventsLeadOn, ListsLast, ListsGoOn}

@@ -1,9 +1,9 @@
 -- The pages of a trace are reported in the order of arrival, since one group pins them in that order.
 use Rattle.std.proofs.Common.{◌≡◌, ℕ, zero, suc, ◌+◌, ◌<◌, ◌≤◌, Bool, true, false, cond, not, List, [], ◌∷◌, ◌++◌, length, take, refl, sym, ap, ◌∙◌, arith, inl, inr, Option, Some, None, subst, true≢false, append_assoc, append-nil}
 use Rattle.hs_law_agent.proofs.Prelude.{◌⊎◌, ◌==◌, ◌||◌, filter, slice_get, option_map, option_map_or, option_and_then, AllByRecursion, cases_Bool, and_parts, eqb-true, tied_itself, is_le, one_if, one_few, filter_none, filter_all, TraceId, Ask, Group, same_trace, PlainSettings, count_sent, Sheet, ChunkStanding, Indexed, Pinned, Reported, Evicted, Abandoned, Taken, trace_of, is_indexed, is_pinned, is_reported, is_indexed_of, is_of_trace, is_pinned_for, indexed_places, passes, stands, pinned_for, pinning_group, is_among, moved, AgentState, ClaimedTrace, claim_of, is_claimed, claim_trace, abandon_group, is_pinned_under, place_is_no_greater, put_before, by_priority, order_of, costs_of, reported_standing, report, with_pinned, after, count_of, claiming_group, StandsByClaim, PlacesMatch, AreRising}
-use Rattle.hs_lists.proofs.Alls.{all_at}
+use Rattle.hs_base.proofs.Alls.{all_at}
 use Rattle.hs_law_agent.specs.Laws.{ReportedInOrder}
-use Rattle.hs_lists.proofs.Alls.{all_append}
+use Rattle.hs_base.proofs.Alls.{all_append}
 use Rattle.hs_law_agent.proofs.Counts.{count-append, counted_one, passes_before, places_counted_at, passes_too, passes_moved_at}
 use Rattle.hs_law_agent.proofs.Traces.{same_trace-true}
 use Rattle.hs_law_agent.proofs.Traversal.{IsKept, kept_after}

@@ -1,7 +1,7 @@
 -- Each step leaves every list with its chunks, each once.
 use Rattle.std.proofs.Common.{◌≡◌, ℕ, ◌+◌, ◌≤◌, Bool, true, false, cond, not, List, [], ◌∷◌, ◌++◌, length, take, map, refl, sym, ap, ◌∙◌, arith, inl, inr}
 use Rattle.hs_law_agent.proofs.Prelude.{◌==◌, filter, cases_Bool, true≢false, and_parts, map-append, one_if, one_few, TraceId, Group, Ask, PlainSettings, Share, count_sent, Sheet, ChunkStanding, Indexed, Pinned, Reported, Evicted, Abandoned, Taken, is_indexed, is_pinned, is_reported, is_let_go, is_indexed_of, is_pinned_for, indexed_places, passes, stands, is_among, moved, AgentState, GivenPlace, start, evict_trace, claim_trace, abandon_group, is_pinned_under, place_is_no_greater, put_before, by_priority, order_of, costs_of, reported_standing, report, visit, with_indexed, with_abandoned, with_pinned, give_place, count_of, given_places, PlacesMatch}
-use Rattle.hs_lists.proofs.Counts.{one_le}
+use Rattle.hs_base.proofs.Counts.{one_le}
 use Rattle.hs_law_agent.proofs.Traversal.{IsKept}
 use Rattle.hs_law_agent.specs.Laws.{ListsEach, ArePlaced}
 use Rattle.hs_law_agent.proofs.Counts.{count-append, count-filter, count-take, among_counted, not_among_counted, counted_one, passes_too, passes_moved_at, passes_more, places_counted_at, count-split, count-filter-le}

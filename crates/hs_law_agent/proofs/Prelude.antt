@@ -16,9 +16,9 @@ pub use Rattle.hs_law_agent.specs.Standings.{Abandoned, ChunkStanding, Evicted, 
 pub use Rattle.hs_law_agent.specs.State.{AgentState, claim_of, ClaimedTrace, GivenPlace, is_abandoned, is_claimed, start, without_trace}
 pub use Rattle.hs_law_agent.specs.Stepping.{admit, admits, after, after_event, after_from, AgentEvent, Answered, Asked, Chunk, claim_for, count_admitted, Crumbed, Gave, give_back, give_place, Given, group_of, Input, late_crumb, Missed, note_trigger, pin_chunk, take_answer, take_input, tell_late, told_by, Took, Triggered, Turn, Unread, with_abandoned, with_indexed, with_pinned, with_touched}
 pub use Rattle.hs_law_agent.specs.Turning.{by_priority, costs_of, is_pinned_under, order_of, place_is_no_greater, put_before, report, reported_standing, used_at, visit}
-pub use Rattle.hs_lists.proofs.Alls.{all_append, all_append_option, all_filter, all_push}
-pub use Rattle.hs_lists.proofs.Counts.{one_few, one_if}
-pub use Rattle.hs_lists.proofs.Filters.{filter_all, filter_few, filter_none}
+pub use Rattle.hs_base.proofs.Alls.{all_append, all_append_option, all_filter, all_push}
+pub use Rattle.hs_base.proofs.Counts.{one_few, one_if}
+pub use Rattle.hs_base.proofs.Filters.{filter_all, filter_few, filter_none}
 pub use Rattle.hs_records.specs.Plain.{PlainSettings}
 pub use Rattle.hs_records.specs.declared.journal.Step.{Step}
 pub use Rattle.hs_sched.specs.Visits.{count_sent}

@@ -1,7 +1,7 @@
 -- Lists of places that rise, and filters of them.
 use Rattle.std.proofs.Common.{◌≡◌, ℕ, suc, ◌+◌, ◌<◌, ◌≤◌, Bool, true, false, cond, not, List, [], ◌∷◌, ◌++◌, take, drop, refl, sym, ap, ◌∙◌, arith, inl, inr, take-append-drop}
 use Rattle.hs_law_agent.proofs.Prelude.{◌⊎◌, ◌==◌, filter, AllByRecursion, cases_Bool, eq-eqb, filter_none, filter_all, all_filter, all_push, Taken, is_among, places_from, count_of, AreRising}
-use Rattle.hs_lists.proofs.Alls.{all_front}
+use Rattle.hs_base.proofs.Alls.{all_front}
 use Rattle.hs_law_agent.proofs.Counts.{count-append, count-filter, among_counted}
 
 -- ---- filters

@@ -1,7 +1,7 @@
 -- Step by step: what is ready in the shorter journal's run is ready in the longer one's, since items stand at the same places.
 use Rattle.std.proofs.Common.{◌≡◌, inl, inr, ℕ, zero, suc, ◌+◌, List, [], ◌∷◌, ◌++◌, length, set, drop, refl, sym, ap, subst, ◌∙◌, Option, Some, None, append_assoc, append-nil, map, filter, option_map, slice_get, count_by}
 use Rattle.hs_law_journal.proofs.Prelude.{AllByRecursion, range_with_len, option_and_then, map-append, filter-append, slice_get-map, same_Some, get_front, all_set, all_at, mapped_from, ClientId, NodeId, Message, Messages, message, Draw, Step, PlainJournal, EventsAddThis, noted_as, AgentEvent, Took, Gave, Chunk, Crumbed, Triggered, Asked, Turn, Answered, Given, Missed, Unread, step_of_answer, PlainWorkload, DrawnPage, has_buffer, drawn_from, Sent, ClientSends, operations_at, place_of, sheet_of, sent_chunks, client_sends, node_sends, draws_at, TimedPage, timed_pages, Queue, Chunks, Crumbs, Triggers, Asks, taken, asks_to, NodeRun, Run, is_from, next_of, event_of, step_node, message_of, node_start, run_start, followed, IsOfJournal, Performs, Leads, Stays, Goes, FollowingPlaysOut}
-use Rattle.hs_lists.proofs.Places.{map_set}
+use Rattle.hs_base.proofs.Places.{map_set}
 use Rattle.hs_records.specs.declared.journal.Step.TheVariants as steps
 use Rattle.hs_law_journal.specs.Following.{log_at}
 use Rattle.hs_law_journal.specs.Extending.{HasMore, GoesOn, node_behind, run_behind, JournalsGoOn, NodesAreOfJournal, RunsAreOfTheJournal, IsNoted, StepsAreNoted}

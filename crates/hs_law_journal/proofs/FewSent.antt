@@ -3,7 +3,7 @@ use Rattle.std.proofs.Common.{◌≡◌, ℕ, ◌+◌, ◌≤◌, List, [], ◌�
 use Rattle.hs_law_journal.proofs.Prelude.{flat_map, option_map_or, length-map, ClientId, TraceId, Draw, AutoRule, Operation, Begin, Point, End, Fire, Sample, NumberedOperation, numbered_from, open_behind, sampled, Sampled, Crumb, Trigger, TimedPage, drawn_from, DrawnPage, has_buffer, Sent, sent_chunks, crumb_in, trigger_of, samples_of, trigger_in, triggers_behind}
 use Rattle.hs_records.specs.Plain as plain
 use Rattle.hs_auto.specs.declared.sampled.Sampled.TheVariants as answers
-use Rattle.hs_lists.proofs.Filters.{filter_few}
+use Rattle.hs_base.proofs.Filters.{filter_few}
 
 trigger_few : (moment : ℕ) (rule : AutoRule) (trace : TraceId) (answer : Sampled) → length (trigger_of moment rule trace answer) ≤ 1
 trigger_few moment rule trace answers.Quiet = omega arith

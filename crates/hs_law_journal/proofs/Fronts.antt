@@ -6,7 +6,7 @@ use Rattle.std.proofs.lemmas.List.FromFn.{length-range_with_len}
 use Rattle.hs_records.specs.declared.journal.Step.TheVariants as steps
 use Rattle.hs_law_agent.specs.State.{start}
 use Rattle.hs_law_agent.specs.Stepping.{after_from, after}
-use Rattle.hs_law_sends.specs.OneMore.{items_of}
+use Rattle.hs_client.specs.OneMore.{items_of}
 use Rattle.hs_law_journal.specs.Doings.{steps_of, chunk_in, crumb_in, trigger_in, ask_in, chunks_in, crumbs_in, triggers_in, asks_in}
 use Rattle.hs_law_journal.specs.Fronts.{IsFront, sent_by}
 use Rattle.hs_law_journal.specs.LoopPasses.{IsOwn, HandsReady}

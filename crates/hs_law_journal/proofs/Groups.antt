@@ -3,8 +3,8 @@
 use Rattle.std.proofs.Common.{◌≡◌, inl, inr, ℕ, zero, suc, ◌+◌, ◌<◌, ◌≤◌, Bool, true, false, ◌&&◌, ◌||◌, cond, List, [], ◌∷◌, ◌++◌, length, set, refl, sym, ap, subst, ◌∙◌, Option, Some, None, arith, map, option_map, slice_get, unwrap_or, count_by, find, eqb, eq-eqb, ltb, ltb-true, lt-ltb, append-nil, nat_le}
 use Rattle.hs_law_journal.proofs.Prelude.{AllByRecursion, range_with_len, option_and_then, option_map_or, option_to_list, both_true, and_parts, same_Some, all_append, all_each, all_at, option_unmap, one_if, is_declared, NodeId, Ask, Crumb, Told, Trigger, Message, Messages, message, Step, PlainJournal, noted_as, EventsAddThis, StepsSayWhatTheyTell, AgentState, Input, Chunk, Crumbed, Triggered, Asked, Turn, Given, Missed, Unread, AgentEvent, Took, Gave, told_by, after_event, PlainSettings, PlainWorkload, ClientSends, node_sends, Chunks, Crumbs, Triggers, Asks, takes, taken, ask_by, asks_behind, asks_to, is_from, NodeRun, Run, next_of, event_of, perform, step_of, step_node, node_start, run_start, message_of, hear, Performs, Leads, Stays, Goes}
 use Rattle.std.specs.List.{list_any}
-use Rattle.hs_lists.proofs.Alls.{all_find}
-use Rattle.hs_lists.proofs.Counts.{count_cons, count_append}
+use Rattle.hs_base.proofs.Alls.{all_find}
+use Rattle.hs_base.proofs.Counts.{count_cons, count_append}
 use Rattle.hs_base.specs.declared.ids.TriggerId.{TriggerId}
 use Rattle.hs_base.specs.declared.settings.TriggerRule.{TriggerRule}
 use Rattle.hs_base.specs.declared.told.Group.{Group}

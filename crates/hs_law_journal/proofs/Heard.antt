@@ -3,7 +3,7 @@ use Rattle.std.proofs.Common.{◌≡◌, ◌⊎◌, inl, inr, ℕ, zero, suc, �
 use Rattle.hs_law_journal.proofs.Prelude.{AllByRecursion, range_with_len, option_and_then, option_to_list, count_by, length-map, map-append, filter-append, slice_get-map, slice_get_within, same_Some, all_append, mapped_from, NodeId, Told, Message, Messages, message, PlainJournal, StepsSayWhatTheyTell, AgentState, AgentEvent, Took, Gave, told_by, after_event, PlainSettings, PlainWorkload, is_from, NodeRun, Run, node_start, run_start, message_of, Performs, Leads, Stays, Goes}
 use Rattle.std.proofs.lemmas.List.FromFn.{length-range_with_len}
 use Rattle.std.proofs.lemmas.List.Sums.{length-filter}
-use Rattle.hs_lists.proofs.Places.{get_set_cases}
+use Rattle.hs_base.proofs.Places.{get_set_cases}
 use Rattle.hs_law_journal.specs.Fronts.{IsFront}
 use Rattle.hs_law_journal.proofs.Fronts.{none_front, quiet_front, front_on, front_next}
 use Rattle.hs_law_journal.proofs.Steps.{step_from, heard_from}

@@ -2,8 +2,8 @@
 use Rattle.std.proofs.Common.{◌≡◌, ℕ, zero, suc, ◌+◌, ◌<◌, ◌≤◌, List, [], ◌∷◌, ◌++◌, length, refl, sym, ap, ◌∙◌, Some, None, arith, append_assoc, append-nil, map, slice_get, take}
 use Rattle.hs_law_journal.proofs.Prelude.{AllByRecursion, flat_map, range_with_len, length-map, map-append, same_Some, slice_get_within, Step, noted_as, AgentEvent}
 use Rattle.std.proofs.lemmas.List.FromFn.{length-range_with_len}
-use Rattle.hs_lists.proofs.Parts.{take_whole}
-use Rattle.hs_lists.proofs.Ranges.{map_range_at}
+use Rattle.hs_base.proofs.Parts.{take_whole}
+use Rattle.hs_base.proofs.Ranges.{map_range_at}
 use Rattle.hs_law_journal.specs.Doings.{joined, steps_of}
 
 -- the first lists and one more

@@ -2,7 +2,7 @@
 use Rattle.std.proofs.Common.{◌≡◌, ℕ, ◌+◌, ◌≤◌, ◌++◌, length, ap, arith, length-append}
 use Rattle.hs_law_journal.proofs.Prelude.{option_to_list, AgentState, Input, Chunk, Crumbed, Triggered, Asked, Turn, Took, StepsSayWhatTheyTell, after_event, told_by, PlainSettings}
 use Rattle.hs_law_agent.specs.Laws.{borne, brought_by, EventsAddFew}
-use Rattle.hs_lists.proofs.Parts.{option_to_list_short}
+use Rattle.hs_base.proofs.Parts.{option_to_list_short}
 
 -- what an agent bears and said
 abbrev pub load_in : AgentState → ℕ

@@ -6,10 +6,10 @@ use Rattle.std.proofs.Math.Bool.{and-false}
 use Rattle.std.proofs.lemmas.Bool.Decides.{nat_tests}
 use Rattle.std.proofs.lemmas.List.{length-replicate}
 use Rattle.std.proofs.lemmas.List.Sums.{length-filter}
-use Rattle.hs_lists.proofs.Tests.{list_all_from}
-use Rattle.hs_lists.proofs.Alls.{all_replicate}
-use Rattle.hs_lists.proofs.Filters.{filter_all, filter_none}
-use Rattle.hs_lists.proofs.Numbers.{nat_eq_below}
+use Rattle.hs_base.proofs.Tests.{list_all_from}
+use Rattle.hs_base.proofs.Alls.{all_replicate}
+use Rattle.hs_base.proofs.Filters.{filter_all, filter_none}
+use Rattle.hs_base.proofs.Numbers.{nat_eq_below}
 use Rattle.hs_base.specs.declared.limits.TheConstants.{MAX_TAKEN}
 use Rattle.hs_records.specs.declared.journal.Step.TheVariants as steps
 use Rattle.hs_law_journal.specs.Passes.{ends_between, put_step, passes_of, client_queues, queues_of, arranged, is_whole_pass}

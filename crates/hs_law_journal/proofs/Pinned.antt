@@ -7,8 +7,8 @@ use Rattle.hs_law_agent.specs.Laws.{AllStandByClaim, CanReport, claiming_group, 
 use Rattle.hs_law_agent.specs.Standings.{ChunkStanding, Indexed, Pinned, Reported, Evicted, Abandoned, Taken, trace_of, stands, is_pinned}
 use Rattle.hs_law_agent.specs.State.{ClaimedTrace}
 use Rattle.hs_law_agent.specs.Turning.{is_pinned_under, used_at}
-use Rattle.hs_lists.proofs.Alls.{all_find}
-use Rattle.hs_lists.proofs.Numbers.{mul_at_least}
+use Rattle.hs_base.proofs.Alls.{all_find}
+use Rattle.hs_base.proofs.Numbers.{mul_at_least}
 use Rattle.hs_words.specs.Chunks.{used_of}
 use Rattle.hs_law_journal.proofs.Shares.{AreOfRules, HaveWeights, share_found, shares_pay}
 

@@ -20,13 +20,13 @@ pub use Rattle.hs_law_journal.specs.Following.{ask_by, Asks, asks_behind, asks_t
 pub use Rattle.hs_law_journal.specs.Orders.{FollowingPlaysOut, Goes, Leads, Performs, Stays}
 pub use Rattle.hs_law_journal.specs.Passes.{is_offer, is_turn, same_steps}
 pub use Rattle.hs_law_journal.specs.Supply.{sent_to, supply}
-pub use Rattle.hs_law_sends.specs.Drawn.{drawn_from, DrawnPage, has_buffer}
-pub use Rattle.hs_law_sends.specs.Sending.{client_sends, ClientSends, crumb_in, draws_at, node_sends, operations_at, place_of, samples_of, Sent, sent_chunks, sheet_of, trigger_in, trigger_of, triggers_behind}
-pub use Rattle.hs_law_sends.specs.Timing.{timed_pages, TimedPage}
-pub use Rattle.hs_lists.proofs.Alls.{all_append, all_at, all_each, all_set}
-pub use Rattle.hs_lists.proofs.Counts.{one_if}
-pub use Rattle.hs_lists.proofs.Options.{mapped_from, option_unmap}
-pub use Rattle.hs_lists.proofs.Places.{get_front, get_other, get_set}
+pub use Rattle.hs_client.specs.Drawn.{drawn_from, DrawnPage, has_buffer}
+pub use Rattle.hs_client.specs.Sending.{client_sends, ClientSends, crumb_in, draws_at, node_sends, operations_at, place_of, samples_of, Sent, sent_chunks, sheet_of, trigger_in, trigger_of, triggers_behind}
+pub use Rattle.hs_client.specs.Timing.{timed_pages, TimedPage}
+pub use Rattle.hs_base.proofs.Alls.{all_append, all_at, all_each, all_set}
+pub use Rattle.hs_base.proofs.Counts.{one_if}
+pub use Rattle.hs_base.proofs.Options.{mapped_from, option_unmap}
+pub use Rattle.hs_base.proofs.Places.{get_front, get_other, get_set}
 pub use Rattle.hs_records.specs.Journals.{PlainJournal}
 pub use Rattle.hs_records.specs.Plain.{Begin, End, Fire, Operation, PlainSettings, PlainWorkload, Point, Sample}
 pub use Rattle.hs_records.specs.Records.{numbered_from, NumberedOperation, open_behind}

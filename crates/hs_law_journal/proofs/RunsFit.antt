@@ -3,7 +3,7 @@
 use Rattle.std.proofs.Common.{◌≡◌, ℕ, zero, suc, ◌+◌, ◌*◌, ◌<◌, ◌≤◌, ◌^◌, true, List, [], length, refl, sym, ap, ◌∙◌, Some, None, arith, option_map, slice_get, ltb}
 use Rattle.hs_law_journal.proofs.Prelude.{range_with_len, option_map_or, and_parts, length-map, slice_get-map, all_each, all_at, is_declared, Ask, PlainJournal, CrumbsLeadBelow, Took, PlainWorkload, ClientSends, client_sends, node_sends, operations_at, place_of, IsValid, IsOfJournal, Queue, Triggers, taken, asks_to, NodeRun, Run, run_start, Leads, sent_to, supply}
 use Rattle.std.proofs.lemmas.List.FromFn.{length-range_with_len}
-use Rattle.hs_lists.proofs.Ranges.{range_at}
+use Rattle.hs_base.proofs.Ranges.{range_at}
 use Rattle.hs_base.specs.declared.limits.TheConstants.{MAX_OPERATIONS}
 use Rattle.hs_records.specs.declared.setting.Setting.TheVariants as settings
 use Rattle.hs_law_journal.specs.Fitting.{RunsFit}

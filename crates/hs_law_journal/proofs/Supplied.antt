@@ -2,9 +2,9 @@
 use Rattle.std.proofs.Common.{◌≡◌, ℕ, ◌<◌, ◌≤◌, Bool, true, false, List, [], length, ap, Option, Some, None, arith, map, filter, slice_get, count_by, nat_lt, ltb-true, ltb-false, eqb, eqb-true, refl}
 use Rattle.hs_law_journal.proofs.Prelude.{flat_map, option_map_or, length-map, all_each, NodeId, Message, Messages, message, PlainJournal, EventsAddThis, StepsSayWhatTheyTell, AgentEvent, PlainWorkload, Sent, ClientSends, Queue, Chunks, Crumbs, Triggers, Asks, taken, asks_to, is_from, NodeRun, Run, sent_to, supply}
 use Rattle.std.proofs.lemmas.List.Sums.{length-filter}
-use Rattle.hs_lists.proofs.Filters.{filter_none}
-use Rattle.hs_lists.proofs.Places.{get_there}
-use Rattle.hs_law_sends.specs.OneMore.{items_of}
+use Rattle.hs_base.proofs.Filters.{filter_none}
+use Rattle.hs_base.proofs.Places.{get_there}
+use Rattle.hs_client.specs.OneMore.{items_of}
 use Rattle.hs_law_journal.specs.Doings.{steps_of, chunk_in, crumb_in, trigger_in, ask_in}
 use Rattle.hs_law_journal.specs.Fronts.{IsFront, sent_by}
 use Rattle.hs_law_journal.specs.Supply.{said_at, NothingIsTakenUnsent}

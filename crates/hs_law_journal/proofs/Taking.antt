@@ -2,9 +2,9 @@
 use Rattle.std.proofs.Common.{◌≡◌, ℕ, zero, suc, ◌+◌, ◌<◌, ◌≤◌, Bool, true, false, cond, List, [], ◌∷◌, ◌++◌, length, take, refl, sym, ap, subst, ◌∙◌, Option, Some, None, arith, map, filter, option_map, slice_get, nat_eq, eqb, eq-eqb}
 use Rattle.hs_law_journal.proofs.Prelude.{AllByRecursion, flat_map, range_with_len, option_map_or, filter-append, slice_get-map, all_each, mapped_from, ClientId, Messages, Draw, PlainJournal, EventsAddThis, AgentState, AgentEvent, Took, Gave, Chunk, Crumbed, Triggered, Asked, Turn, PlainWorkload, drawn_from, Sent, ClientSends, client_sends, node_sends, sent_chunks, operations_at, draws_at, place_of, TimedPage, timed_pages, Sheet, Chunks, taken, NodeRun}
 use Rattle.std.proofs.Math.Seq.{take-append_seam}
-use Rattle.hs_lists.proofs.Alls.{all_take, all_front, all_back}
-use Rattle.hs_lists.proofs.Numbers.{nat_eq_itself}
-use Rattle.hs_lists.proofs.Ranges.{range_found}
+use Rattle.hs_base.proofs.Alls.{all_take, all_front, all_back}
+use Rattle.hs_base.proofs.Numbers.{nat_eq_itself}
+use Rattle.hs_base.proofs.Ranges.{range_found}
 use Rattle.hs_records.specs.declared.journal.Draw.TheVariants.{Got, Empty}
 use Rattle.hs_law_agent.specs.Laws.{PagesRise, sheets_of, brought_by}
 use Rattle.hs_law_journal.specs.Doings.{chunk_in, chunks_in}

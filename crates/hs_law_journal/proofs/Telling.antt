@@ -1,7 +1,7 @@
 -- What agents tell leads to nodes that there are, whatever journal is followed.
 use Rattle.std.proofs.Common.{◌≡◌, inl, inr, ℕ, ◌<◌, List, [], ◌∷◌, refl, sym, subst, Option, Some, None, map, option_map, slice_get}
 use Rattle.hs_law_journal.proofs.Prelude.{AllByRecursion, option_and_then, same_Some, all_at, all_set, option_unmap, Crumb, Messages, PlainJournal, Step, CrumbsLeadBelow, AgentEvent, Took, Gave, Given, Missed, Unread, Chunk, Crumbed, Triggered, Asked, Turn, PlainSettings, PlainWorkload, Sent, ClientSends, node_sends, IsValid, Chunks, Crumbs, Triggers, Asks, taken, asks_to, NodeRun, Run, next_of, event_of, node_start, step_node, Performs, Leads, Stays, Goes}
-use Rattle.hs_lists.proofs.Alls.{all_by_place}
+use Rattle.hs_base.proofs.Alls.{all_by_place}
 use Rattle.hs_records.specs.declared.journal.Step.TheVariants as steps
 use Rattle.hs_law_agent.specs.Leading.{LeadsBelow, BringsBelow}
 use Rattle.hs_law_journal.proofs.Steps.{step_from}

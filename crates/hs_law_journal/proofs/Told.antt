@@ -1,6 +1,6 @@
 -- Turns that come later take back nothing of what meetings told, and meetings answer no draw.
 use Rattle.std.proofs.Common.{◌≡◌, ℕ, Bool, true, false, ◌||◌, List, [], ◌∷◌, ◌++◌, refl, ap, ◌∙◌, append_assoc, map, reverse}
-use Rattle.hs_lists.proofs.Parts.{reverse_cons}
+use Rattle.hs_base.proofs.Parts.{reverse_cons}
 use Rattle.std.specs.List.{list_any}
 use Rattle.std.proofs.lemmas.List.Folds.{list_any-append}
 use Rattle.hs_words.specs.Ends.{GiverTurn, answered, unread, met, answers_in, told_in}

@@ -17,7 +17,7 @@ use Rattle.hs_law_agent.specs.State.{AgentState}
 use Rattle.hs_law_agent.specs.Standings.{sample_group, sample_sheet}
 use Rattle.hs_law_agent.specs.Stepping.{Chunk, Crumbed, Triggered, Asked, Turn, Given, AgentEvent, Took, Gave, after}
 use Rattle.hs_records.specs.Plain.{PlainSettings, PlainWorkload}
-use Rattle.hs_law_sends.specs.Sending.{node_sends}
+use Rattle.hs_client.specs.Sending.{node_sends}
 use Rattle.hs_words.specs.Pages.{Sheet}
 use Rattle.hs_law_journal.specs.Following.{NodeRun, Run}
 

@@ -5,7 +5,7 @@ use Rattle.std.specs.Prelude.{◌≡◌, ℕ, ◌+◌, ◌-◌, ◌/◌, Bool, �
 use Rattle.std.specs.List.{range_with_len, list_all}
 use Rattle.hs_records.specs.declared.journal.Step.{Step}
 use Rattle.hs_records.specs.Plain.{PlainWorkload}
-use Rattle.hs_law_sends.specs.Sending.{ClientSends}
+use Rattle.hs_client.specs.Sending.{ClientSends}
 use Rattle.hs_law_journal.specs.Following.{Chunks, Crumbs, Triggers, Asks, taken, asks_to, is_from, NodeRun, Run, is_done, log_at}
 use Rattle.hs_law_journal.specs.Passes.{is_turn}
 use Rattle.hs_law_journal.specs.Played.{Played, nodes_of}

@@ -6,7 +6,7 @@ use Rattle.std.specs.List.{AllByRecursion, range_with_len}
 use Rattle.hs_coord.specs.Following.{Messages}
 use Rattle.hs_records.specs.Journals.{PlainJournal}
 use Rattle.hs_records.specs.Plain.{PlainSettings, PlainWorkload}
-use Rattle.hs_law_sends.specs.Sending.{draws_at, node_sends}
+use Rattle.hs_client.specs.Sending.{draws_at, node_sends}
 use Rattle.hs_law_journal.specs.Following.{NodeRun, Run, log_at, run_start, step_node, followed}
 use Rattle.hs_law_journal.specs.Orders.{Leads}
 

@@ -14,7 +14,7 @@ use Rattle.hs_records.specs.Journals.{PlainJournal}
 use Rattle.hs_law_agent.specs.State.{AgentState, start}
 use Rattle.hs_law_agent.specs.Stepping.{Answered, Given, Missed, Unread, Chunk, Crumbed, Triggered, Asked, Turn, AgentEvent, Took, Gave, after_event}
 use Rattle.hs_records.specs.Plain.{PlainSettings, PlainWorkload}
-use Rattle.hs_law_sends.specs.Sending.{Sent, ClientSends, node_sends}
+use Rattle.hs_client.specs.Sending.{Sent, ClientSends, node_sends}
 
 -- ---- queues
 

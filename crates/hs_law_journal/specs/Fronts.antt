@@ -1,8 +1,8 @@
 -- The front of a list, and what a client has sent to its node's agent.
 use Rattle.std.specs.Prelude.{◌≡◌, ℕ, List, [], ◌∷◌, ◌++◌, slice_get, refl}
 use Rattle.std.specs.Option.{option_map_or}
-use Rattle.hs_law_sends.specs.OneMore.{items_of}
-use Rattle.hs_law_sends.specs.Sending.{Sent, ClientSends}
+use Rattle.hs_client.specs.OneMore.{items_of}
+use Rattle.hs_client.specs.Sending.{Sent, ClientSends}
 use Rattle.hs_law_journal.specs.Following.{NodeRun}
 
 pub record IsFront {A : Type 0} (front whole : List A) : Type 0 where

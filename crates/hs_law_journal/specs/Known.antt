@@ -3,7 +3,7 @@
 use Rattle.std.specs.Prelude.{◌≡◌, ℕ, List, length}
 use Rattle.hs_law_agent.specs.Laws.{ChunksStandByTheirClaim, EventsAddFew, EventsAddThis, EventsGoOn, ListsHaveTheirChunks, StepsSayWhatTheyTell, TurnsReport}
 use Rattle.hs_records.specs.Records.{payload_pieces, piece_count}
-use Rattle.hs_law_sends.specs.Laws.{PagesFit, TimedPagesAreThePages, TimedPagesAreTimely}
+use Rattle.hs_client.specs.Laws.{PagesFit, TimedPagesAreThePages, TimedPagesAreTimely}
 use Rattle.hs_law_journal.specs.Extending.{JournalsGoOn, RunsAreOfTheJournal, StepsAreNoted}
 use Rattle.hs_law_journal.specs.Laws.{AgentsComeByEvents}
 use Rattle.hs_law_journal.specs.Orders.{FollowingPlaysOut, OrdersAgree, DoneIsAtRest}

@@ -1,7 +1,7 @@
 -- Journals that are lawful for small workloads.
 use Rattle.std.specs.Prelude.{◌≡◌, [], ◌∷◌, None, refl}
 use Rattle.hs_records.specs.declared.journal.Draw.TheVariants.{Got, Empty}
-use Rattle.hs_law_sends.specs.Samples.{segment}
+use Rattle.hs_client.specs.Samples.{segment}
 use Rattle.hs_law_journal.specs.Lawful.{first_unlawful}
 use Rattle.hs_law_journal.specs.Samples.{journal, alone, chunk, turn, missed, unread}
 use Rattle.hs_law_journal.specs.Journals

@@ -8,8 +8,8 @@ use Rattle.hs_base.specs.declared.limits.TheConstants.{MAX_TAKEN}
 use Rattle.hs_coord.specs.Following.{Messages}
 use Rattle.hs_records.specs.declared.journal.Step.{Step}
 use Rattle.hs_records.specs.Plain.{PlainSettings}
-use Rattle.hs_law_sends.specs.Drawn.{DrawnPage, stamp_of}
-use Rattle.hs_law_sends.specs.Sending.{Sent, ClientSends, sent_within}
+use Rattle.hs_client.specs.Drawn.{DrawnPage, stamp_of}
+use Rattle.hs_client.specs.Sending.{Sent, ClientSends, sent_within}
 use Rattle.hs_law_journal.specs.Following.{Queue, Chunks, Crumbs, Triggers, Asks, asks_to, is_from, NodeRun, Run}
 use Rattle.hs_law_journal.specs.Passes.{passes_of, steps_in, taken_in}
 use Rattle.hs_law_journal.specs.Played.{Played, state_behind}

@@ -13,9 +13,9 @@ use Rattle.hs_law_agent.specs.Standings.{Taken}
 use Rattle.hs_law_agent.specs.State.{AgentState, GivenPlace}
 use Rattle.hs_words.specs.Pages.{Sheet}
 use Rattle.hs_words.specs.PoolHistory.{PoolEvent, Got, Empty, Given, Missed, is_got, is_empty, is_given, is_missed, queue_after}
-use Rattle.hs_law_sends.specs.Drawn.{DrawnPage, stamp_of}
-pub use Rattle.hs_law_sends.specs.Draws.{event_drawn}
-use Rattle.hs_law_sends.specs.Sending.{ClientSends}
+use Rattle.hs_client.specs.Drawn.{DrawnPage, stamp_of}
+pub use Rattle.hs_client.specs.Draws.{event_drawn}
+use Rattle.hs_client.specs.Sending.{ClientSends}
 use Rattle.hs_law_journal.specs.Following.{NodeRun}
 use Rattle.hs_law_journal.specs.Played.{Played}
 

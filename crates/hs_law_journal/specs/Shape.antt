@@ -9,8 +9,8 @@ use Rattle.hs_records.specs.declared.journal.Step.TheVariants as steps
 use Rattle.hs_records.specs.Journals.{PlainJournal}
 use Rattle.hs_records.specs.Plain.{PlainWorkload}
 use Rattle.hs_records.specs.Pages.{pages_of}
-use Rattle.hs_law_sends.specs.Drawn.{stamp_of}
-use Rattle.hs_law_sends.specs.Sending.{draws_at, place_of}
+use Rattle.hs_client.specs.Drawn.{stamp_of}
+use Rattle.hs_client.specs.Sending.{draws_at, place_of}
 use Rattle.hs_law_journal.specs.Following.{log_at}
 use Rattle.hs_law_journal.specs.Played.{Played, nodes_of, clients_of}
 

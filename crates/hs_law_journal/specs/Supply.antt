@@ -8,7 +8,7 @@ use Rattle.hs_base.specs.declared.ids.NodeId.{NodeId}
 use Rattle.hs_coord.specs.Following.{Messages}
 use Rattle.hs_records.specs.Journals.{PlainJournal}
 use Rattle.hs_records.specs.Plain.{PlainWorkload}
-use Rattle.hs_law_sends.specs.Sending.{ClientSends}
+use Rattle.hs_client.specs.Sending.{ClientSends}
 use Rattle.hs_law_journal.specs.Following.{Queue, Chunks, Crumbs, Triggers, Asks, taken, asks_to, is_from, NodeRun, Run, run_start, followed}
 use Rattle.hs_law_journal.specs.Journals
 use Rattle.hs_law_journal.specs.Orders.{Leads}

@@ -6,7 +6,7 @@ use Rattle.std.specs.Option.{option_map_or}
 use Rattle.hs_records.specs.Journals.{PlainJournal}
 use Rattle.hs_law_agent.specs.Laws.{PagesRise, sheets_of}
 use Rattle.hs_records.specs.Plain.{PlainWorkload}
-use Rattle.hs_law_sends.specs.Sending.{ClientSends}
+use Rattle.hs_client.specs.Sending.{ClientSends}
 use Rattle.hs_words.specs.Pages.{Sheet}
 use Rattle.hs_law_journal.specs.Following.{Chunks, taken, NodeRun, Run, run_start, followed}
 use Rattle.hs_law_journal.specs.Journals.{of_three_points, of_three_traces}

@@ -4,7 +4,7 @@ use Rattle.hs_records.specs.declared.journal.Draw.{Draw}
 use Rattle.hs_records.specs.declared.journal.Draw.TheVariants.{Got, Empty}
 use Rattle.hs_records.specs.declared.journal.Step.TheVariants.{Chunk}
 use Rattle.hs_records.specs.Plain.{PlainWorkload}
-use Rattle.hs_law_sends.specs.Samples.{settings, workload, segment}
+use Rattle.hs_client.specs.Samples.{settings, workload, segment}
 use Rattle.hs_law_journal.specs.Lawful.{first_unlawful}
 use Rattle.hs_law_journal.specs.Samples.{journal, alone, chunk, crumb, trigger, ask, turn, given, missed, unread}
 use Rattle.hs_law_journal.specs.Workloads.{one_point, three_points, three_traces, trigger_first, one_token, four_nodes, side_by_side}

@@ -8,7 +8,7 @@ use Rattle.std.specs.Option.{option_map_or}
 use Rattle.hs_records.specs.declared.journal.Step.{Step}
 use Rattle.hs_law_agent.specs.State.{AgentState, GivenPlace}
 use Rattle.hs_records.specs.Plain.{PlainSettings}
-use Rattle.hs_law_sends.specs.Drawn.{DrawnPage, has_buffer, stamp_of}
+use Rattle.hs_client.specs.Drawn.{DrawnPage, has_buffer, stamp_of}
 use Rattle.hs_law_journal.specs.Following.{NodeRun}
 use Rattle.hs_law_journal.specs.Passes.{is_turn, is_unread}
 use Rattle.hs_law_journal.specs.Played.{Played, state_behind}

@@ -2,7 +2,7 @@
 use Rattle.std.specs.Prelude.{ℕ, List, [], ◌∷◌, ◌++◌, replicate}
 use Rattle.hs_base.specs.Samples.{rule, one_rule, golden, twice}
 use Rattle.hs_records.specs.Plain.{Operation, Point, End, PlainWorkload}
-use Rattle.hs_law_sends.specs.Samples.{settings, on_nodes, workload, begin, point, crumb, fire, segment}
+use Rattle.hs_client.specs.Samples.{settings, on_nodes, workload, begin, point, crumb, fire, segment}
 
 -- nothing to do
 abbrev pub nothing : PlainWorkload

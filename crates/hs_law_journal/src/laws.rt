@@ -10,11 +10,11 @@ ghost use Rattle.hs_law_journal.specs.Known.{Known};
 ghost use Rattle.hs_law_journal.specs.Fitting.{RunsFit};
 ghost use Rattle.hs_law_journal.specs.Performing.{StepByStep};
 
+use hs_client::sending_laws::{pages_fit, timed_pages_are_the_pages, timed_pages_are_timely};
 use hs_law_agent::laws::{
     chunks_stand_by_their_claim, crumbs_lead_below, events_add_few, events_add_this, events_go_on,
     lists_have_their_chunks, steps_say_what_they_tell, turns_report,
 };
-use hs_law_sends::laws::{pages_fit, timed_pages_are_the_pages, timed_pages_are_timely};
 use hs_records::pieces_are_counted;
 
 /// The test of a pool's history answers yes exactly for histories.

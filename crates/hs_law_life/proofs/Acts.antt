@@ -4,9 +4,9 @@ use Rattle.std.specs.Option.{option_map_or}
 use Rattle.std.proofs.lemmas.Bool.{cond-true}
 use Rattle.std.proofs.lemmas.List.Elements.{filter_map-append}
 use Rattle.std.proofs.lemmas.List.Sums.{fold-append}
-use Rattle.hs_lists.proofs.Parts.{map_append}
-use Rattle.hs_lists.proofs.Alls.{all_at}
-use Rattle.hs_lists.proofs.Places.{get_map, get_unmap}
+use Rattle.hs_base.proofs.Parts.{map_append}
+use Rattle.hs_base.proofs.Alls.{all_at}
+use Rattle.hs_base.proofs.Places.{get_map, get_unmap}
 use Rattle.hs_base.specs.declared.told.Trigger.{Trigger}
 use Rattle.hs_records.specs.Plain.{PlainSettings}
 use Rattle.hs_words.specs.Pages.{Sheet}

@@ -4,7 +4,7 @@ use Rattle.std.specs.Prelude.{slice_set, filter_map}
 use Rattle.std.specs.Option.{option_map_or}
 use Rattle.std.proofs.lemmas.Bool.{eqb-true, eqb-false}
 use Rattle.std.proofs.lemmas.List.Elements.{filter_map-append}
-use Rattle.hs_lists.proofs.Parts.{map_append}
+use Rattle.hs_base.proofs.Parts.{map_append}
 use Rattle.hs_words.specs.Buffers.{Buffer}
 use Rattle.hs_ring.specs.Parts.{Leased}
 use Rattle.hs_link.specs.Contents.{Incoming}

@@ -4,7 +4,7 @@ use Rattle.std.specs.Prelude.{min, count_by, nat_lt, IsSome, IfSome, ◌^◌}
 use Rattle.std.specs.Option.{option_to_list, is_none}
 use Rattle.std.proofs.lemmas.Bool.{cases_lt, cond-true, cond-false, lt-ltb, le-ltb}
 use Rattle.std.proofs.Math.Nat.{min-eq_left, min-eq_right}
-use Rattle.hs_lists.proofs.Counts.{count_append}
+use Rattle.hs_base.proofs.Counts.{count_append}
 use Rattle.hs_base.specs.declared.ids.ClientId.{ClientId}
 use Rattle.hs_base.specs.declared.ids.NodeId.{NodeId}
 use Rattle.hs_base.specs.declared.ids.TraceId.{TraceId}

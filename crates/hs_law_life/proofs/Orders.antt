@@ -7,7 +7,7 @@ use Rattle.hs_records.specs.Plain.{Operation, Begin, Point, Crumb, End, Fire, Sa
 use Rattle.hs_records.specs.Records.{Piece, Record, AreBracketed, open_behind, numbered_from, record_at, records_of, record_pieces, pieces_until_end, segments_from}
 use Rattle.hs_records.specs.Pages.{segment_pages, pages_of}
 use Rattle.hs_records.specs.Laws.{pieces_on, pieces_of_records, PagesHoldThePieces}
-use Rattle.hs_law_sends.specs.OneMore.{open_after}
+use Rattle.hs_client.specs.OneMore.{open_after}
 use Rattle.hs_law_life.specs.ClientLives.{MayDo, AreBegun}
 
 -- ---- one operation more

@@ -7,8 +7,8 @@ use Rattle.std.proofs.lemmas.Bool.{eq-eqb, eqb-true, eqb-false, true≢false}
 use Rattle.std.proofs.lemmas.List.{length-map}
 use Rattle.std.proofs.lemmas.List.Elements.{filter_map-append}
 use Rattle.std.proofs.lemmas.List.Sums.{fold-append}
-use Rattle.hs_lists.proofs.Places.{get_front_same, get_there}
-use Rattle.hs_lists.proofs.Parts.{map_append}
+use Rattle.hs_base.proofs.Places.{get_front_same, get_there}
+use Rattle.hs_base.proofs.Parts.{map_append}
 use Rattle.hs_base.specs.declared.told.Group.{Group}
 use Rattle.hs_base.specs.declared.told.Trigger.{Trigger}
 use Rattle.hs_records.specs.Plain.{PlainSettings}

@@ -5,7 +5,7 @@ use Rattle.std.specs.Prelude.{slice_get, ◌==◌}
 use Rattle.std.specs.Option.{option_map_or}
 use Rattle.std.proofs.lemmas.Bool.{cases_Bool, eq-eqb, true≢false}
 use Rattle.std.proofs.lemmas.List.{map-append}
-use Rattle.hs_lists.proofs.Counts.{one_if}
+use Rattle.hs_base.proofs.Counts.{one_if}
 use Rattle.hs_base.specs.declared.ids.TraceId.{TraceId}
 use Rattle.hs_base.specs.declared.told.Ask.{Ask}
 use Rattle.hs_base.specs.declared.told.Group.{Group}
@@ -21,7 +21,7 @@ use Rattle.hs_law_agent.specs.Standings.{ChunkStanding, Pinned, Evicted, Abandon
 use Rattle.hs_law_agent.specs.State.{AgentState, GivenPlace}
 use Rattle.hs_law_agent.specs.Stepping.{AgentEvent, after_event, with_abandoned, give_place}
 use Rattle.hs_law_agent.specs.Turning.{order_of, costs_of, reported_standing, visit}
-use Rattle.hs_lists.proofs.Places.{get_front_same}
+use Rattle.hs_base.proofs.Places.{get_front_same}
 use Rattle.hs_law_agent.proofs.Counts.{count-append, among_counted, not_among_counted, counted_one, passes_too, passes_moved_at, passes_at, count-filter-le}
 use Rattle.hs_law_agent.proofs.Placed.{AreSome, indexed_some, indexed_only, pinned_only, match_kept, visit_few}
 use Rattle.hs_law_agent.proofs.Unevicted.{passed_within}

@@ -9,7 +9,7 @@ use Rattle.hs_base.specs.declared.ids.TraceId.{TraceId}
 use Rattle.hs_records.specs.Plain.{Operation, Begin}
 use Rattle.hs_records.specs.Pages.{pages_of}
 use Rattle.hs_records.specs.Laws.{PagesHoldThePieces}
-use Rattle.hs_law_sends.specs.OneMore.{open_after}
+use Rattle.hs_client.specs.OneMore.{open_after}
 use Rattle.hs_client.specs.Core.{Core, CoreStep, handed, all_pages}
 use Rattle.hs_client.specs.Calls.{AreSteps, IsBook, filled_chunks, note_of, pages_of_steps}
 use Rattle.hs_words.specs.Ends.{Answer}

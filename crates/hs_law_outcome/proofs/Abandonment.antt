@@ -5,7 +5,7 @@ use Rattle.hs_law_outcome.proofs.Prelude.{nat_lt, AllByRecursion, list_any, opti
 use Rattle.std.specs.Prelude.{fold, slice_get}
 use Rattle.std.proofs.lemmas.Bool.{le-ltb}
 use Rattle.std.proofs.lemmas.List.{take_all}
-use Rattle.hs_lists.proofs.Places.{take_more}
+use Rattle.hs_base.proofs.Places.{take_more}
 use Rattle.hs_base.specs.declared.told.Why.TheVariants.{Answer}
 use Rattle.hs_sched.specs.declared.share.Share.{Share}
 use Rattle.hs_law_agent.specs.Standings.{same_group, is_pinned_for, is_among, indexed_places, indexed_count, moved_from}

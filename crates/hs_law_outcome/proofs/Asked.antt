@@ -1,7 +1,7 @@
 -- Who is in a group's asked set stays in it, and who has an ask keeps it; and a node has each ask that it was sent.
 use Rattle.std.proofs.Common.{◌≡◌, ℕ, true, false, not, ◌||◌, ◌&&◌, [], ◌∷◌, ◌++◌, Option, Some, None, find, unwrap_or, refl, sym, ap, subst, ◌∙◌, ⊎_elim, append-nil, append_assoc, true≢false, slice_get, nat_eq}
 use Rattle.hs_law_outcome.proofs.Prelude.{AllByRecursion, option_map_or, and_parts, and_from, or_cases, or_left, or_right, cond_both, all_at, all_append, GroupId, Ask, has_node, Message, Messages, same_group, has_crumb, has_ask, is_asked, is_first_sender, first_of, is_newly_asked, first_bit, same_group-true, ask_by, asks_behind, asks_to}
-use Rattle.hs_lists.proofs.Filters.{find_passes}
+use Rattle.hs_base.proofs.Filters.{find_passes}
 use Rattle.hs_coord.specs.Following.{is_of}
 use Rattle.hs_coord.proofs.FollowingLemmas.{first_stays, has_crumb-push, no_message_no_crumb}
 

@@ -3,7 +3,7 @@ use Rattle.std.proofs.Common.{◌≡◌, ℕ, zero, suc, ◌+◌, ◌<◌, ◌�
 use Rattle.hs_law_outcome.proofs.Prelude.{range_with_len, sum_by-cons, sum_by-append, one_if, PoolEvent, Empty, Given, Missed, is_got, is_given, queue_after, IsHistoryBack, IsPoolHistory, NoBufferIsOutTwice, EmptyOnlyWhereEmpty}
 use Rattle.std.proofs.lemmas.List.{reverse-append}
 use Rattle.std.proofs.lemmas.List.Sorted.{sum_by-IsPermutation, IsPermutation-reverse}
-use Rattle.hs_lists.proofs.Counts.{one_of_below}
+use Rattle.hs_base.proofs.Counts.{one_of_below}
 use Rattle.hs_words.specs.PoolHistory.{Got, MayFollow}
 
 -- ---- a place in a history

@@ -1,7 +1,7 @@
 -- Each chunk that an agent took is of a page of its node's clients, at the page's place, and the page has a buffer.
 use Rattle.std.proofs.Common.{◌≡◌, ℕ, zero, suc, ◌+◌, Bool, true, false, cond, List, [], ◌∷◌, refl, sym, ap, subst, ◌∙◌, Option, Some, None, arith, map, filter, option_map, slice_get, eq-eqb}
 use Rattle.hs_law_outcome.proofs.Prelude.{AllByRecursion, range_with_len, option_and_then, option_map_or, slice_get-map, same_Some, range_found, option_map_parts, ClientId, Draw, PlainJournal, sheets_of, Taken, PlainWorkload, DrawnPage, has_buffer, drawn_from, Sent, ClientSends, sheet_of, sent_chunks, client_sends, node_sends, TimedPage, Sheet, IsOfJournal, RunsAreOfTheJournal, Chunks, taken, NodeRun, followed, FollowingPlaysOut, is_by, TakesInOrder, ChunksAreTakenInOrder, IsOfDrawnPage, TakenPagesWereDrawn}
-use Rattle.hs_lists.proofs.Alls.{all_take}
+use Rattle.hs_base.proofs.Alls.{all_take}
 use Rattle.hs_law_journal.specs.Taking.{sheets_sent}
 
 -- ---- what is sent is of a drawn page

@@ -3,7 +3,7 @@
 use Rattle.std.proofs.Common.{◌≡◌, ◌⊎◌, inl, inr, ℕ, zero, suc, ◌+◌, ◌<◌, ◌≤◌, Bool, true, false, ◌&&◌, cond, List, [], ◌∷◌, ◌++◌, length, refl, sym, ap, subst, ◌∙◌, Some, None, arith, map, filter, option_map, slice_get, unwrap_or, leb, ltb, leb-true, ltb-true, leb-false, ltb-false, eqb-true, eq-or-lt_of_le, nat_eq}
 use Rattle.hs_law_outcome.proofs.Prelude.{AllByRecursion, flat_map, range_with_len, and_parts, length-map, flat_map-map, same_Some, map_flat, ClientId, TraceId, MIN_SIZE, Fate, note_of, Draw, PageNote, PlainClientBook, PlainJournal, Entry, record_count, FatedPage, page_fate, fated_by, fated_pages, has_piece_of, record_fate, entry_on, record_entry, book_entries, Traces, RiseFrom, CarriesRecords, AllFollow, AreNumberedFrom, end_of, end_from, traces_of, PlainPage, first_record, pages_of, Operation, PlainWorkload, AreBracketed, Piece, Record, records_of, operations_at, draws_at, followed, played, same_counts, has_shape, client_at, client_book, client_books, agent_books, named_from, client_records, name_of, EachRecordHasOneEntry}
 use Rattle.std.proofs.lemmas.Bool.{and_cases}
-use Rattle.hs_lists.proofs.Ranges.{flat_range_alike}
+use Rattle.hs_base.proofs.Ranges.{flat_range_alike}
 use Rattle.hs_ledger.specs.Books.{count_from}
 use Rattle.hs_records.specs.Laws.{CarryRecords}
 pub use Rattle.hs_law_journal.proofs.Workloads.{ends_at}

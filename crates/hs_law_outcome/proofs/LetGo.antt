@@ -1,7 +1,7 @@
 -- What was given back is among what was let go, where each chunk stands once.
 use Rattle.std.proofs.Common.{◌≡◌, ℕ, ◌≤◌, Bool, true, false, cond, List, [], ◌∷◌, ◌++◌, refl, ap, arith, map, eq-eqb}
 use Rattle.hs_law_outcome.proofs.Prelude.{AllByRecursion, one_if, all_each, count_of, PlacesMatch, stands, AgentState, GivenPlace, NodeRun, followed, KeepsItsModel, AgentsKeepTheirModel}
-use Rattle.hs_lists.proofs.Counts.{one_few}
+use Rattle.hs_base.proofs.Counts.{one_few}
 use Rattle.hs_law_agent.specs.Laws.{given_places}
 use Rattle.hs_law_agent.specs.Standings.{is_let_go}
 use Rattle.hs_law_agent.proofs.Counts.{count-append}

@@ -1,7 +1,7 @@
 -- In the end an agent has taken all chunks that its clients sent, in order, so the page of each stands once in its book.
 use Rattle.std.proofs.Common.{◌≡◌, ℕ, zero, suc, ◌+◌, ◌<◌, ◌≤◌, Bool, true, false, ◌&&◌, cond, List, [], ◌∷◌, ◌++◌, length, refl, sym, ap, ap₂, ◌∙◌, Some, None, arith, map, filter, slice_get, nat_eq, eqb-true, eq-eqb, append-nil}
 use Rattle.hs_law_outcome.proofs.Prelude.{slice_get_within, AllByRecursion, flat_map, range_with_len, and_parts, length-map, All-from_recursion, recursion_from_All, same_Some, ClientId, Standing, Draw, Got, PlainClientBook, PlainAgentBook, PlainJournal, standings_if, standings_at, page_standing, book_of, sheets_of, Taken, Operation, PlainWorkload, drawn_from, TimedPagesAreThePages, Sent, ClientSends, sent_chunks, operations_at, draws_at, TimedPage, timed_pages, Sheet, RunsAreOfTheJournal, NodeRun, followed, IsLawful, FollowingPlaysOut, is_by, ChunksAreTakenInOrder, StandsAlone, BooksOfClientsFit, StandingsAreOfGotPages, HasItsClients, client_at, client_book, client_books, agent_books, EndsItsTraces}
-use Rattle.hs_lists.proofs.Filters.{filter_weaker}
+use Rattle.hs_base.proofs.Filters.{filter_weaker}
 use Rattle.hs_records.specs.declared.journal.Draw.TheVariants.{Empty}
 use Rattle.hs_ledger.specs.Books.{BookFits, HaveStandings, is_of}
 use Rattle.hs_law_outcome.specs.Books.{EachGotPageHasOneStanding, BooksFitTogether}

@@ -5,7 +5,7 @@ use Rattle.hs_law_outcome.proofs.Prelude.{or-false, list_any, range_with_len, op
 use Rattle.std.proofs.lemmas.Bool.{false_from_ne_true, cases_eq}
 use Rattle.std.proofs.lemmas.List.FromFn.{get_or-range_with_len}
 use Rattle.std.proofs.lemmas.Option.{get_or_from_slice_get}
-use Rattle.hs_lists.proofs.Places.{get_set, get_other}
+use Rattle.hs_base.proofs.Places.{get_set, get_other}
 use Rattle.hs_coord.specs.Following.{is_of, is_answer_from, is_answered_after, is_answered}
 use Rattle.hs_coord.specs.Orderly.{IsOrderly, is_known_sender}
 use Rattle.hs_coord.proofs.FollowingLemmas.{first_now, first_of_other}

@@ -2,8 +2,8 @@
 use Rattle.std.proofs.Common.{◌≡◌, ◌⊎◌, inl, inr, ℕ, zero, suc, ◌+◌, ◌*◌, ◌<◌, Bool, true, false, ◌&&◌, cond, List, [], ◌∷◌, ◌++◌, length, take, refl, sym, ap, subst, ◌∙◌, Option, Some, None, arith, map, filter, option_map, slice_get, unwrap_or, count_by, leb, ltb, leb-true, ltb-true, eqb-true, eq-eqb, nat_eq, find, mod-lt, zip, eq-zero-or-pos}
 use Rattle.hs_law_outcome.proofs.Prelude.{AllByRecursion, flat_map, range_with_len, list_all, option_map_or, and_parts, and_from, length-map, length-range_with_len, flat_map-map, div-add-mod', slice_get-map, same_Some, all_at, all_each, all_flat_map, all_flat_range, all_unmap, get_front, get_there, range_found, range_at, option_map_parts, ClientId, RecordId, Fate, Live, note_of, PageNote, Standing, Draw, Got, Step, PlainClientBook, PlainAgentBook, PlainJournal, Entry, record_count, standings_if, standings_at, FatedPage, page_fate, fated_by, fated_pages, has_piece_of, is_discarded, record_fate, entry_on, record_entry, book_entries, page_standing, book_of, sheets_of, Taken, PlainPage, first_record, pages_of, PlainWorkload, DrawnPage, has_buffer, drawn_from, TimedPagesAreThePages, Sent, ClientSends, sheet_of, client_sends, node_sends, operations_at, draws_at, place_of, TimedPage, timed_pages, Sheet, took_all, is_left_bare, IsOfJournal, RunsAreOfTheJournal, Chunks, Crumbs, Triggers, Asks, taken, asks_to, is_from, NodeRun, Run, followed, IsLawful, FollowingPlaysOut, is_by, TakesInOrder, ChunksAreTakenInOrder, HasItsClients, WasTaken, Gives, client_at, client_book, agent_books, outcome_of, EndsItsTraces}
 use Rattle.std.proofs.Math.Nat.{div-lt_iff_lt-mul}
-use Rattle.hs_lists.proofs.Places.{get_behind}
-use Rattle.hs_lists.proofs.Parts.{take_length}
+use Rattle.hs_base.proofs.Places.{get_behind}
+use Rattle.hs_base.proofs.Parts.{take_length}
 use Rattle.hs_records.specs.declared.journal.Draw.TheVariants.{Empty}
 use Rattle.hs_ledger.specs.Books.{end_of, is_of}
 use Rattle.hs_law_outcome.specs.Origins.{HasItsCause, EachFateHasItsCause}

@@ -44,20 +44,20 @@ pub use Rattle.hs_law_outcome.specs.Origins.{Gives, HasItsClients, IsOfDrawnPage
 pub use Rattle.hs_law_outcome.specs.Outcomes.{agent_books, client_at, client_book, client_books, outcome_of, reported_at}
 pub use Rattle.hs_law_outcome.specs.Records.{all_records, client_records, ComeInOrder, EachRecordHasOneEntry, EndsItsTraces, name_of, Named, named_from, placed_ids}
 pub use Rattle.hs_law_outcome.specs.Reports.{is_of, report_of, reported_traces, whole_of}
-pub use Rattle.hs_law_sends.specs.Drawn.{drawn_from, DrawnPage, has_buffer, stamp_of}
-pub use Rattle.hs_law_sends.specs.Laws.{TimedPagesAreThePages}
-pub use Rattle.hs_law_sends.specs.Sending.{client_sends, ClientSends, draws_at, node_sends, operations_at, place_of, Sent, sent_chunks, sheet_of}
-pub use Rattle.hs_law_sends.specs.Timing.{timed_pages, TimedPage}
+pub use Rattle.hs_client.specs.Drawn.{drawn_from, DrawnPage, has_buffer, stamp_of}
+pub use Rattle.hs_client.specs.Laws.{TimedPagesAreThePages}
+pub use Rattle.hs_client.specs.Sending.{client_sends, ClientSends, draws_at, node_sends, operations_at, place_of, Sent, sent_chunks, sheet_of}
+pub use Rattle.hs_client.specs.Timing.{timed_pages, TimedPage}
 pub use Rattle.hs_ledger.specs.Books.{record_count, standings_at, standings_if}
 pub use Rattle.hs_ledger.specs.Fates.{book_entries, entry_on, fated_by, fated_pages, FatedPage, has_piece_of, is_discarded, page_fate, record_entry, record_fate}
 pub use Rattle.hs_ledger.specs.Totals.{is_reported}
 pub use Rattle.hs_ledger.specs.declared.ledger.Entry.{Entry}
-pub use Rattle.hs_lists.proofs.Alls.{all_append, all_at, all_back, all_by_place, all_each, all_each_both, all_filter, all_flat_map, all_flat_range, all_front, all_unmap}
-pub use Rattle.hs_lists.proofs.Counts.{count_append, count_cons, one_if}
-pub use Rattle.hs_lists.proofs.Options.{mapped_from, option_map_parts, option_unmap}
-pub use Rattle.hs_lists.proofs.Parts.{map_flat}
-pub use Rattle.hs_lists.proofs.Places.{get_front, get_there, IsIn}
-pub use Rattle.hs_lists.proofs.Ranges.{range_at, range_found}
+pub use Rattle.hs_base.proofs.Alls.{all_append, all_at, all_back, all_by_place, all_each, all_each_both, all_filter, all_flat_map, all_flat_range, all_front, all_unmap}
+pub use Rattle.hs_base.proofs.Counts.{count_append, count_cons, one_if}
+pub use Rattle.hs_base.proofs.Options.{mapped_from, option_map_parts, option_unmap}
+pub use Rattle.hs_base.proofs.Parts.{map_flat}
+pub use Rattle.hs_base.proofs.Places.{get_front, get_there, IsIn}
+pub use Rattle.hs_base.proofs.Ranges.{range_at, range_found}
 pub use Rattle.hs_records.specs.Books.{PlainAgentBook, PlainClientBook}
 pub use Rattle.hs_records.specs.Journals.{PlainJournal}
 pub use Rattle.hs_records.specs.Laws.{AllFollow, AreNumberedFrom, CarriesRecords, end_from, end_of, PagesHoldThePieces, pieces_of_records, pieces_on, RiseFrom, Traces, traces_of}

@@ -1,7 +1,7 @@
 -- The numbers of a lawful journal are in their ranges, so that it has a text.
 use Rattle.std.proofs.Common.{◌≡◌, ℕ, zero, suc, ◌+◌, ◌*◌, ◌/◌, ◌%◌, ◌^◌, ◌<◌, ◌≤◌, Bool, true, false, ◌&&◌, List, [], ◌∷◌, ◌++◌, length, refl, sym, ap, subst, ◌∙◌, Option, Some, None, arith, map, filter_map, option_map, slice_get, unwrap_or, count_by, eqb-true, nat_eq, ltb, ltb-true, length-append, div-lt_iff_lt-mul, div-add-mod', suc-mul}
 use Rattle.hs_law_outcome.proofs.Prelude.{AllByRecursion, flat_map, range_with_len, cons_option, mod-lt, and_parts, length-map, map-append, flat_map-map, length-range_with_len, slice_get-map, same_Some, slice_get_within, count_cons, count_append, all_front, all_back, all_at, all_each, all_by_place, range_at, map_flat, get_there, NodeId, Draw, Step, PlainJournal, GivenPlace, pages_of, Operation, PlainWorkload, DrawnPage, stamp_of, TimedPagesAreThePages, client_sends, node_sends, draws_at, place_of, PoolEvent, Empty, Given, Missed, is_empty, is_missed, RunsAreOfTheJournal, NodeRun, run_start, node_start, followed, log_at, GivesAreNoted, IsLawful, FollowingPlaysOut, StampedPoolEvent, by_stamp, event_drawn, drawn_event, node_pages, given_buffer, given_event, missed_event, pool_events, pool_history, same_counts, log_stamps, node_draws, draw_stamps, node_stamps, HasItsClients, EndsItsTraces}
-use Rattle.hs_lists.proofs.Counts.{count_map, one_if as one}
+use Rattle.hs_base.proofs.Counts.{count_map, one_if as one}
 use Rattle.hs_base.specs.declared.limits.TheConstants.{MAX_NODES, MAX_CLIENTS, MAX_BUFFERS}
 use Rattle.hs_base.specs.Ranges.{Within}
 use Rattle.hs_records.specs.declared.journal.Draw.TheVariants as draws

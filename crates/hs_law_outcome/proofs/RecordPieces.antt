@@ -3,7 +3,7 @@
 use Rattle.std.proofs.Common.{◌≡◌, ◌⊎◌, inl, inr, ℕ, zero, suc, ◌+◌, ◌<◌, ◌≤◌, ◌==◌, ◌&&◌, Bool, true, false, cond, List, [], ◌∷◌, ◌++◌, length, refl, sym, ap, subst, ◌∙◌, Some, None, arith, map, filter, slice_get, eq-eqb, nat_eq, append-nil}
 use Rattle.hs_law_outcome.proofs.Prelude.{AllByRecursion, flat_map, concat, length-map, map-append, same_Some, IsIn, all_at, all_each, ClientId, RecordId, TraceId, written, sheet_for, Placed, is_same, is_piece_of, pieces_from, page_pieces, Traces, RiseFrom, CarriesRecords, pieces_of_records, pieces_on, PlainPage, first_record, Piece, Record, payload_pieces, record_pieces, Sheet}
 use Rattle.std.proofs.lemmas.List.Elements.{filter-append}
-use Rattle.hs_lists.proofs.Numbers.{nat_eq_below, nat_eq_above}
+use Rattle.hs_base.proofs.Numbers.{nat_eq_below, nat_eq_above}
 use Rattle.hs_collect.specs.Collected.{is_of, is_by}
 use Rattle.hs_collect.proofs.Reordered.{none_from}
 use Rattle.hs_words.specs.Pages as words

@@ -2,8 +2,8 @@
 use Rattle.std.proofs.Common.{◌≡◌, ℕ, ◌<◌, ◌≤◌, Bool, true, false, ◌&&◌, ◌||◌, cond, List, [], ◌∷◌, map, filter, refl, sym, ap, ◌∙◌, arith, nat_eq, eq-eqb}
 use Rattle.hs_law_outcome.proofs.Prelude.{nat_lt, AllByRecursion, list_any, flat_map, ltb-true, eqb-true, list_any-append, TraceId, same_trace, PlainJournal, Entry, ClaimedTrace, is_claimed, PlainWorkload, NodeRun, followed, outcome_of, Named, name_of, all_records, is_of, report_of, reported_traces}
 use Rattle.std.proofs.lemmas.Bool.{ltb-false}
-use Rattle.hs_lists.proofs.Bools.{or_twice, or_swap}
-use Rattle.hs_lists.proofs.Tests.{list_any_map}
+use Rattle.hs_base.proofs.Bools.{or_twice, or_swap}
+use Rattle.hs_base.proofs.Tests.{list_any_map}
 use Rattle.hs_law_agent.specs.Laws.{AreRising}
 use Rattle.hs_law_outcome.specs.Outcomes.{put_trace, rising_traces, claimed_at}
 use Rattle.hs_law_outcome.specs.Reports.{Report, reports_of}

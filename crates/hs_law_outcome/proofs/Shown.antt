@@ -5,7 +5,7 @@ use Rattle.hs_law_outcome.proofs.Prelude.{AllByRecursion, flat_map, range_with_l
 use Rattle.std.proofs.Math.Nat.{mod-zero, div-zero}
 use Rattle.std.proofs.lemmas.Nat.{le-div}
 use Rattle.std.proofs.lemmas.List.Sorted.{IsPermutation-filter_both, IsPermutation-map}
-use Rattle.hs_lists.proofs.Alls.{all_map}
+use Rattle.hs_base.proofs.Alls.{all_map}
 use Rattle.hs_law_outcome.specs.Records.{trace_records, IsWholeRecord, entry_ids, ShowsItsTrace, ReportsShowTheirTraces}
 use Rattle.hs_law_outcome.specs.Reports.{record_of}
 use Rattle.hs_law_outcome.proofs.Lists.{filter_passes}

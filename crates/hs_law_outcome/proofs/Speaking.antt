@@ -3,7 +3,7 @@
 use Rattle.std.proofs.Common.{◌≡◌, ℕ, Bool, true, false, cond, not, ◌||◌, ◌&&◌, List, [], ◌∷◌, ◌++◌, Option, Some, None, option_map, refl, sym, subst, ◌∙◌, slice_get, eqb, true≢false}
 use Rattle.hs_law_outcome.proofs.Prelude.{AllByRecursion, option_and_then, cond_both, all_append, mapped_from, GroupId, Crumb, Group, Told, Trigger, Fired, same_trace, Message, Messages, same_group, is_asked, has_ask, is_answer, Step, EventsAddFew, StepsSayWhatTheyTell, told_of, ClaimedTrace, claim_of, Input, Chunk, Crumbed, Triggered, Asked, Turn, AgentEvent, Took, Gave, admits, group_of, PlainSettings, ClientSends, Chunks, Crumbs, Triggers, Asks, taken, asks_to, NodeRun, next_of, event_of, perform, step_node, step_from}
 use Rattle.std.specs.Option.{option_to_list}
-use Rattle.hs_lists.proofs.Alls.{all_find}
+use Rattle.hs_base.proofs.Alls.{all_find}
 use Rattle.hs_records.specs.declared.journal.Step.TheVariants as steps
 use Rattle.hs_law_agent.specs.Laws.{AllPass, IsPassed, claimed_by}
 use Rattle.hs_law_agent.specs.Messages.{has_crumb, late_of}

@@ -3,8 +3,8 @@
 use Rattle.std.proofs.Common.{◌≡◌, ◌⊎◌, inl, inr, ℕ, zero, suc, ◌+◌, ◌-◌, ◌<◌, ◌≤◌, Bool, true, false, ◌&&◌, cond, List, [], ◌∷◌, ◌++◌, length, refl, sym, ap, subst, ◌∙◌, Option, Some, None, arith, map, filter, filter_map, option_map, slice_get, count_by, append_assoc, append-nil, eqb, eqb-true, eq-eqb, ltb, ltb-true, ltb-false, nat_eq, length-append, eq-or-lt_of_le}
 use Rattle.hs_law_outcome.proofs.Prelude.{AllByRecursion, flat_map, range_with_len, list_all, cons_option, option_and_then, option_map_or, and_parts, length-map, map-append, nil_from_length, flat_map-map, slice_get-map, same_Some, map_flat, all_at, all_by_place, count_cons, count_append, ClientId, Draw, Step, PlainJournal, GivenPlace, PlainWorkload, DrawnPage, stamp_of, drawn_from, TimedPagesAreThePages, ClientSends, client_sends, operations_at, draws_at, place_of, TimedPage, timed_pages, PoolEvent, Empty, IsPoolHistory, IsOfJournal, RunsAreOfTheJournal, NodeRun, Run, followed, log_at, GivesAreNoted, IsLawful, FollowingPlaysOut, StampedPoolEvent, by_stamp, event_drawn, drawn_event, node_pages, given_buffer, given_event, missed_event, pool_events, pool_history, log_stamps, node_draws, draw_stamps, node_stamps, EmptyOnlyWhereEmpty, EndsItsTraces}
 use Rattle.std.proofs.lemmas.List.Sums.{count_by-le-length}
-use Rattle.hs_lists.proofs.Parts.{flat_alike}
-use Rattle.hs_lists.proofs.Counts.{one_if as one, none_below_zero}
+use Rattle.hs_base.proofs.Parts.{flat_alike}
+use Rattle.hs_base.proofs.Counts.{one_if as one, none_below_zero}
 use Rattle.hs_records.specs.declared.journal.Draw.TheVariants as draws
 use Rattle.hs_records.specs.declared.journal.Step.TheVariants as steps
 use Rattle.hs_words.specs.PoolHistory as pool

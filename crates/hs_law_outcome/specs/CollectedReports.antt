@@ -17,8 +17,8 @@ use Rattle.hs_ledger.specs.Totals.{is_reported}
 use Rattle.hs_law_agent.specs.Standings.{Taken}
 use Rattle.hs_records.specs.Pages.{PlainPage, first_record, pages_of}
 use Rattle.hs_records.specs.Plain.{Point, End, PlainWorkload}
-use Rattle.hs_law_sends.specs.Samples.{settings, workload, begin, fire}
-use Rattle.hs_law_sends.specs.Sending.{operations_at, place_of}
+use Rattle.hs_client.specs.Samples.{settings, workload, begin, fire}
+use Rattle.hs_client.specs.Sending.{operations_at, place_of}
 use Rattle.hs_words.specs.Pages.{Sheet}
 use Rattle.hs_law_journal.specs.Following.{NodeRun, followed}
 use Rattle.hs_law_journal.specs.Journals.{of_evicted_then_claimed}

@@ -8,7 +8,7 @@ use Rattle.hs_records.specs.declared.journal.Draw.TheVariants.{Got}
 use Rattle.hs_records.specs.Journals.{PlainJournal}
 use Rattle.hs_ledger.specs.declared.ledger.Entry.{Entry}
 use Rattle.hs_records.specs.Plain.{PlainWorkload}
-use Rattle.hs_law_sends.specs.Samples.{settings, workload, fire, segment}
+use Rattle.hs_client.specs.Samples.{settings, workload, fire, segment}
 use Rattle.hs_law_outcome.specs.Outcomes.{outcome_of, rising_traces}
 use Rattle.hs_law_outcome.specs.Reports.{Report, reports_of}
 use Rattle.hs_law_journal.specs.Journals

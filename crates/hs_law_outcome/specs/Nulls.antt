@@ -5,7 +5,7 @@ use Rattle.std.specs.List.{AllByRecursion}
 use Rattle.hs_records.specs.declared.journal.Draw.TheVariants as draws
 use Rattle.hs_records.specs.Journals.{PlainJournal}
 use Rattle.hs_records.specs.Plain.{PlainWorkload}
-use Rattle.hs_law_sends.specs.Drawn.{DrawnPage}
+use Rattle.hs_client.specs.Drawn.{DrawnPage}
 use Rattle.hs_words.specs.PoolHistory.{PoolEvent, Empty, queue_after}
 use Rattle.hs_law_journal.specs.Following.{NodeRun, followed}
 use Rattle.hs_law_journal.specs.Lawful.{IsLawful}

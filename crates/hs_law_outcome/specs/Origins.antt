@@ -14,8 +14,8 @@ use Rattle.hs_law_agent.specs.Books.{fate_of}
 use Rattle.hs_law_agent.specs.Standings.{Taken}
 use Rattle.hs_records.specs.Pages.{PlainPage, first_record, pages_of}
 use Rattle.hs_records.specs.Plain.{PlainWorkload}
-use Rattle.hs_law_sends.specs.Drawn.{DrawnPage, has_buffer}
-use Rattle.hs_law_sends.specs.Sending.{operations_at, draws_at, place_of, sheet_of}
+use Rattle.hs_client.specs.Drawn.{DrawnPage, has_buffer}
+use Rattle.hs_client.specs.Sending.{operations_at, draws_at, place_of, sheet_of}
 use Rattle.hs_words.specs.Pages.{Sheet}
 use Rattle.hs_law_journal.specs.Following.{NodeRun, Run, followed}
 use Rattle.hs_law_journal.specs.Lawful.{IsLawful}

@@ -15,7 +15,7 @@ use Rattle.hs_law_agent.specs.Standings.{Taken}
 use Rattle.hs_law_agent.specs.State.{ClaimedTrace}
 use Rattle.hs_records.specs.Plain.{PlainWorkload}
 use Rattle.hs_records.specs.Pages.{pages_of}
-use Rattle.hs_law_sends.specs.Sending.{operations_at, draws_at}
+use Rattle.hs_client.specs.Sending.{operations_at, draws_at}
 use Rattle.hs_words.specs.Pages.{Sheet}
 use Rattle.hs_law_journal.specs.Following.{NodeRun, Run, followed}
 

@@ -12,7 +12,7 @@ use Rattle.hs_ledger.specs.declared.ledger.Entry.{Entry}
 use Rattle.hs_ledger.specs.Totals.{is_reported, totals_of, parts_of}
 use Rattle.hs_records.specs.Plain.{PlainWorkload}
 use Rattle.hs_records.specs.Records.{AreBracketed, Record, records_of}
-use Rattle.hs_law_sends.specs.Sending.{operations_at}
+use Rattle.hs_client.specs.Sending.{operations_at}
 use Rattle.hs_law_journal.specs.Played.{played}
 use Rattle.hs_law_journal.specs.Shape.{has_shape}
 use Rattle.hs_law_journal.specs.Workloads.{short_of_pins}

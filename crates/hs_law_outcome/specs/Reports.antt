@@ -11,7 +11,7 @@ use Rattle.hs_ledger.specs.declared.ledger.Entry.{Entry}
 use Rattle.hs_ledger.specs.Totals.{is_reported}
 use Rattle.hs_records.specs.Plain.{PlainWorkload}
 use Rattle.hs_records.specs.Records.{Record, records_of}
-use Rattle.hs_law_sends.specs.Sending.{operations_at, place_of}
+use Rattle.hs_client.specs.Sending.{operations_at, place_of}
 use Rattle.hs_law_outcome.specs.Outcomes.{PlainOutcome, outcome_of}
 
 pub record Report : Type 0 where

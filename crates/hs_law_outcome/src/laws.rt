@@ -15,6 +15,7 @@ ghost use Rattle.hs_law_outcome.specs.Abandonment.{OnlyTheLeastIsAbandoned};
 ghost use Rattle.hs_law_outcome.specs.Asking.{NobodyIsAskedTwice};
 ghost use Rattle.hs_law_outcome.specs.Headline.{HeadlineHolds};
 
+use hs_client::sending_laws::timed_pages_are_the_pages;
 use hs_collect::runs_decide_the_records;
 use hs_coord::{answers_follow_asks, asked_set_is_least};
 use hs_law_agent::laws::{
@@ -26,7 +27,6 @@ use hs_law_journal::laws::{
     agents_come_by_events, chunks_are_taken_in_order, following_plays_out, gives_are_noted,
     runs_are_of_the_journal, taken_pages_rise,
 };
-use hs_law_sends::laws::timed_pages_are_the_pages;
 use hs_records::{
     pages_carry_the_records, pages_hold_the_pieces, pieces_are_counted, pieces_join_to_the_payload,
 };

@@ -1,7 +1,7 @@
 -- The answers of a pool's ends, the first one first. At each place of the list of deeds stands one answer of one end.
 use Rattle.std.proofs.Common.{◌≡◌, ◌⊎◌, inl, inr, ℕ, zero, suc, ◌+◌, ◌<◌, ◌≤◌, Bool, true, false, ◌&&◌, ◌==◌, cond, List, [], ◌∷◌, ◌++◌, length, reverse, refl, sym, ap, subst, ◌∙◌, arith, map, filter, eq-eqb, nat_eq, append-nil, ltb, lt-ltb, eq-or-lt_of_le}
 use Rattle.hs_law_run.proofs.Prelude.{AllByRecursion, flat_map, range_with_len, and_from, length-append, map-append, filter-append, reverse_cons, flat_range_alike, Deed, Answer, answer_to, answers_by, put_if, rise, rise_above}
-use Rattle.hs_lists.proofs.Numbers.{nat_eq_below, nat_eq_above}
+use Rattle.hs_base.proofs.Numbers.{nat_eq_below, nat_eq_above}
 
 -- ---- one answer, or none
 

@@ -1,7 +1,8 @@
 -- What a story does, as doings told pass by pass.
 use Rattle.std.proofs.Common.{◌≡◌, ℕ, suc, ◌<◌, ◌≤◌, List, [], length, sym, ap, subst, ◌∙◌, Option, unwrap_or, arith, map, filter, slice_get, count_by, append-nil}
-use Rattle.hs_law_run.proofs.Prelude.{AllByRecursion, range_with_len, map_range_at, all_each, all_by_place, message, Draw, PlainJournal, sheets_of, AgentState, start, AgentEvent, after, PlainWorkload, ClientSends, client_sends, draws_at, place_of, ops_of, items_of, IsTogether, asks_to, is_from, draw_answer, IsValid, NodeDoings, all_events, events_in, state_after, last_state, chunks_in, crumbs_in, triggers_in, asks_in, heard_in, all_heard, journal_of, IsPass, IsOwn, HandsReady, EndsPass, IsPlayable, AreTurns, PoolEndsGoOn, Story, added, node_doings, doings_of, draws_of, sends_at, IsStory, HasNothingLeft, EndsPasses, IsFront}
-use Rattle.hs_law_sends.specs.Sending.{sends_of}
+use Rattle.hs_law_run.proofs.Prelude.{AllByRecursion, range_with_len, map_range_at, all_each, all_by_place, message, Draw, PlainJournal, sheets_of, AgentState, start, AgentEvent, after, PlainWorkload, ClientSends, client_sends, draws_at, place_of, ops_of, items_of, IsTogether, asks_to, is_from, draw_answer, IsValid, NodeDoings, all_events, events_in, state_after, last_state, chunks_in, crumbs_in, triggers_in, asks_in, all_heard, journal_of, IsPass, IsOwn, HandsReady, EndsPass, IsPlayable, AreTurns, PoolEndsGoOn, Story, added, node_doings, doings_of, draws_of, sends_at, IsStory, HasNothingLeft, EndsPasses, IsFront}
+use Rattle.hs_law_journal.specs.Doings.{heard_in}
+use Rattle.hs_client.specs.Sending.{sends_of}
 use Rattle.hs_law_run.specs.Facts.{TookAllOf}
 use Rattle.hs_law_run.specs.Stories.{state_by, IsNodeStory}
 use Rattle.hs_law_run.specs.Stories as stories

@@ -1,7 +1,7 @@
 -- The pages of a node by the stamps of their draws are the draws of the pool in order: the draw of each number is that of one page.
 use Rattle.std.proofs.Common.{◌≡◌, ◌⊎◌, inl, inr, ℕ, zero, suc, ◌+◌, ◌<◌, ◌≤◌, Bool, true, false, ◌==◌, cond, List, [], ◌∷◌, ◌++◌, length, refl, sym, ap, subst, ◌∙◌, Some, arith, map, filter, slice_get, eq-eqb, eqb-true, nat_eq, append-nil}
 use Rattle.hs_law_run.proofs.Prelude.{AllByRecursion, flat_map, range_with_len, flat_map-append, length-append, map-append, flat_range_alike, all_front, all_back, get_front, map_flat, Draw, PlainJournal, PlainWorkload, DrawnPage, stamp_of, ClientSends, client_sends, draws_at, place_of, Deed, Answer, answer_to, answers_by, drawn_in, is_any_given, IsDeedAt, IsDraw, PoolEvent, is_missed, by_stamp, NodeDoings, draw_answer, IsPooled}
-use Rattle.hs_lists.proofs.Places.{get_last}
+use Rattle.hs_base.proofs.Places.{get_last}
 use Rattle.hs_records.specs.declared.journal.Draw.TheVariants as draws
 use Rattle.hs_words.specs.Ends as ends
 use Rattle.hs_words.specs.PoolHistory as pool

@@ -1,19 +1,19 @@
 -- What was done, told pass by pass, is an order in which the journal is followed: each step is ready when it comes.
 use Rattle.std.proofs.Common.{◌≡◌, inl, inr, ℕ, zero, suc, ◌+◌, ◌<◌, ◌≤◌, Bool, true, false, ◌&&◌, cond, List, [], ◌∷◌, ◌++◌, length, set, take, drop, refl, sym, ap, subst, ◌∙◌, Option, Some, None, IsSome, arith, map, filter, option_map, slice_get, unwrap_or, count_by, eq-eqb, nat_eq, append-nil, append_assoc, take_all, ◌==◌}
-use Rattle.hs_law_run.proofs.Prelude.{AllByRecursion, flat_map, range_with_len, list_all, option_and_then, flat_map-append, filter-append, length-append, map-append, slice_get-map, same_Some, all_at, all_back, range_at, NodeId, Message, Messages, message, Step, PlainJournal, noted_as, EventsAddThis, AgentState, start, Chunk, Crumbed, Triggered, Asked, Answered, Given, Missed, Unread, AgentEvent, Took, Gave, after_event, after_from, after, step_of_answer, PlainSettings, PlainWorkload, Sent, ClientSends, client_sends, node_sends, items_of, Queue, Chunks, Crumbs, Triggers, Asks, taken, asks_behind, asks_to, NodeRun, Run, log_at, is_from, is_done, asks_more, joined, NodeDoings, Doings, all_events, events_in, steps_of, state_after, last_state, chunk_in, crumb_in, trigger_in, chunks_in, crumbs_in, triggers_in, asks_in, heard_in, all_heard, journal_of, node_at_end, run_of, IsOwn, HandsReady, IsPlayable, ArePlayable, DoingsAreFollowed, IsFront, slice_get_within}
+use Rattle.hs_law_run.proofs.Prelude.{AllByRecursion, flat_map, range_with_len, list_all, option_and_then, flat_map-append, filter-append, length-append, map-append, slice_get-map, same_Some, all_at, all_back, range_at, NodeId, Message, Messages, message, Step, PlainJournal, noted_as, EventsAddThis, AgentState, start, Chunk, Crumbed, Triggered, Asked, Answered, Missed, Unread, AgentEvent, Took, Gave, after_event, after_from, after, step_of_answer, PlainSettings, PlainWorkload, Sent, ClientSends, client_sends, node_sends, items_of, Queue, Chunks, Crumbs, Triggers, Asks, taken, asks_behind, asks_to, NodeRun, Run, log_at, is_from, is_done, asks_more, joined, NodeDoings, Doings, all_events, events_in, steps_of, state_after, last_state, chunk_in, crumb_in, trigger_in, chunks_in, crumbs_in, triggers_in, asks_in, all_heard, journal_of, node_at_end, run_of, IsOwn, HandsReady, IsPlayable, ArePlayable, DoingsAreFollowed, IsFront, slice_get_within}
 use Rattle.std.specs.Option.{option_to_list}
 use Rattle.std.proofs.lemmas.List.{drop_all}
 use Rattle.std.proofs.lemmas.List.Sums.{sum_by-cons, sum_by-append}
-use Rattle.hs_lists.proofs.Places.{get_front_same, get_there}
-use Rattle.hs_lists.proofs.Counts.{one_if as one}
+use Rattle.hs_base.proofs.Places.{get_front_same, get_there}
+use Rattle.hs_base.proofs.Counts.{one_if as one}
 use Rattle.hs_base.specs.declared.told.Told.{Told}
 use Rattle.hs_records.specs.declared.journal.Step.TheVariants as steps
 use Rattle.hs_law_agent.specs.Laws.{EventsGoOn, StepsSayWhatTheyTell}
 use Rattle.hs_law_agent.specs.State as model
-use Rattle.hs_law_agent.specs.Stepping.{Turn, told_by}
+use Rattle.hs_law_agent.specs.Stepping.{Turn, told_by, Given}
 use Rattle.hs_law_journal.specs.Following.{node_start, run_start, next_of, event_of, perform, step_node, message_of}
 use Rattle.hs_law_journal.specs.Orders.{Leads, Stays, Goes, OrdersAgree, DoneIsAtRest}
-use Rattle.hs_law_journal.specs.Doings.{ask_in}
+use Rattle.hs_law_journal.specs.Doings.{ask_in, heard_in}
 pub use Rattle.hs_law_journal.proofs.ItemsTaken.{taken_chunks, taken_crumbs, taken_triggers, taken_asks}
 use Rattle.hs_law_journal.proofs.Joined.{take_next}
 use Rattle.hs_law_run.proofs.Nodes.{node_there, own_log}

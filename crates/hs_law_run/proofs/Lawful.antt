@@ -2,8 +2,8 @@
 use Rattle.std.proofs.Common.{◌≡◌, ℕ, zero, suc, ◌+◌, ◌*◌, ◌<◌, ◌≤◌, List, [], ◌∷◌, length, refl, sym, ap, subst, ◌∙◌, Option, Some, unwrap_or, arith, map, slice_get, count_by, nat_lt}
 use Rattle.hs_law_run.proofs.Prelude.{AllByRecursion, range_with_len, length-map, length-reverse, all_each, all_by_place, filter_few, Message, EventsAddThis, AgentState, AgentEvent, pages_of, Operation, PlainWorkload, count_started, TimedPagesAreTimely, Sent, ClientSends, client_sends, sent_within, place_of, ops_of, TimedPage, timed_pages, asks_to, is_from, IsValid, NodeDoings, events_in, chunks_in, crumbs_in, triggers_in, asks_in, journal_of, node_at_end, run_of, IsPass, IsPlayable, ArePlayable, HaveRounds, IsToldInRounds, TakesInPace, AsksInPace, KeepsPace, draw_answer, IsPooled, IsPooledUnread, done_by, agent_of, Story, added, node_doings, doings_of, draws_of, sends_at, IsQueueStory, sent_by, IsStory, HasNothingLeft, EndsPasses}
 use Rattle.std.proofs.lemmas.Simd.{map-map}
-use Rattle.hs_law_sends.specs.Laws.{TimedPagesAreThePages}
-use Rattle.hs_law_sends.specs.SoFar.{AllChunksAreSent, AllCrumbsAreSent, AllTriggersAreSent}
+use Rattle.hs_client.specs.Laws.{TimedPagesAreThePages}
+use Rattle.hs_client.specs.SoFar.{AllChunksAreSent, AllCrumbsAreSent, AllTriggersAreSent}
 use Rattle.hs_law_run.specs.Facts.{HaveDrawn}
 use Rattle.hs_law_run.specs.Playing.{AreLawfulDoings}
 use Rattle.hs_law_run.specs.Unread.{ArePooledUnread}

@@ -1,7 +1,7 @@
 -- What meetings behind each round tell: the giver knows a number above all draws of these rounds, and each client one above all gives.
 use Rattle.std.proofs.Common.{◌≡◌, ℕ, zero, suc, ◌+◌, ◌-◌, ◌<◌, ◌≤◌, Bool, true, false, ◌&&◌, cond, List, [], ◌∷◌, ◌++◌, length, reverse, refl, sym, ap, subst, ◌∙◌, Some, None, arith, map, slice_get, take, nat_lt, lt-ltb, ltb-true, min, append_assoc}
 use Rattle.hs_law_run.proofs.Prelude.{AllByRecursion, filter_map, map-append, filter_map-append, slice_get_within, all_front, all_back, all_each, all_reverse, all_at, all_by_place, get_some, take_length, PlainJournal, noted_as, AgentEvent, PlainWorkload, DrawnPage, stamp_of, TimedPagesAreTimely, client_sends, draws_at, place_of, ops_of, timed_pages, Answer, answers_in, step_stamp, log_stamps, round_of, joined, NodeDoings, all_events, events_in, steps_of, MeetsInRounds, draw_answer}
-use Rattle.hs_lists.proofs.Alls.{all_mapped}
+use Rattle.hs_base.proofs.Alls.{all_mapped}
 use Rattle.hs_law_run.proofs.Pools.{stamp_same}
 use Rattle.hs_law_run.proofs.PoolOf.{IsPoolOf}
 use Rattle.hs_law_run.proofs.Rounds.{IsFit, all_start, page_at, all_pages_at, round_behind}

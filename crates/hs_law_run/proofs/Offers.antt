@@ -1,6 +1,7 @@
 -- A pass that offers until its hand is empty, or until an offer is unread, makes all its offers.
 use Rattle.std.proofs.Common.{◌≡◌, ◌⊎◌, inl, inr, ℕ, zero, suc, ◌+◌, ◌-◌, true, false, ◌||◌, ◌==◌, not, List, [], ◌∷◌, ◌++◌, length, take, drop, refl, sym, ap, subst, ◌∙◌, arith, map, zip, append_assoc, eq-eqb, slice_get, Some}
-use Rattle.hs_law_run.proofs.Prelude.{AllByRecursion, range_with_len, list_all, list_any, and_from, length-append, map-append, all_append, Step, PlainJournal, EventsAddThis, AgentState, Answered, Given, Missed, Unread, AgentEvent, step_of_answer, PlainWorkload, NodeRun, Run, queues_of, is_unread, steps_in, state_behind, NodeDoings, steps_of, state_after, journal_of, node_at_end, IsPass, EndsPass, DoingsAreFollowed, EndsPasses, all_by_place, all_each}
+use Rattle.hs_law_run.proofs.Prelude.{AllByRecursion, range_with_len, list_all, list_any, and_from, length-append, map-append, all_append, Step, PlainJournal, EventsAddThis, AgentState, Answered, Missed, Unread, AgentEvent, step_of_answer, PlainWorkload, NodeRun, Run, queues_of, is_unread, steps_in, state_behind, NodeDoings, steps_of, state_after, journal_of, node_at_end, IsPass, EndsPass, DoingsAreFollowed, EndsPasses, all_by_place, all_each}
+use Rattle.hs_law_agent.specs.Stepping.{Given}
 use Rattle.std.proofs.lemmas.Bool.{or_right}
 use Rattle.hs_records.specs.declared.journal.Step.TheVariants as steps
 use Rattle.hs_law_journal.specs.Passes.{is_offer, but_last, last_of, pass_ends, offers_end}

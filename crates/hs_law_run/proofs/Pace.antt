@@ -1,8 +1,9 @@
 -- Agents and coordinator keep pace: by what meetings behind each round tell of stamps, by what receivers are told of links, and by the
 -- messages and asks that are moved between rounds.
 use Rattle.std.proofs.Common.{◌≡◌, ◌⊎◌, inl, inr, ℕ, zero, suc, ◌+◌, ◌-◌, ◌*◌, ◌<◌, ◌≤◌, min, Bool, true, false, ◌&&◌, cond, List, [], ◌∷◌, ◌++◌, length, take, refl, sym, ap, subst, ◌∙◌, Some, arith, map, slice_get, unwrap_or, count_by, find, nat_lt, nat_le, ltb-true, lt-ltb, le-leb, zip, append_assoc, eq-or-lt_of_le}
-use Rattle.hs_law_run.proofs.Prelude.{AllByRecursion, flat_map, range_with_len, list_all, and_from, length-append, length-map, take-map, all_at, all_by_place, list_all_from, MAX_TAKEN, NodeId, Messages, Step, PlainJournal, EventsAddThis, AgentState, AgentEvent, PlainSettings, PlainWorkload, DrawnPage, stamp_of, Sent, ClientSends, client_sends, node_sends, sent_within, Queue, Chunks, Crumbs, Triggers, Asks, taken, asks_behind, asks_to, is_from, NodeRun, Run, steps_in, state_behind, log_stamps, round_of, asks_more, joined, NodeDoings, Doings, events_in, steps_of, state_after, chunk_in, crumb_in, trigger_in, chunks_in, crumbs_in, triggers_in, asks_in, heard_in, all_heard, journal_of, node_at_end, run_of, IsPass, ArePlayable, pages_at, MeetsInRounds, IsToldInRounds, TakesInPace, AsksInPace, KeepsPace, DoingsAreFollowed}
-use Rattle.hs_lists.proofs.Ranges.{list_all_range}
+use Rattle.hs_law_run.proofs.Prelude.{AllByRecursion, flat_map, range_with_len, list_all, and_from, length-append, length-map, take-map, all_at, all_by_place, list_all_from, MAX_TAKEN, NodeId, Messages, Step, PlainJournal, EventsAddThis, AgentState, AgentEvent, PlainSettings, PlainWorkload, DrawnPage, stamp_of, Sent, ClientSends, client_sends, node_sends, sent_within, Queue, Chunks, Crumbs, Triggers, Asks, taken, asks_behind, asks_to, is_from, NodeRun, Run, steps_in, state_behind, log_stamps, round_of, asks_more, joined, NodeDoings, Doings, events_in, steps_of, state_after, chunk_in, crumb_in, trigger_in, chunks_in, crumbs_in, triggers_in, asks_in, all_heard, journal_of, node_at_end, run_of, IsPass, ArePlayable, pages_at, MeetsInRounds, IsToldInRounds, TakesInPace, AsksInPace, KeepsPace, DoingsAreFollowed}
+use Rattle.hs_law_journal.specs.Doings.{heard_in}
+use Rattle.hs_base.proofs.Ranges.{list_all_range}
 use Rattle.hs_law_journal.specs.Pace.{is_beside, gives_in_pace, takes_enough, queue_in_pace, client_in_pace, items_in_pace, said_in, due_of, due_by, has_due, heard_by, asks_enough, asks_in_pace, inner_passes}
 use Rattle.hs_law_journal.specs.Passes.{taken_in}
 use Rattle.hs_law_run.specs.Playing.{AreInPace}

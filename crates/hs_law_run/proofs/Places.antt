@@ -1,7 +1,7 @@
 -- Where an unread offer stands: in a pass, behind the turn of that pass.
 use Rattle.std.proofs.Common.{◌≡◌, ◌⊎◌, inl, inr, ℕ, zero, suc, ◌<◌, ◌≤◌, true, false, List, [], ◌∷◌, ◌++◌, length, refl, sym, ap, ◌∙◌, Some, arith, map, slice_get, take, replicate, count_by, append_assoc}
 use Rattle.hs_law_run.proofs.Prelude.{AllByRecursion, flat_map, map-append, all_append, Step, noted_as, Answered, Unread, AgentEvent, Gave, step_of_answer, PlainWorkload, Queue, Chunks, Crumbs, Triggers, Asks, is_turn, is_unread, queues_of, joined, steps_of, IsPass}
-use Rattle.hs_lists.proofs.Counts.{one_if, count_cons, count_append}
+use Rattle.hs_base.proofs.Counts.{one_if, count_cons, count_append}
 use Rattle.hs_records.specs.declared.journal.Step.TheVariants as steps
 use Rattle.hs_law_journal.specs.LoopPasses.{step_from}
 use Rattle.hs_law_journal.proofs.Passes.{is_no_turn}

@@ -1,7 +1,7 @@
 -- A queue keeps pace where in each pass its receiver takes what it was told of.
 use Rattle.std.proofs.Common.{◌≡◌, ◌⊎◌, inl, inr, ℕ, suc, ◌+◌, ◌<◌, ◌≤◌, min, Bool, true, false, cond, List, [], ◌∷◌, length, refl, sym, ap, ◌∙◌, arith, filter, nat_lt, ltb-true, ltb-false, lt-ltb, eq-or-lt_of_le}
 use Rattle.hs_law_run.proofs.Prelude.{AllByRecursion, filter_few, MAX_TAKEN, PlainSettings, Sent, sent_within, IsToldInRounds, IsQueueStory}
-use Rattle.hs_lists.proofs.Filters.{filter_all}
+use Rattle.hs_base.proofs.Filters.{filter_all}
 
 -- what a filter leaves whole, it keeps
 keeps_each : {X : Type 0} (p : X → Bool) (xs : List X) → filter p xs ≡ xs → AllByRecursion (λ x. p x ≡ true) xs

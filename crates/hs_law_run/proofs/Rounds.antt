@@ -2,7 +2,7 @@
 use Rattle.std.proofs.Common.{◌≡◌, ℕ, zero, suc, ◌+◌, ◌*◌, ◌<◌, ◌≤◌, Bool, true, false, cond, List, [], ◌∷◌, length, refl, sym, ap, subst, ◌∙◌, Some, None, arith, map, filter, slice_get, nat_lt, ltb-true, ltb-false, lt-ltb}
 use Rattle.hs_law_run.proofs.Prelude.{div-lt_iff_lt-mul, AllByRecursion, flat_map, range_with_len, same_Some, all_append, ClientId, Draw, PlainJournal, PlainWorkload, AreBracketed, DrawnPage, drawn_from, ClientSends, client_sends, operations_at, TimedPage, round_of, pages_at}
 use Rattle.hs_base.specs.declared.limits.TheConstants.{MIN_SIZE}
-use Rattle.hs_law_sends.specs.Laws.{IsTimely}
+use Rattle.hs_client.specs.Laws.{IsTimely}
 
 -- what is needed of a workload
 pub record IsFit (W : PlainWorkload) : Type 0 where

@@ -1,7 +1,7 @@
 -- A give answers the draw of its chunk: it spends the lease of that draw, and nothing happens at the buffer between the two.
 use Rattle.std.proofs.Common.{◌≡◌, inl, inr, ℕ, zero, suc, ◌+◌, ◌<◌, Bool, true, false, ◌&&◌, ◌==◌, not, cond, List, [], ◌∷◌, ◌++◌, length, refl, sym, ap, subst, ◌∙◌, Option, Some, None, arith, map, filter, filter_map, eqb-true, nat_lt, ltb-true, lt-ltb}
 use Rattle.hs_law_run.proofs.Prelude.{AllByRecursion, cons_option, list_all, option_and_then, option_map_or, and_from, and_parts, same_Some, list_all_from, list_any_none, all_each, all_append, all_map, Draw, PlainJournal, EventsAddThis, GivenPlace, PlainWorkload, DrawnPage, Deed, Answer, answer_to, is_any_given, IsDeedAt, PoolEvent, is_missed, at_below, NodeRun, Run, StampedPoolEvent, given_page, pool_events, NodeDoings, journal_of, node_at_end, DoingsAreFollowed, give_of, give_at, IsPooled, all_by_place, all_at, log_at, steps_of, all_events}
-use Rattle.hs_lists.proofs.Alls.{all_each_both}
+use Rattle.hs_base.proofs.Alls.{all_each_both}
 use Rattle.hs_records.specs.declared.journal.Draw.TheVariants as draws
 use Rattle.hs_words.specs.Ends.{IsGot, Names, NoneSince, Spends, EachSpends}
 use Rattle.hs_words.specs.PoolHistory as pool

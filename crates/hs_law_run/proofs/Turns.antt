@@ -1,7 +1,7 @@
 -- What a giver's turns tell of the events of its agent.
 use Rattle.std.proofs.Common.{◌≡◌, ◌⊎◌, inl, inr, ℕ, ◌+◌, true, List, [], ◌∷◌, ◌++◌, reverse, refl, sym, ap, subst, ◌∙◌, Option, Some, None, arith, map, filter, slice_get, append-nil}
-use Rattle.hs_law_run.proofs.Prelude.{AllByRecursion, filter_map, cons_option, map-append, filter-append, filter_map-append, reverse_cons, all_append, noted_as, EventsAddThis, AgentState, GivenPlace, start, Chunk, Crumbed, Triggered, Asked, Answered, Given, Missed, Unread, AgentEvent, Took, Gave, step_of_answer, after, after_from, after_event, PlainSettings, Answer, GiverTurn, answered, unread, met, answers_in, is_any_given, is_missed, step_stamp, log_stamps, steps_of, miss_in, Lent, AreTurns}
-use Rattle.hs_law_agent.specs.Stepping.{Turn as Turned, Input, step_of, give_back}
+use Rattle.hs_law_run.proofs.Prelude.{AllByRecursion, filter_map, cons_option, map-append, filter-append, filter_map-append, reverse_cons, all_append, noted_as, EventsAddThis, AgentState, GivenPlace, start, Chunk, Crumbed, Triggered, Asked, Answered, Missed, Unread, AgentEvent, Took, Gave, step_of_answer, after, after_from, after_event, PlainSettings, Answer, GiverTurn, answered, unread, met, answers_in, is_any_given, is_missed, step_stamp, log_stamps, steps_of, miss_in, Lent, AreTurns}
+use Rattle.hs_law_agent.specs.Stepping.{Turn as Turned, Input, step_of, give_back, Given}
 use Rattle.hs_words.specs.PoolHistory as pool
 use Rattle.hs_law_journal.specs.Turns.{IsOffered, Begins, Takes, Offers, Meets}
 use Rattle.hs_law_run.proofs.Lists.{filter_map_last, last_or_earlier, StandsEarlier}

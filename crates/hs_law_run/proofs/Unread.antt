@@ -6,7 +6,7 @@ use Rattle.hs_law_agent.specs.Laws.{brought_by}
 use Rattle.hs_law_agent.specs.Stepping as stepping
 use Rattle.hs_law_run.specs.Unread.{UnreadCouldBe}
 use Rattle.hs_law_run.proofs.Clauses.{mapped_true}
-use Rattle.hs_law_sends.specs.Drawn.{has_buffer}
+use Rattle.hs_client.specs.Drawn.{has_buffer}
 use Rattle.hs_words.specs.Ends.{got_by, SpendsThe}
 use Rattle.hs_words.specs.PoolHistory as pool
 use Rattle.hs_law_journal.specs.Pooled.{node_pages}
@@ -16,7 +16,7 @@ use Rattle.hs_law_run.proofs.Answers.{at_stamp, own, answers, answers_are, stamp
 use Rattle.hs_law_run.proofs.Spent.{of_kept}
 use Rattle.hs_law_journal.proofs.ItemsTaken.{sheets_on}
 use Rattle.hs_law_journal.proofs.Logs.{above_all, stamps_both}
-use Rattle.hs_lists.proofs.Alls.{all_filter, all_flat_map}
+use Rattle.hs_base.proofs.Alls.{all_filter, all_flat_map}
 use Rattle.hs_law_run.proofs.Counted.{below, below_both, below_all, few_below}
 use Rattle.hs_law_run.proofs.DrawPlaces.{draws_in_order, draw_at, page_answer, client_pages, pages_in_order, proper, all_pages}
 use Rattle.hs_law_run.proofs.Nodes.{own_log}

@@ -3,7 +3,7 @@ use Rattle.std.specs.Prelude.{◌≡◌, ℕ, ◌*◌, ◌<◌, ◌≤◌, ◌==
 use Rattle.std.specs.List.{AllByRecursion, list_any}
 use Rattle.hs_law_agent.specs.Stepping.{AgentEvent}
 use Rattle.hs_records.specs.Plain.{PlainWorkload}
-use Rattle.hs_law_sends.specs.Sending.{ops_of}
+use Rattle.hs_client.specs.Sending.{ops_of}
 use Rattle.hs_words.specs.Ends.{Answer, GiverTurn, answers_in, told_in}
 use Rattle.hs_law_journal.specs.Shape.{log_stamps}
 use Rattle.hs_law_journal.specs.Doings.{steps_of}

@@ -2,7 +2,7 @@
 use Rattle.std.specs.Prelude.{◌≡◌, [], ◌∷◌, length, map, refl}
 use Rattle.std.proofs.Common.{lit≤}
 use Rattle.hs_records.specs.declared.journal.Draw.TheVariants.{Got}
-use Rattle.hs_law_sends.specs.Drawn.{DrawnPage}
+use Rattle.hs_client.specs.Drawn.{DrawnPage}
 use Rattle.hs_law_journal.specs.Following.{followed}
 use Rattle.hs_law_journal.specs.Journals.{of_one_point}
 use Rattle.hs_law_journal.specs.Workloads.{one_point}

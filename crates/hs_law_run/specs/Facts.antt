@@ -9,9 +9,9 @@ use Rattle.hs_law_agent.specs.State.{start}
 use Rattle.hs_law_agent.specs.Stepping.{AgentEvent}
 use Rattle.hs_records.specs.Pages.{pages_of}
 use Rattle.hs_records.specs.Plain.{PlainSettings, PlainWorkload}
-use Rattle.hs_law_sends.specs.Drawn.{DrawnPage, stamp_of}
-use Rattle.hs_law_sends.specs.Sending.{ClientSends, client_sends, node_sends, sent_within}
-use Rattle.hs_law_sends.specs.OneMore.{items_of}
+use Rattle.hs_client.specs.Drawn.{DrawnPage, stamp_of}
+use Rattle.hs_client.specs.Sending.{ClientSends, client_sends, node_sends, sent_within}
+use Rattle.hs_client.specs.OneMore.{items_of}
 use Rattle.hs_law_journal.specs.Ends.{rounds_of}
 use Rattle.hs_law_journal.specs.Following.{asks_to, is_from}
 use Rattle.hs_law_journal.specs.Shape.{log_stamps}

@@ -4,7 +4,7 @@ use Rattle.std.specs.List.{range_with_len}
 use Rattle.hs_coord.specs.Messages.{Message}
 use Rattle.hs_law_agent.specs.State.{AgentState}
 use Rattle.hs_records.specs.Plain.{PlainWorkload}
-use Rattle.hs_law_sends.specs.Sending.{draws_at}
+use Rattle.hs_client.specs.Sending.{draws_at}
 use Rattle.hs_records.specs.Validity.{IsValid}
 use Rattle.hs_law_journal.specs.Following.{NodeRun, followed}
 use Rattle.hs_law_journal.specs.Lawful.{IsLawful}

@@ -7,3 +7,13 @@ pub mod Ends
 pub mod Stories
 pub mod Laws
 pub mod UnreadExample
+pub mod Lockstep
+pub mod OneSchedule
+pub mod Clauses
+pub mod Reaching
+pub mod Parts
+pub mod Conditions
+pub mod Ending
+pub mod PartExamples
+pub mod LockstepExamples
+pub mod Told

@@ -12,8 +12,8 @@ use Rattle.hs_records.specs.declared.journal.Step.TheVariants as steps
 use Rattle.hs_records.specs.Journals.{PlainJournal}
 use Rattle.hs_law_agent.specs.State.{GivenPlace}
 use Rattle.hs_records.specs.Plain.{PlainWorkload}
-use Rattle.hs_law_sends.specs.Drawn.{DrawnPage}
-use Rattle.hs_law_sends.specs.Sending.{client_sends, draws_at, place_of}
+use Rattle.hs_client.specs.Drawn.{DrawnPage}
+use Rattle.hs_client.specs.Sending.{client_sends, draws_at, place_of}
 use Rattle.hs_words.specs.Ends.{Deed, Answer, events_of, answers_by, is_any_given, EachSpends, four_deeds}
 use Rattle.hs_words.specs.PoolHistory.{Got, Empty, Given, Missed, is_missed, IsHistoryBack, IsPoolHistory}
 use Rattle.hs_law_journal.specs.Following.{NodeRun}

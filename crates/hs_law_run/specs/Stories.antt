@@ -10,9 +10,9 @@ use Rattle.hs_law_agent.specs.Laws.{sheets_of}
 use Rattle.hs_law_agent.specs.State.{AgentState, start}
 use Rattle.hs_law_agent.specs.Stepping.{AgentEvent, after}
 use Rattle.hs_records.specs.Plain.{PlainWorkload}
-use Rattle.hs_law_sends.specs.Draws.{count_started}
-use Rattle.hs_law_sends.specs.Sending.{Sent, ClientSends, sends_of, sent_within, place_of, ops_of}
-use Rattle.hs_law_sends.specs.OneMore.{items_of}
+use Rattle.hs_client.specs.Draws.{count_started}
+use Rattle.hs_client.specs.Sending.{Sent, ClientSends, sends_of, sent_within, place_of, ops_of}
+use Rattle.hs_client.specs.OneMore.{items_of}
 use Rattle.hs_words.specs.Ends.{Deed, IsTogether}
 use Rattle.hs_law_journal.specs.Following.{asks_to, is_from}
 use Rattle.hs_law_journal.specs.Doings.{NodeDoings, Doings, chunks_in, crumbs_in, triggers_in, asks_in}

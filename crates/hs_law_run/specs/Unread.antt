@@ -7,7 +7,7 @@ use Rattle.hs_records.specs.Journals.{PlainJournal}
 use Rattle.hs_law_agent.specs.Laws.{noted_as}
 use Rattle.hs_law_agent.specs.Stepping.{Unread, AgentEvent, Gave, after}
 use Rattle.hs_records.specs.Plain.{PlainWorkload}
-use Rattle.hs_law_sends.specs.Drawn.{DrawnPage, stamp_of}
+use Rattle.hs_client.specs.Drawn.{DrawnPage, stamp_of}
 use Rattle.hs_words.specs.Ends.{Answer, GiverTurn, answers_in, told_in, is_any_given, IsUnread}
 use Rattle.hs_law_journal.specs.Passes.{is_turn, is_unread}
 use Rattle.hs_law_journal.specs.Played.{played}

@@ -8,7 +8,7 @@ use Rattle.hs_records.specs.declared.journal.Step.TheVariants as steps
 use Rattle.hs_records.specs.Journals.{PlainJournal}
 use Rattle.hs_law_agent.specs.Stepping.{Chunk, Turn as Turned, Given, Missed, Unread, AgentEvent, Took, Gave}
 use Rattle.hs_records.specs.Plain.{Point, End, PlainWorkload}
-use Rattle.hs_law_sends.specs.Samples.{settings, on_nodes, workload, begin, segment}
+use Rattle.hs_client.specs.Samples.{settings, on_nodes, workload, begin, segment}
 use Rattle.hs_words.specs.Pages.{Sheet}
 use Rattle.hs_law_journal.specs.Lawful.{first_unlawful}
 use Rattle.hs_law_journal.specs.Doings.{NodeDoings, Doings, journal_of}

@@ -5,11 +5,11 @@ ghost use Rattle.hs_law_run.specs.Pools.{ClosedPoolsKeep};
 ghost use Rattle.hs_law_run.specs.Playing.{DoingsAreFollowed, CanBeFollowed, HaveShape, AreWholePasses, AreEnough, AreBare, MakeTheirOffers, AreInPace, AreStamped, AreHistories, GivesAnswer, DoingsAreLawful};
 ghost use Rattle.hs_law_run.specs.Laws.{StoriesAreLawful};
 
-use hs_law_agent::laws::{events_add_this, events_go_on, steps_say_what_they_tell};
-use hs_law_journal::laws::{done_is_at_rest, orders_agree};
-use hs_law_sends::laws::{
+use hs_client::sending_laws::{
     all_is_sent_in_the_end, timed_pages_are_the_pages, timed_pages_are_timely,
 };
+use hs_law_agent::laws::{events_add_this, events_go_on, steps_say_what_they_tell};
+use hs_law_journal::laws::{done_is_at_rest, orders_agree};
 
 /// What may be told pass by pass, as far as it has come, is what its journal leads to when it is followed.
 pub fn doings_are_followed()

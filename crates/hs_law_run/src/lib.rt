@@ -19,9 +19,13 @@
 //! 10. In the end all that was sent, asked and said was taken and heard, and nothing is pinned, so nothing is left over (L10).
 //!
 //! The laws of `laws` say this of all doings, clause by clause. The promises stand in `specs/Facts.antt`, `Pools.antt` and `Unread.antt`,
-//! the clauses in `Playing.antt`. The schedule of one thread (`hs_law_lockstep`) and a run in threads (`hs_run_story`) differ in who keeps
+//! the clauses in `Playing.antt`. The schedule of one thread (`lockstep_laws`) and a run in threads (`hs_run`) differ in who keeps
 //! these promises (`docs/ARCHITECTURE.md`, "Why a journal is lawful"). A run in threads is told as a story: where each part stood behind
 //! each pass. A story is doings that keep all of them.
+//!
+//! That schedule, the lockstep schedule of a workload, is the journal that one thread makes (`docs/RULES.md`, "Schedules"). It is defined
+//! in `Lockstep.antt`, and the laws of `lockstep_laws` hold of it.
 #![tactic(auto)]
 
 pub mod laws;
+pub mod lockstep_laws;

@@ -11,7 +11,7 @@ use Rattle.atomic_table.proofs.Lists.{at_longer, one_turn}
 use Rattle.hs_link.specs.Contents.{IsBeginning, OneBegins, HasContents}
 use Rattle.hs_link.specs.Ring.{Begins, AllHold}
 use Rattle.std.specs.Option.{option_to_list}
-use Rattle.hs_lists.proofs.Places.{elem_push_cases}
+use Rattle.hs_base.proofs.Places.{elem_push_cases}
 
 module _ {T : Type 0} where
   -- a place with an item is below the length

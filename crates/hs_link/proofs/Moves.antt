@@ -9,7 +9,7 @@ use lib.ListN.{get_elem?}
 use lib.Seq.{set-get_or}
 use Rattle.atomic_table.specs.Table.{State, Me, step, keeps, takes, gives, stepped, Allows}
 use Rattle.atomic_table.proofs.Lists.{set_here, set_else, at_last}
-use Rattle.hs_lists.proofs.Places.{elem_push_cases}
+use Rattle.hs_base.proofs.Places.{elem_push_cases}
 use Rattle.hs_link.specs.declared.board.View.{View}
 use Rattle.hs_link.specs.declared.board.View.TheVariants.{Sending, Laying, Receiving, Taking}
 use Rattle.hs_link.specs.Ring.{EntryOk, Knows, LinkRule, looked_to_put, did_put, looked_to_take, did_take}

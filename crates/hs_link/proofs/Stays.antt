@@ -5,7 +5,7 @@ use lib.ListN.{get_elem?}
 use lib.Seq.{set-get_or}
 use Rattle.atomic_table.specs.Table.{State, keeps, stepped}
 use Rattle.atomic_table.proofs.Lists.{at_set}
-use Rattle.hs_lists.proofs.Places.{elem_push_cases}
+use Rattle.hs_base.proofs.Places.{elem_push_cases}
 use Rattle.hs_link.specs.declared.board.View.{View}
 use Rattle.hs_link.specs.declared.board.View.TheVariants.{Nobody, Whole, Sending, Laying, Meeting, Receiving, Taking, TellsPut, TellsTaken}
 use Rattle.hs_link.specs.Ring.{Begins, Knows, LinkRule}

@@ -1,7 +1,7 @@
 -- The chunks that a client sent are told apart: those of a core by their pages, which count up, and those of two cores by their marks.
 use Rattle.std.proofs.Common.{◌≡◌, ℕ, ◌+◌, ◌<◌, ◌≤◌, List, [], ◌∷◌, ◌++◌, Option, Some, None, MatchOption, refl, sym, ap, arith, subst}
 use Rattle.hs_live.proofs.Prelude.{same_Some, option_to_list, AllByRecursion, ClientId, Operation, PoolEvent, Got, Empty, Answer, Buffer, handed, sent, Leased, PlainClient, Made, buffer_got, buffers_by, HasDone}
-use Rattle.hs_lists.proofs.Alls.{all_append, all_front, all_each, all_push}
+use Rattle.hs_base.proofs.Alls.{all_append, all_front, all_each, all_push}
 use Rattle.hs_records.specs.Pages.{PlainPage, pages_of}
 use Rattle.hs_words.specs.PoolHistory.{Given, Missed}
 use Rattle.hs_words.specs.Pools.{PoolName}

@@ -6,16 +6,16 @@ use Rattle.hs_records.specs.Plain as plain
 use Rattle.hs_records.specs.Records.{NumberedOperation, open_behind, pieces_until_end, coming}
 use Rattle.hs_client.specs.Core.{new_core, renewed_core}
 use Rattle.hs_client.proofs.Bare.{book_bare}
-use Rattle.hs_law_sends.specs.SoFar.{has_open_page}
-use Rattle.hs_law_sends.specs.Sending.{crumb_in, sent_crumbs, sent_triggers}
+use Rattle.hs_client.specs.SoFar.{has_open_page}
+use Rattle.hs_client.specs.Sending.{crumb_in, sent_crumbs, sent_triggers}
 use Rattle.hs_live.specs.Writing.{WritesEnd}
 use Rattle.hs_ring.specs.Parts.{Drawing, Refills}
 use Rattle.hs_live.proofs.Cuts.{draws_refilled}
-use Rattle.hs_law_sends.specs.OneMore.{next_behind, open_after, items_of}
-use Rattle.hs_law_sends.proofs.Adding.{page_more, at, unseen, begin_unseen, point_unseen, end_unseen, crumb_unseen, fire_unseen, begin_no_crumb, begin_no_trigger, point_no_crumb, point_no_trigger, end_no_crumb, end_no_trigger, coming_crumb, crumb_no_trigger, coming_fire, fire_no_crumb, trigger_of_fire}
-use Rattle.hs_law_sends.proofs.OneMore.{open_push}
-use Rattle.hs_lists.proofs.Options.{is_some_true, some_item}
-use Rattle.hs_lists.proofs.Alls.{all_each, all_everywhere}
+use Rattle.hs_client.specs.OneMore.{next_behind, open_after, items_of}
+use Rattle.hs_client.proofs.Adding.{page_more, at, unseen, begin_unseen, point_unseen, end_unseen, crumb_unseen, fire_unseen, begin_no_crumb, begin_no_trigger, point_no_crumb, point_no_trigger, end_no_crumb, end_no_trigger, coming_crumb, crumb_no_trigger, coming_fire, fire_no_crumb, trigger_of_fire}
+use Rattle.hs_client.proofs.OneMore.{open_push}
+use Rattle.hs_base.proofs.Options.{is_some_true, some_item}
+use Rattle.hs_base.proofs.Alls.{all_each, all_everywhere}
 use Rattle.hs_live.specs.declared.called.Called.{Called}
 use Rattle.hs_live.specs.declared.called.Called.TheVariants as called
 use Rattle.hs_live.specs.Calls.{IsNew, BeginsBy, EndsBy, RenewsBy, WritesOnly, begun, renewed, renewed_of, Renews}

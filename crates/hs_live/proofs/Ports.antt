@@ -3,7 +3,7 @@ use Rattle.std.proofs.Common.{◌≡◌, ℕ, ◌<◌, List, [], ◌∷◌, ◌+
 use Rattle.hs_live.proofs.Prelude.{map-append, length-map, same_Some, slice_get-map, slice_get_within, slice_get, option_map, lent, lent_is, lent_from, Held, Buffer, buffer_of, buffer_in, Outgoing, IsBeginning, OneBegins, Leased, Giving, Key, outgoing, incoming, IsEnd, IsMate, ReceivesAt, IsOf}
 use Rattle.std.proofs.lemmas.List.{set-get_or}
 use Rattle.std.specs.Prelude.{IfSome, IfNone}
-use Rattle.hs_lists.proofs.Places.{get_set_cases, map_set}
+use Rattle.hs_base.proofs.Places.{get_set_cases, map_set}
 use Rattle.hs_link.specs.Contents.{Incoming, IsSameReceiver, Contains}
 use Rattle.hs_live.specs.Live.{hears, is_told, MeetAt}
 use Rattle.hs_live.specs.Calls.{AreOf}

@@ -7,12 +7,12 @@ pub use Rattle.hs_base.specs.declared.told.Crumb.{Crumb}
 pub use Rattle.hs_base.specs.declared.told.Trigger.{Trigger}
 pub use Rattle.hs_client.specs.Calls.{after, AreSteps, IsBook, May, segments_of_steps, with_all}
 pub use Rattle.hs_client.specs.Core.{after_step, Began, closed, Core, Current, handed, CoreStep, supplied}
-pub use Rattle.hs_law_sends.proofs.Adding.{OneMore}
-pub use Rattle.hs_law_sends.specs.OneMore.{AreWatching}
-pub use Rattle.hs_law_sends.specs.Sending.{trigger_in}
+pub use Rattle.hs_client.proofs.Adding.{OneMore}
+pub use Rattle.hs_client.specs.OneMore.{AreWatching}
+pub use Rattle.hs_client.specs.Sending.{trigger_in}
 pub use Rattle.hs_link.specs.Contents.{IsBeginning, IsSameSender, OneBegins, Outgoing, sent}
-pub use Rattle.hs_lists.proofs.Lent.{lent, lent_from, lent_is}
-pub use Rattle.hs_lists.proofs.Parts.{option_to_list_short}
+pub use Rattle.hs_base.proofs.Lent.{lent, lent_from, lent_is}
+pub use Rattle.hs_base.proofs.Parts.{option_to_list_short}
 pub use Rattle.hs_live.specs.Calls.{IsOf, made_of}
 pub use Rattle.hs_live.specs.ClientInside.{live_of}
 pub use Rattle.hs_live.specs.Done.{Does, DoesNothing, HasDone}

@@ -7,9 +7,9 @@ use Rattle.hs_base.specs.declared.settings.AutoRule.{AutoRule}
 use Rattle.hs_auto.specs.Firing.{sampled}
 use Rattle.hs_auto.specs.Firing as firing
 use Rattle.hs_auto.specs.declared.sampled.Sampled.{Sampled}
-use Rattle.hs_law_sends.specs.Sending.{samples_of, trigger_of}
-use Rattle.hs_law_sends.proofs.Adding.{at}
-use Rattle.hs_law_sends.proofs.Sampling.{sample, fired_trigger, trigger_is, watches, coming_sample, sample_no_crumb}
+use Rattle.hs_client.specs.Sending.{samples_of, trigger_of}
+use Rattle.hs_client.proofs.Adding.{at}
+use Rattle.hs_client.proofs.Sampling.{sample, fired_trigger, trigger_is, watches, coming_sample, sample_no_crumb}
 use Rattle.hs_live.specs.declared.called.Called.TheVariants as called
 use Rattle.hs_live.proofs.Doing.{done_now}
 

@@ -11,11 +11,11 @@ use Rattle.hs_words.specs.Pages.{Sheet}
 use Rattle.hs_words.specs.PoolHistory.{Given, Missed}
 use Rattle.hs_client.specs.Core.{all_pages}
 use Rattle.hs_client.specs.Calls.{handed_out, open_trace, pages_of_steps, filled_chunks, sheet_for, note_of}
-use Rattle.hs_law_sends.specs.Timing.{TimedPage, timed_pages}
-use Rattle.hs_law_sends.specs.Drawn.{drawn_from, drawn_pages, has_buffer}
-use Rattle.hs_law_sends.specs.Sending.{Sent, sent_chunks}
-use Rattle.hs_law_sends.specs.Laws.{TimedPagesAreThePages}
-use Rattle.hs_law_sends.specs.OneMore.{open_after, items_of}
+use Rattle.hs_client.specs.Timing.{TimedPage, timed_pages}
+use Rattle.hs_client.specs.Drawn.{drawn_from, drawn_pages, has_buffer}
+use Rattle.hs_client.specs.Sending.{Sent, sent_chunks}
+use Rattle.hs_client.specs.Laws.{TimedPagesAreThePages}
+use Rattle.hs_client.specs.OneMore.{open_after, items_of}
 use Rattle.hs_live.specs.Writing.{draws_by}
 use Rattle.hs_live.specs.Done.{HasSent, HasSentAll}
 

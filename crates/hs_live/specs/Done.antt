@@ -13,10 +13,10 @@ use Rattle.hs_words.specs.Ends.{Answer}
 use Rattle.hs_words.specs.Pages.{Sheet}
 use Rattle.hs_words.specs.Buffers.{Buffer}
 use Rattle.hs_ring.specs.Parts.{Leased}
-use Rattle.hs_law_sends.specs.Drawn.{drawn_pages}
-use Rattle.hs_law_sends.specs.OneMore.{open_after, items_of, AreWatching}
-use Rattle.hs_law_sends.specs.SoFar.{has_open_page}
-use Rattle.hs_law_sends.specs.Sending.{sent_chunks, sent_crumbs, sent_triggers}
+use Rattle.hs_client.specs.Drawn.{drawn_pages}
+use Rattle.hs_client.specs.OneMore.{open_after, items_of, AreWatching}
+use Rattle.hs_client.specs.SoFar.{has_open_page}
+use Rattle.hs_client.specs.Sending.{sent_chunks, sent_crumbs, sent_triggers}
 use Rattle.hs_live.specs.declared.called.Called.{Called}
 use Rattle.hs_live.specs.declared.called.Called.TheVariants as called
 use Rattle.hs_live.specs.Live.{PlainClient}

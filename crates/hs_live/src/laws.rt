@@ -15,7 +15,7 @@ ghost use Rattle.hs_live.specs.Apart.{AreApart};
 ghost use Rattle.hs_live.specs.Done.{HasDone, HasSent, HasSentAll};
 
 use hs_client::any_steps_make_the_book;
-use hs_law_sends::laws::timed_pages_are_the_pages;
+use hs_client::sending_laws::timed_pages_are_the_pages;
 use hs_ring::Lease;
 
 /// What a client sent, noted and keeps follows from the operations that it has done and the draws that were answered.

@@ -4,7 +4,7 @@ use Rattle.hs_locked.proofs.Prelude.{some, some-injective, some-ne-none, get_ele
 use mathlib.Core.Option as maybe
 use Rattle.atomic_table.specs.Table.{gives}
 use Rattle.atomic_table.proofs.Lists.{at_longer, at_last}
-use Rattle.hs_lists.proofs.Counts.{count_cons}
+use Rattle.hs_base.proofs.Counts.{count_cons}
 use Rattle.hs_words.specs.Ends.{answered, got_by, empty_by, given_of, answer_to, Spends}
 use Rattle.hs_words.proofs.Deeds.{none_yet, answers_and}
 use Rattle.hs_words.proofs.Waiting.{waiting_below}

@@ -1,7 +1,7 @@
 -- Two ends hear of what the other knows, by notes. Notes change nothing but what seats know.
 use Rattle.std.proofs.Common.{◌≡◌, ℕ, ◌≤◌, List, [], ◌∷◌, ◌++◌, length, set, max, sym, ◌∙◌, arith}
 use Rattle.hs_locked.proofs.Prelude.{some, get_elem?, Splits, Joins, set_else, still_with, with_more, Plan, AtSeat, DrawerSeat, Hand, GiverSeat, Palm, Stand, View, nobody, drawing, giving, drawer_note, giver_note, giver_seat_after, Has, HasStore, all_left, Facts, DeskOk, PostOk, Knows, Kept, LockedRule}
-use Rattle.hs_lists.proofs.Numbers.{max_le}
+use Rattle.hs_base.proofs.Numbers.{max_le}
 use Rattle.hs_words.specs.Ends.{met, stamps_in}
 use Rattle.hs_locked.specs.Views.{with_floor}
 use Rattle.hs_locked.proofs.Updates.{left_set, left_and}

@@ -3,7 +3,7 @@ pub use Rattle.atomic_table.proofs.Lists.{at_set, set_else, set_here}
 pub use Rattle.atomic_table.specs.Seated.{TableId}
 pub use Rattle.atomic_table.specs.Table.{Allows, Joins, opening, Splits, step, stepped}
 pub use Rattle.hs_base.specs.declared.limits.TheConstants.{MOST_AHEAD}
-pub use Rattle.hs_lists.proofs.Places.{elem_push_cases}
+pub use Rattle.hs_base.proofs.Places.{elem_push_cases}
 pub use Rattle.hs_locked.specs.Making.{closed_giver_seat, IsMaking}
 pub use Rattle.hs_locked.specs.Rule.{DeskOk, Facts, first_giver_seat, first_view, gots_in, HandOk, home, InLine, Kept, Knows, LockedRule, out, OutOk, PalmOk, PostOk, Slot, SlotOk, SpotOk, StandOk, StoreOk}
 pub use Rattle.hs_locked.specs.Seats.{drawing_of, IsFree, MayTurn, PoolSeat, stand_of, StandsInside, StandsQueued}

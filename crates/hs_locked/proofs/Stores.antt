@@ -3,7 +3,7 @@ use Rattle.std.proofs.Common.{◌≡◌, ℕ, List, [], ◌∷◌, length, rever
 use Rattle.hs_locked.proofs.Prelude.{PoolEvent, Got, Empty, Given, Deed, events_of, is_any_got, queue_of, Tally, Plan, IsAfter, waiting, Store, GoesOn, StoreOk}
 use lib.ListN.{length-map}
 use Rattle.std.proofs.lemmas.List.{length-reverse, reverse-append, reverse-reverse}
-use Rattle.hs_lists.proofs.Counts.{count_cons as counted}
+use Rattle.hs_base.proofs.Counts.{count_cons as counted}
 use Rattle.hs_words.specs.PoolHistory.{Missed, is_empty, is_missed, queue_after, IsHistoryBack}
 use Rattle.hs_words.specs.Ends.{event_in, is_any_given, Counts}
 use Rattle.hs_words.proofs.Deeds.{stamp_is}

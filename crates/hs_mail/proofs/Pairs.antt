@@ -4,8 +4,8 @@ use Rattle.std.specs.Prelude.{nat_lt}
 use Rattle.std.specs.List.{AllByRecursion, Contains, find}
 use Rattle.std.proofs.lemmas.List.Elements.{All-from_recursion, All-contains, All-contains_itself, recursion_from_All, Contains-append_cases, filter_passes}
 use Rattle.std.proofs.lemmas.Bool.{cond_both, ltb-true, ltb-false, eqb-true, eqb-false}
-use Rattle.hs_lists.proofs.Alls.{all_each, all_each_both, all_push, all_filter, all_always, all_find, all_append}
-use Rattle.hs_lists.proofs.Filters.{find_passes}
+use Rattle.hs_base.proofs.Alls.{all_each, all_each_both, all_push, all_filter, all_always, all_find, all_append}
+use Rattle.hs_base.proofs.Filters.{find_passes}
 use Rattle.hs_outbox.specs.Queue.{Pending, Queue, Puts, HandsOut, Acknowledges, OffersAgain, with, may_put, is_numbered, is_handed_out, first_offered, has_number}
 use Rattle.hs_outbox.specs.Queue as queue
 use Rattle.hs_outbox.specs.Lives.{Rises, handed_out, not_handed_out}

@@ -6,7 +6,7 @@ use Rattle.std.proofs.lemmas.Bool.{cases_lt}
 use Rattle.std.proofs.lemmas.Bool.Decides.{Decides-ltb}
 use Rattle.std.proofs.lemmas.Grind.{flat_map-append}
 use Rattle.std.specs.List.{All, AllByRecursion, flat_map}
-use Rattle.hs_lists.proofs.Alls.{all_append}
+use Rattle.hs_base.proofs.Alls.{all_append}
 use Rattle.hs_base.specs.declared.ids.TraceId.{TraceId}
 use Rattle.hs_records.specs.Plain.{Operation, Begin, Point, Crumb, End, Sample}
 use Rattle.hs_records.specs.Records.{AreBracketed}

@@ -16,7 +16,7 @@ use Rattle.hs_records.specs.declared.setting.Setting.TheVariants as settings
 use Rattle.hs_records.specs.Settings.{least, most, setting_of}
 use Rattle.hs_records.specs.Validity.{IsClient, IsValid}
 use Rattle.rand_xoshiro.specs.Xoshiro256.{plus_plus}
-use Rattle.hs_lists.proofs.Alls.{all_append}
+use Rattle.hs_base.proofs.Alls.{all_append}
 use Rattle.hs_make.specs.Words.{Words, words_from, seeded_words, each_below}
 use Rattle.hs_make.specs.Made.{made_settings, made_workload, client_at, clients_at}
 use Rattle.hs_make.proofs.Sequences.{each_below-suc, length-each_below}

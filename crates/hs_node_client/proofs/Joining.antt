@@ -7,7 +7,7 @@ use Rattle.std.specs.List.{AllByRecursion}
 use Rattle.std.specs.Prelude.{replicate, slice_get, sum}
 use Rattle.hs_base.specs.declared.limits.TheConstants.{MOST_AHEAD, MOST_CLIENTS}
 use Rattle.hs_link.specs.Contents.{Incoming, AreNewEnds, Outgoing}
-use Rattle.hs_lists.proofs.Places.{get_push_cases, get_front, get_there, item_there}
+use Rattle.hs_base.proofs.Places.{get_push_cases, get_front, get_there, item_there}
 use Rattle.hs_live.specs.Calls.{IsOf, IsPort}
 use Rattle.hs_live.specs.Keys.{Key}
 use Rattle.hs_ring.proofs.Drawers.{new_drawers_length}

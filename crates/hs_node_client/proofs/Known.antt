@@ -11,7 +11,7 @@ use Rattle.hs_auto.specs.Watching.{Watch}
 use Rattle.hs_base.specs.Rules.{fired_by, is_declared}
 use Rattle.hs_base.specs.declared.ids.TriggerId.{TriggerId}
 use Rattle.hs_base.specs.declared.settings.TriggerRule.{TriggerRule}
-use Rattle.hs_lists.proofs.Places.{get_set, get_other}
+use Rattle.hs_base.proofs.Places.{get_set, get_other}
 use Rattle.hs_node_client.specs.Known.{AreDeclared}
 
 -- the autotrigger that fires what stands at its place

@@ -3,7 +3,7 @@ use Rattle.std.proofs.Common.{ℕ, ◌<◌, ◌≤◌, Bool, true, false, List, 
 use Rattle.std.specs.List.{AllByRecursion}
 use Rattle.hs_base.specs.declared.ids.TraceId.{TraceId}
 use Rattle.hs_link.specs.Contents.{sent}
-use Rattle.hs_lists.proofs.Alls.{all_push}
+use Rattle.hs_base.proofs.Alls.{all_push}
 use Rattle.hs_node_client.specs.Notes.{AreNumbered, AreRising, Notes}
 use Rattle.hs_node_client.specs.declared.notebook.Notebook.{Notebook}
 use Rattle.hs_node_client.specs.declared.paged.NextPage.{NextPage}

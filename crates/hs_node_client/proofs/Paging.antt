@@ -9,8 +9,8 @@ use Rattle.hs_base.specs.declared.limits.TheConstants.{HEADER_COST, PIECE_COST, 
 use Rattle.hs_base.specs.declared.ids.TraceId.{TraceId}
 use Rattle.hs_client.specs.Core.{CoreStep, Current, Began, Wrote, Needed, Supplied, Ended_, Refused, closed, draw_of, all_pages, piece, next_page, MaySupply}
 use Rattle.hs_client.specs.Calls.{AreSteps, May, after, next_number, segments_of_steps, with_all, draws_supplied, pages_of_steps, note_of}
-use Rattle.hs_law_sends.proofs.Adding.{page_more}
-use Rattle.hs_law_sends.specs.SoFar.{has_open_page}
+use Rattle.hs_client.proofs.Adding.{page_more}
+use Rattle.hs_client.specs.SoFar.{has_open_page}
 use Rattle.hs_live.proofs.Doing.{Books, book_of}
 use Rattle.hs_live.proofs.Steps.{made_size, made_renewed}
 use Rattle.hs_live.specs.Done.{HasSent}

@@ -8,9 +8,9 @@ use Rattle.hs_base.specs.declared.ids.ClientId.{ClientId}
 use Rattle.hs_base.specs.declared.ids.TraceId.{TraceId}
 use Rattle.hs_client.specs.Core.{handed}
 use Rattle.hs_client.specs.Calls.{segments_of_steps, with_all, pages_of_steps, filled, filled_chunks, sheet_for}
-use Rattle.hs_law_sends.specs.OneMore.{open_after}
+use Rattle.hs_client.specs.OneMore.{open_after}
 use Rattle.hs_link.specs.Contents.{sent}
-use Rattle.hs_lists.proofs.Alls.{all_append, all_each, all_front}
+use Rattle.hs_base.proofs.Alls.{all_append, all_each, all_front}
 use Rattle.hs_live.proofs.Doing.{Books, book_of}
 use Rattle.hs_live.proofs.Steps.{made_renewed}
 use Rattle.hs_live.specs.Writing.{buffers_by}

@@ -7,7 +7,7 @@ use Rattle.std.proofs.lemmas.List.{append-nil}
 use Rattle.std.proofs.lemmas.List.Sorted.{IsPermutation-refl, IsPermutation-trans, IsPermutation-append, IsPermutation-append_left, IsPermutation-filter_both, Contains-permutation}
 use Rattle.std.proofs.lemmas.List.Elements.{All-contains, Contains-append_left, Contains-append_cases, filter_passes}
 use Rattle.std.proofs.lemmas.Bool.{cond_both, leb-true, ltb-true, eqb-true, and_parts}
-use Rattle.hs_lists.proofs.Filters.{filter_few}
+use Rattle.hs_base.proofs.Filters.{filter_few}
 use Rattle.hs_outbox.specs.Queue.{Pending, Queue, OutboxAct, Puts, HandsOut, Acknowledges, OffersAgain, after, with, may_put, is_numbered, first_offered, has_number}
 use Rattle.hs_outbox.specs.Lives.{Rises, put_by, left_by, life, all_put, all_left}
 use Rattle.hs_outbox.proofs.Rising.{rises_behind, rises_filter}

@@ -5,7 +5,7 @@ use Rattle.std.specs.List.{All, AllByRecursion, Contains, find}
 use Rattle.std.proofs.lemmas.List.{append-nil}
 use Rattle.std.proofs.lemmas.List.Elements.{All-from_recursion, Contains-append_left, Contains-push}
 use Rattle.std.proofs.lemmas.Bool.{cond_both, ltb-true, eqb-true}
-use Rattle.hs_lists.proofs.Alls.{all_each, all_push, all_filter, all_always}
+use Rattle.hs_base.proofs.Alls.{all_each, all_push, all_filter, all_always}
 use Rattle.hs_outbox.specs.Queue.{Pending, Queue, OutboxAct, Puts, HandsOut, Acknowledges, OffersAgain, after, with, may_put, is_numbered, first_offered, has_number, empty}
 use Rattle.hs_outbox.specs.Lives.{Rises, life, IsAccounted}
 use Rattle.hs_outbox.proofs.Rising.{rises_bounds, parts_of}

@@ -2,7 +2,7 @@
 use Rattle.std.proofs.Common.{◌≡◌, ℕ, zero, suc, ◌<◌, ◌≤◌, ◌^◌, true, List, [], ◌∷◌, ◌++◌, length, Option, slice_get, get_or, refl, sym, ap, subst, ◌∙◌, arith}
 use Rattle.std.specs.List.{list_any, remove}
 use Rattle.std.proofs.lemmas.Bool.{cond-true, and_from, le-leb, lt-ltb}
-use Rattle.hs_lists.proofs.Parts.{length_map}
+use Rattle.hs_base.proofs.Parts.{length_map}
 use Rattle.hs_outbox.specs.Slots.{Written}
 use Rattle.hs_outbox.specs.Queue.{Pending, Queue, Puts, after, with, may_put, is_numbered, has_number}
 use Rattle.hs_outbox.specs.Lives.{Rises}

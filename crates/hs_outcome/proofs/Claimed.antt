@@ -6,9 +6,9 @@ use Rattle.std.proofs.Math.Bool.{or_self_left}
 use Rattle.std.proofs.lemmas.Bool.{or_from}
 use Rattle.std.proofs.lemmas.List.Sorted.{sum_by-IsPermutation}
 use Rattle.std.proofs.lemmas.List.Sums.{sum_by-cons}
-use Rattle.hs_lists.proofs.Bools.{or_swap}
+use Rattle.hs_base.proofs.Bools.{or_swap}
 use Rattle.hs_law_outcome.specs.Outcomes.{put_trace}
-use Rattle.hs_lists.proofs.Loops.{Joins}
+use Rattle.hs_base.proofs.Loops.{Joins}
 
 pub all_claimed_join : Joins all_claimed
 all_claimed_join xs ys = flat_map-append claimed_by xs ys

@@ -4,13 +4,13 @@ use Rattle.hs_outcome.proofs.Prelude.{option_map, slice_get, AllByRecursion, fla
 use Rattle.std.specs.Prelude.{unwrap_or}
 use Rattle.std.specs.List.{concat}
 use Rattle.std.proofs.lemmas.List.Concat.{concat_is}
-use Rattle.hs_lists.proofs.Alls.{all_append, all_front, all_back, all_at}
+use Rattle.hs_base.proofs.Alls.{all_append, all_front, all_back, all_at}
 use Rattle.hs_base.specs.declared.limits.TheConstants.{MIN_SIZE, MAX_SIZE, MAX_OPERATIONS, MAX_PAYLOAD}
 use Rattle.hs_client.specs.Calls.{sheet_for, written}
 use Rattle.hs_law_outcome.specs.CollectedReports.{IsClientsPage, ReportedPagesAreOfClients}
 use Rattle.hs_records.specs.Records.{AreBracketed}
-use Rattle.hs_law_sends.specs.Laws.{PagesFit, TimedPagesAreThePages}
-use Rattle.hs_law_sends.specs.Timing.{TimedPage, timed_pages}
+use Rattle.hs_client.specs.Laws.{PagesFit, TimedPagesAreThePages}
+use Rattle.hs_client.specs.Timing.{TimedPage, timed_pages}
 use Rattle.hs_words.specs.Chunks.{used_of}
 use Rattle.hs_words.specs.Pages.{FitsPiece}
 use Rattle.hs_records.specs.declared.setting.Setting.TheVariants as settings
@@ -22,10 +22,10 @@ use Rattle.hs_records.specs.Pages.{PlainPage, first_record, pages_of}
 use Rattle.hs_records.specs.Plain.{Operation, Begin, Point, Crumb, End, Fire, Sample, PlainSettings}
 use Rattle.hs_records.specs.Records.{Record, Piece, open_behind, numbered_from, record_in, record_at, records_of, record_pieces, payload_pieces, piece_count}
 use Rattle.hs_records.specs.Laws.{CarriesRecords, CarryRecords, PagesHoldThePieces, traces_of, pieces_of_records, pieces_on}
-use Rattle.hs_law_sends.specs.Sending.{operations_at, place_of}
+use Rattle.hs_client.specs.Sending.{operations_at, place_of}
 use Rattle.hs_base.specs.Ids.{trace_digits}
 use Rattle.hs_records.specs.Validity.{operation_pieces, IsOperation, IsClient, HasDigits, client_pieces, workload_pieces}
-use Rattle.hs_lists.proofs.Places.{place_at}
+use Rattle.hs_base.proofs.Places.{place_at}
 
 -- ---- the client at a place
 

@@ -15,11 +15,11 @@ use Rattle.hs_law_agent.specs.Standings.{Taken}
 use Rattle.hs_law_agent.specs.State.{ClaimedTrace}
 use Rattle.hs_law_outcome.specs.Outcomes.{client_book, claimed_at, reported_at}
 use Rattle.hs_law_outcome.specs.Readable.{JournalsHaveTheShape}
-use Rattle.hs_law_sends.specs.Sending.{draws_at}
+use Rattle.hs_client.specs.Sending.{draws_at}
 use Rattle.hs_outcome.specs.declared.outcome.Books.{Books}
 use Rattle.hs_outcome.specs.Journals.{journal_by}
 use Rattle.hs_outcome.specs.Outcomes.{AreBooksOf}
-use Rattle.hs_lists.proofs.Places.{place_at}
+use Rattle.hs_base.proofs.Places.{place_at}
 
 -- ---- lists by their places
 

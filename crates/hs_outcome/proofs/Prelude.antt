@@ -5,8 +5,8 @@ pub use Rattle.hs_collect.specs.Collected.{AreCollected, CanBeAdded, first_seen}
 pub use Rattle.hs_collect.specs.Views.{Sheets}
 pub use Rattle.hs_law_outcome.specs.Outcomes.{outcome_of, rising_traces}
 pub use Rattle.hs_law_outcome.specs.Records.{all_records}
-pub use Rattle.hs_lists.proofs.Bools.{first_true, second_true}
-pub use Rattle.hs_lists.proofs.Filters.{filter_weaker}
+pub use Rattle.hs_base.proofs.Bools.{first_true, second_true}
+pub use Rattle.hs_base.proofs.Filters.{filter_weaker}
 pub use Rattle.hs_outcome.specs.Claims.{all_claimed, claimed_by}
 pub use Rattle.hs_outcome.specs.Pages.{all_sent, AreRead, bytes_of, Note, note_of, noted, sent_by, SpellAll, Traces, with_trace}
 pub use Rattle.hs_outcome.specs.declared.pages.Reported.{Reported}

@@ -7,7 +7,7 @@ use Rattle.std.proofs.lemmas.List.Sorted.{list_any-IsPermutation}
 use Rattle.std.proofs.lemmas.Map.Keys.{apart_from_distinct}
 use Rattle.std.proofs.lemmas.Option.{get_or_from_slice_get, slice_get-get_or}
 use Rattle.hs_collect.specs.Collected.{is_of}
-use Rattle.hs_lists.proofs.Filters.{filter_whole}
+use Rattle.hs_base.proofs.Filters.{filter_whole}
 use Rattle.hs_outcome.proofs.Seen.{is_trace, is_other, seen_once, seen_of_page}
 
 -- whether a page names its trace by this place

@@ -6,13 +6,13 @@ use Rattle.std.specs.List.{All, swap}
 use Rattle.std.specs.Option.{option_map_or}
 use Rattle.std.proofs.lemmas.List.{map-set, get_or-map}
 use Rattle.std.proofs.lemmas.List.Sorted.{All-permutation, IsPermutation-swap, IsPermutation-keeps, IsPermutation-map}
-use Rattle.hs_lists.proofs.Filters.{filter_mapped}
+use Rattle.hs_base.proofs.Filters.{filter_mapped}
 use Rattle.hs_collect.specs.Collected.{is_by}
 use Rattle.hs_law_outcome.proofs.Origins.{same_client}
 use Rattle.hs_outcome.specs.Pages.{AreReported, Reordered}
 use Rattle.hs_outcome.proofs.Rising.{PutsEarlierFirst, same_place, seen_as_before}
 use Rattle.hs_outcome.proofs.Seen.{is_trace, seen_once}
-use Rattle.hs_lists.proofs.Stable.{stable_keeps}
+use Rattle.hs_base.proofs.Stable.{stable_keeps}
 
 -- pages have bytes of their own
 abbrev pub HaveOwnBytes : Type 0

@@ -3,7 +3,7 @@ use Rattle.std.proofs.Common.{◌≡◌, ◌==◌, Bool, true, false, not, ◌||
 use Rattle.hs_outcome.proofs.Prelude.{AllByRecursion, filter, list_any, IsDistinct, nat_tests, filter-append, recursion_from_All, All-from_recursion, All-filter, filter_weaker, TraceId, first_seen, Sheets, Sheet, Traces, with_trace}
 use Rattle.std.proofs.lemmas.List.Elements.{filter_passes}
 use Rattle.hs_collect.specs.Collected.{is_of}
-use Rattle.hs_lists.proofs.Filters.{any_filtered}
+use Rattle.hs_base.proofs.Filters.{any_filtered}
 
 abbrev pub is_trace : TraceId → TraceId → Bool
 is_trace trace other = trace.0 == other.0

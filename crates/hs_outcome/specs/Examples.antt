@@ -3,7 +3,7 @@
 use Rattle.std.specs.Prelude.{◌≡◌, ℕ, List, [], ◌∷◌, ◌++◌, None, length, map, refl}
 use Rattle.std.proofs.Common.{ap, arith}
 use Rattle.std.specs.List.{Any}
-use Rattle.hs_lists.proofs.Alls.{all_one}
+use Rattle.hs_base.proofs.Alls.{all_one}
 use Rattle.hs_base.specs.Listing.{listing}
 use Rattle.hs_base.specs.declared.ids.RecordId.{RecordId}
 use Rattle.hs_base.specs.declared.ids.TraceId.{TraceId}
@@ -20,7 +20,7 @@ use Rattle.hs_law_journal.specs.Workloads.{trigger_first, short_of_pins}
 use Rattle.hs_law_outcome.specs.Outcomes.{outcome_of}
 use Rattle.hs_law_outcome.specs.Records.{all_records}
 use Rattle.hs_records.specs.Plain.{PlainWorkload}
-use Rattle.hs_law_sends.specs.Samples.{settings, on_nodes, workload, fire, segment}
+use Rattle.hs_client.specs.Samples.{settings, on_nodes, workload, fire, segment}
 use Rattle.hs_words.specs.Pages.{Sheet}
 use Rattle.hs_outcome.specs.declared.outcome.Outcome.{Outcome}
 use Rattle.hs_outcome.specs.Outcomes.{IsOutcome}

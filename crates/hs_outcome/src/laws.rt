@@ -2,8 +2,8 @@
 
 ghost use Rattle.hs_outcome.specs.Fitting.{RecordsAreFew, ReportedPagesArePages};
 
+use hs_client::sending_laws::{pages_fit, timed_pages_are_the_pages};
 use hs_law_outcome::laws::reported_pages_are_of_clients;
-use hs_law_sends::laws::{pages_fit, timed_pages_are_the_pages};
 use hs_records::{
     pages_carry_the_records, pages_hold_the_pieces, pieces_are_counted, pieces_join_to_the_payload,
 };

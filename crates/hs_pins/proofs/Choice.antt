@@ -2,7 +2,7 @@
 use Rattle.std.proofs.Common.{◌≡◌, ℕ, ◌<◌, ◌≤◌, Bool, true, false, cond, List, [], ◌∷◌, length, map, Option, Some, None, IsSome, refl, sym, ap, subst, ◌∙◌, arith, inl, inr, true≢false}
 use Rattle.hs_pins.proofs.Prelude.{◌⊎◌, ◌==◌, filter, option_map_or, option_and_then, AllByRecursion, lookup, keys_of, IsTotalOrder, Ordering, Less, Equal, Greater, nat_cmp, ordering_then, ordering_reverse, is_le, nat_cmp_total, on_total, then_total, tied_itself, sorted_head, exact_unsigned, lt-ltb, eqb-true, eq-eqb, all_each, TriggerId, TriggerRule, Group, Buffer, Priority, priority_cmp, priority_of, same_priority, group_at, group_cmp, least, id_cmp, fullest_id, least_of_id, next_to_go, Groups, Queues, groups_of, count_in, IsFullest, Pin, pin_for, pins_for, pins_under, chunks_at, HasLanes, HasQueues}
 use Rattle.std.proofs.lemmas.Cmp.{back_total}
-use Rattle.hs_lists.proofs.Alls.{all_mapped, all_always}
+use Rattle.hs_base.proofs.Alls.{all_mapped, all_always}
 use Rattle.hs_pins.specs.Abandoning as abandoning
 use Rattle.hs_pins.specs.Abandoning.{count_of_id}
 use Rattle.hs_pins.proofs.Order.{group_total, priority_laws, priority_exact, same_exact, group_exact}

@@ -1,8 +1,8 @@
 -- What a node remembers once a group was forgotten.
 use Rattle.std.proofs.Common.{◌≡◌, Bool, true, false, cond, not, ◌||◌, List, [], ◌∷◌, length, map, Option, Some, None, unwrap_or, refl, sym, ap, subst, ◌∙◌, arith, true≢false, eqb}
 use Rattle.hs_pins.proofs.Prelude.{filter, is_some, lookup, list_any, AllByRecursion, length-map, Group, Buffer, Claim, Remembered, IsSound, is_for, pins_for, pins_under, pin_for, is_abandoned, is_declared, same_trace, same_group, priority_of, same_priority, mark_of, same_mark, Mark, Groups, chunks_of, HaveChunks, Queues, groups_of, Remembers, HasQueues, chunks_at, rule_of, moments_of}
-use Rattle.hs_lists.proofs.Alls.{all_filter}
-use Rattle.hs_lists.proofs.Filters.{any_filtered}
+use Rattle.hs_base.proofs.Alls.{all_filter}
+use Rattle.hs_base.proofs.Filters.{any_filtered}
 use Rattle.hs_pins.specs.Remembered.{AreApart, is_of_group, forgot}
 use Rattle.hs_pins.specs.PinsLayout.{Buckets, Pinning, MatchBucket, HasMarks, bucket_in}
 use Rattle.hs_pins.proofs.GroupLemmas.{some-found}

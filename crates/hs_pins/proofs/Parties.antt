@@ -4,8 +4,8 @@ use Rattle.std.proofs.lemmas.Bool.{eqb-false}
 use Rattle.std.proofs.Math.Bool.{or-true}
 use Rattle.std.proofs.Math.Numerals.{lt_of_le_of_ne}
 use Rattle.std.specs.Map.Calls.{RetainsPairs}
-use Rattle.hs_lists.proofs.Bools.{by_answer}
-use Rattle.hs_lists.proofs.Numbers.{nat_eq_below, nat_eq_above}
+use Rattle.hs_base.proofs.Bools.{by_answer}
+use Rattle.hs_base.proofs.Numbers.{nat_eq_below, nat_eq_above}
 use Rattle.hs_pins.proofs.Prelude.{◌==◌, filter, eqb-true, eq-eqb, TraceId, ClaimNote, Group, Claim, same_group, party_at, claim_from, AreNoted, AreNamed, is_named, lookup, set_value, same_trace}
 use Rattle.hs_pins.specs.declared.claims.Party.{Party}
 use Rattle.hs_pins.specs.Remembered.{is_of_group}

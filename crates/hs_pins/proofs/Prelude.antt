@@ -9,8 +9,8 @@ pub use Rattle.hs_base.specs.declared.limits.TheConstants.{TOKEN}
 pub use Rattle.hs_base.specs.declared.node_set.NodeSet.{NodeSet}
 pub use Rattle.hs_base.specs.declared.settings.TriggerRule.{TriggerRule}
 pub use Rattle.hs_base.specs.declared.told.Group.{Group}
-pub use Rattle.hs_lists.proofs.Alls.{all_each}
-pub use Rattle.hs_lists.proofs.Bools.{bool_same}
+pub use Rattle.hs_base.proofs.Alls.{all_each}
+pub use Rattle.hs_base.proofs.Bools.{bool_same}
 pub use Rattle.hs_pins.specs.Abandoning.{fullest_id, going, id_cmp, least_of_id, leaving, next_to_go, relieved, staying}
 pub use Rattle.hs_pins.specs.Buckets.{attempted, BucketState, fresh_bucket, level_found}
 pub use Rattle.hs_pins.specs.Choosing.{least, ordered_by, put_by}

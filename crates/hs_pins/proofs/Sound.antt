@@ -2,8 +2,8 @@
 use Rattle.std.proofs.Common.{◌≡◌, ℕ, ◌+◌, ◌<◌, ◌≤◌, ◌^◌, Bool, true, false, not, cond, List, [], ◌∷◌, ◌++◌, length, map, Option, Some, None, refl, subst, ◌∙◌, arith, length-append}
 use Rattle.hs_pins.proofs.Prelude.{option_map_or, AllByRecursion, length-map, NodeId, TraceId, TriggerId, NodeSet, TriggerRule, Group, with_node, is_declared, same_trace, Buffer, Claim, Pin, Remembered, IsSound, is_claim_of, claim_of, with_crumb, pin_for, is_for, without_group, without_first, tried_at, claimed, with_pin, crumbed, leaving, staying, relieved, next_of, taken}
 use Rattle.std.proofs.lemmas.Cmp.{nat_eq_equiv}
-use Rattle.hs_lists.proofs.Alls.{all_push, all_append, all_filter}
-use Rattle.hs_lists.proofs.Filters.{filter_few}
+use Rattle.hs_base.proofs.Alls.{all_push, all_append, all_filter}
+use Rattle.hs_base.proofs.Filters.{filter_few}
 use Rattle.hs_pins.specs.Remembered.{AreApart}
 
 -- ---- claims

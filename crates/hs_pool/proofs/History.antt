@@ -5,7 +5,7 @@ use Rattle.std.specs.List.{list_any, range_with_len}
 use Rattle.std.proofs.lemmas.List.{reverse-append}
 use Rattle.std.proofs.lemmas.List.Sums.{sum_by-cons, sum_by-append}
 use Rattle.std.proofs.lemmas.Bool.{cases_lt}
-use Rattle.hs_lists.proofs.Counts.{count_cons}
+use Rattle.hs_base.proofs.Counts.{count_cons}
 use Rattle.hs_words.specs.PoolHistory.{PoolEvent, Got, Empty, Given, Missed, is_got, is_given, queue_after, MayFollow, IsHistoryBack}
 pub use Rattle.hs_words.proofs.Waiting.{is}
 use Rattle.hs_words.proofs.Waiting.{balance, none_above, once_within, at_most_one}

@@ -9,7 +9,7 @@ use borrow.Author.Tests.{eqb-true, ne_eqb}
 use Rattle.std.specs.List.{list_any, range_with_len, IsDistinct, AllByRecursion}
 use Rattle.std.proofs.lemmas.Map.Keys.{IsDistinct-push, IsDistinct-tail}
 use Rattle.std.proofs.lemmas.Map.Steps.{length-le_from_distinct_below}
-use Rattle.hs_lists.proofs.Alls.{all_push}
+use Rattle.hs_base.proofs.Alls.{all_push}
 use Rattle.hs_words.specs.Chunks.{Contents, clear_chunk, with_page}
 use Rattle.hs_words.specs.PoolHistory.{Got, Empty, Given, queue_after}
 use Rattle.hs_pool.specs.declared.plain.PlainPool.TheInside.{Inside}

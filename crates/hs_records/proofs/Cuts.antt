@@ -6,7 +6,7 @@ use Rattle.std.proofs.lemmas.List.{append-nil}
 use Rattle.std.proofs.lemmas.Bool.{le-leb, leb-true}
 use Rattle.std.proofs.lemmas.Bool.Decides.{nat_tests}
 use Rattle.std.specs.List.{concat}
-use Rattle.hs_lists.proofs.Numbers.{nat_le_false}
+use Rattle.hs_base.proofs.Numbers.{nat_le_false}
 use Rattle.hs_base.specs.declared.limits.TheConstants.{MIN_SIZE}
 use Rattle.hs_records.specs.Records.{piece_limit, cut_within, payload_pieces, count_cuts, piece_count}
 use Rattle.hs_records.specs.Laws.{AreFullButLast}

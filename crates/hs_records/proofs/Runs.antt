@@ -2,7 +2,7 @@
 use Rattle.std.proofs.Common.{◌≡◌, ℕ, zero, suc, ◌+◌, ◌<◌, ◌≤◌, true, false, cond, nat_le, List, [], ◌∷◌, ◌++◌, length, take, drop, map, refl, sym, ap, ap₂, ◌∙◌, subst, arith, one-add, length-append}
 use Rattle.std.proofs.lemmas.Bool.{le-leb}
 use Rattle.std.proofs.lemmas.Bool.Decides.{nat_tests}
-use Rattle.hs_lists.proofs.Parts.{drop_front}
+use Rattle.hs_base.proofs.Parts.{drop_front}
 use Rattle.hs_records.specs.Records.{Piece}
 use Rattle.hs_records.specs.Fronts.{count_beside}
 use Rattle.hs_records.specs.Pages.{cost_of, page_room, fits, runs_within, runs_of}

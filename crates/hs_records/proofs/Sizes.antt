@@ -7,8 +7,8 @@ use Rattle.hs_records.specs.Plain.{PlainWorkload, Operation, PlainSettings, Begi
 use Rattle.hs_records.specs.Records.{AreBracketed}
 use Rattle.hs_records.specs.Validity.{IsValid, IsClient, client_pieces, operation_pieces}
 use Rattle.hs_records.specs.Views.{operations_of}
-use Rattle.hs_lists.proofs.Alls.{all_each}
-use Rattle.hs_lists.proofs.Places.{sliced, unwrap_map}
+use Rattle.hs_base.proofs.Alls.{all_each}
+use Rattle.hs_base.proofs.Places.{sliced, unwrap_map}
 use Rattle.hs_base.specs.Listing.{Listing}
 use Rattle.hs_records.specs.declared.setting.Setting.TheVariants as settings
 use Rattle.hs_records.specs.declared.operation.Op.{Op}

@@ -3,9 +3,9 @@ use Rattle.std.proofs.Common.{◌≡◌, ℕ, zero, suc, ◌+◌, ◌*◌, ◌/�
 use Rattle.hs_replay.proofs.Prelude.{div-mul-add, eqb-true, map-append, slice_get_within, range_with_len, range_append, take_whole, suc_le, NodeId, Message, Messages, PlainCoordinator, HasTaken, ClientId, PlainAgentBook, PlainClientBook, agent_book_of, client_book_of, PlainJournal, ClientBook, is_left_bare, NodeRun, Run, followed, Machine, lockstep, heard_in, MachinesAreWhole, book_of, client_book, PlainWorkload, draws_at, operations_at, place_of, AllClosed, HasEnded, IsBookAt, client_noted, PlainReplayNode}
 use Rattle.std.proofs.Math.Nat.{mul-add-mod_self_right, mod-eq_of_lt}
 use Rattle.std.proofs.lemmas.List.{nil_from_length}
-use Rattle.hs_lists.proofs.Tests.{list_all_at}
-use Rattle.hs_lists.proofs.Bools.{second_true}
-use Rattle.hs_lists.proofs.Places.{take_more}
+use Rattle.hs_base.proofs.Tests.{list_all_at}
+use Rattle.hs_base.proofs.Bools.{second_true}
+use Rattle.hs_base.proofs.Places.{take_more}
 use Rattle.hs_client.specs.Calls.{note_of}
 use Rattle.hs_records.specs.declared.books.AgentBook.{AgentBook}
 use Rattle.hs_law_outcome.specs.Outcomes.{client_at, client_books, agent_books}

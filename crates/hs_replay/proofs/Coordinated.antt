@@ -2,9 +2,9 @@
 use Rattle.std.proofs.Common.{◌≡◌, ℕ, zero, suc, ◌+◌, ◌-◌, ◌<◌, ◌≤◌, min, Bool, true, false, cond, List, [], ◌∷◌, ◌++◌, length, replicate, take, refl, sym, ap, subst, ◌∙◌, Option, Some, None, arith, slice_get, count_by, eqb, eqb-true, append-nil}
 use Rattle.hs_replay.proofs.Prelude.{AllByRecursion, flat_map, option_and_then, same_Some, take_whole, count_push, MAX_TAKEN, NodeId, Message, Messages, PlainCoordinator, PlainWorkload, is_from, NodeRun, Run, message_of, followed, Machine, heard_in, after_names, StepByStep, MachinesAreWhole, message_named, HasHeard, AllAt, name_of, waiting, HearsNode, HeardUpTo, PlainReplayNode, NodeIsHeard}
 use Rattle.std.proofs.lemmas.Grind.{flat_map-append}
-use Rattle.hs_law_lockstep.specs.Lockstep.{told_of, coordinator_hears}
-use Rattle.hs_law_lockstep.specs.Parts.{CoordinatorHearsSo}
-use Rattle.hs_law_lockstep.specs.Reaching.{Hears}
+use Rattle.hs_law_run.specs.Lockstep.{told_of, coordinator_hears}
+use Rattle.hs_law_run.specs.Parts.{CoordinatorHearsSo}
+use Rattle.hs_law_run.specs.Reaching.{Hears}
 
 -- ---- lists
 

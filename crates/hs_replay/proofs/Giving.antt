@@ -2,13 +2,13 @@
 use Rattle.std.proofs.Common.{◌≡◌, ℕ, zero, suc, ◌+◌, ◌-◌, ◌<◌, ◌≤◌, ◌^◌, Bool, true, false, List, [], ◌∷◌, ◌++◌, length, map, take, reverse, Option, Some, None, inl, inr, refl, sym, ap, subst, ◌∙◌, arith, option_map, append-nil, slice_get, IsSome, count_by}
 use Rattle.hs_replay.proofs.Prelude.{◌↔◌, range_with_len, option_and_then, cases_lt, same_Some, PlainAgent, take_whole, all_at, all_each, sheet_in, Follows, Knows, after_offer, offered_next, state_of, Step, Asks, taken, asks_to, is_from, NodeRun, event_of, perform, page_of, pool_history, taken_still, Machine, agents_give, heard_in, AgentsGiveSo, after_steps, StepByStep, EventsGoOn, EventsAddThis, StepsSayWhatTheyTell, sheets_of, AgentState, AgentEvent, after_event, Pool, IsAfter, PlainWorkload, DrawnPage, Buffer, Sheet, Told, PlainReplayNode, StandsStill, IsGiving, Remain, ReplayClientsStand, NodeIsAt, IsLent, run_of}
 use Rattle.std.proofs.lemmas.List.{length-drop}
-use Rattle.hs_lists.proofs.Parts.{length_map}
+use Rattle.hs_base.proofs.Parts.{length_map}
 use Rattle.hs_agent.specs.Placing.{place_of}
 use Rattle.hs_agent.specs.Runs.{AgentRun, first_place}
 use Rattle.hs_records.specs.declared.journal.Step.TheVariants as steps
 use Rattle.hs_law_journal.specs.Pooled.{buffer_of, pool_events}
-use Rattle.hs_law_lockstep.specs.Lockstep.{give_steps}
-use Rattle.hs_law_lockstep.specs.Parts.{GivesNext, AgentGives}
+use Rattle.hs_law_run.specs.Lockstep.{give_steps}
+use Rattle.hs_law_run.specs.Parts.{GivesNext, AgentGives}
 use Rattle.hs_law_agent.specs.Standings.{Taken}
 use Rattle.hs_law_agent.specs.Stepping.{Gave, Given}
 use Rattle.hs_pool.specs.Pool.{IsGiven, IsOut, HasSize}

@@ -3,14 +3,14 @@ use Rattle.std.proofs.Common.{◌≡◌, ℕ, zero, suc, ◌+◌, ◌*◌, ◌<�
 use Rattle.hs_replay.proofs.Prelude.{range_with_len, option_and_then, same_Some, slice_get-get_or, slice_get_within, Listing, MachinesAreWhole, Op, operation_of, length-map-range_with_len, suc_le, get_set_cases, map_range_from, all_each, PlainJournal, sheet_in, ClientId, ChangesAt, Messages, Draw, Chunks, Crumbs, Triggers, Asks, taken, asks_to, is_from, NodeRun, followed, page_of, pool_history, Machine, done_at, client_goes, ClientGoes, ClientsGoSo, ReplayClientIsAt, IsWithin, PlainReplayClient, Pool, IsAfter, PlainWorkload, DrawnPage, ClientSends, client_sends, node_sends, draws_at, operations_at, place_of, Buffer, Sheet, PoolEvent, node_goes, AreOf, PlainReplayNode, StandsStill, Remain, ReplayClientStands, ReplayClientsStand, IsLent, NodeIsAt}
 use Rattle.std.proofs.lemmas.Bool.{cases_eq}
 use Rattle.hs_base.specs.declared.settings.Settings.{Settings}
-use Rattle.hs_law_lockstep.specs.Reaching.{Goes}
+use Rattle.hs_law_run.specs.Reaching.{Goes}
 use Rattle.hs_base.specs.declared.limits.TheConstants.{MAX_OPERATIONS}
 use Rattle.hs_law_journal.specs.Pooled.{buffer_of, event_drawn}
-use Rattle.hs_law_lockstep.specs.Lockstep.{next_draws}
-use Rattle.hs_law_lockstep.specs.Parts.{next_done, next_drawn, next_pages, sending}
+use Rattle.hs_law_run.specs.Lockstep.{next_draws}
+use Rattle.hs_law_run.specs.Parts.{next_done, next_drawn, next_pages, sending}
 use Rattle.hs_replay_client.specs.Places.{Goes as PlayerGoes, KeepsPool, Went}
-use Rattle.hs_law_sends.specs.Drawn.{drawn_from, drawn_pages}
-use Rattle.hs_law_sends.specs.Timing.{TimedPage, timed_pages}
+use Rattle.hs_client.specs.Drawn.{drawn_from, drawn_pages}
+use Rattle.hs_client.specs.Timing.{TimedPage, timed_pages}
 use Rattle.hs_words.specs.PoolHistory.{queue_after}
 use Rattle.hs_replay.specs.Going.{IsOneOf}
 

@@ -7,7 +7,7 @@ use Rattle.hs_base.specs.NodeSets.{has_node}
 use Rattle.hs_coord.specs.Following.{message, first_of, is_newly_asked, AreAsks}
 use Rattle.hs_coord.specs.declared.asks.Asks.{Asks}
 use Rattle.hs_law_journal.specs.Following.{Asks as AskQueue, ask_by}
-use Rattle.hs_law_lockstep.specs.Conditions.{MachinesTellWithin}
+use Rattle.hs_law_run.specs.Conditions.{MachinesTellWithin}
 use Rattle.hs_law_agent.specs.Leading.{IsToldBelow}
 use Rattle.hs_records.specs.declared.setting.Setting.TheVariants as settings
 use Rattle.hs_replay.specs.Hearing.{with_told, TellsNext, asked_by, IsHeardOut}

@@ -4,12 +4,12 @@ use Rattle.hs_replay.proofs.Prelude.{length-map-range_with_len, eqb-true, cases_
 use Rattle.hs_replay.proofs.Readying.{sends_there}
 use Rattle.std.proofs.lemmas.Bool.{and_from, and_parts}
 use Rattle.std.specs.Prelude.{IsTrue, unwrap_or}
-use Rattle.hs_lists.proofs.Bools.{bool_same}
-use Rattle.hs_lists.proofs.Places.{zipped_at}
+use Rattle.hs_base.proofs.Bools.{bool_same}
+use Rattle.hs_base.proofs.Places.{zipped_at}
 use Rattle.hs_law_journal.specs.Ends.{took_all}
 use Rattle.hs_replay_client.specs.Places.{TellsLeft, TellsBare}
-use Rattle.hs_law_sends.specs.Sending.{sent_within}
-use Rattle.hs_law_sends.specs.SoFar.{AllChunksAreSent, AllCrumbsAreSent, AllTriggersAreSent}
+use Rattle.hs_client.specs.Sending.{sent_within}
+use Rattle.hs_client.specs.SoFar.{AllChunksAreSent, AllCrumbsAreSent, AllTriggersAreSent}
 use Rattle.hs_records.specs.Records.{AreBracketed}
 use Rattle.hs_records.specs.Validity.{IsClient}
 use Rattle.hs_records.specs.declared.setting.Setting.TheVariants as settings

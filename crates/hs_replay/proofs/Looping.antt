@@ -3,7 +3,7 @@ use Rattle.std.proofs.Common.{◌≡◌, ℕ, zero, suc, ◌+◌, ◌-◌, ◌�
 use Rattle.hs_replay.proofs.Prelude.{ne_eqb, flat_map, range_with_len, option_and_then, one_if, MAX_TAKEN, Step, NodeRun, takes, taken, Machine, heard_in, after_steps, StepByStep, PlainWorkload, Queue, PlainReplayNode, IsAmid, IsDrained, WentBy, TookOne, TookSome, TakesNext, takes_by, takes_first, step_from, IsQueueOf}
 use Rattle.hs_records.specs.declared.journal.Step.TheVariants as steps
 use Rattle.hs_law_journal.specs.Following as following
-use Rattle.hs_law_lockstep.proofs.Items.{taken_both}
+use Rattle.hs_law_run.proofs.Items.{taken_both}
 use Rattle.hs_replay.specs.declared.queue.Queue.TheVariants as queues
 use Rattle.hs_replay.specs.Passing.{sent_to, takes_of_client}
 use Rattle.hs_replay.specs.Queues.{queue_of}

@@ -6,7 +6,7 @@ use Rattle.std.proofs.Math.Nat.{suc-mul}
 use Rattle.std.proofs.lemmas.List.Sums.{fold-append}
 use Rattle.hs_base.specs.declared.limits.TheConstants.{MAX_CLIENTS}
 use Rattle.hs_law_journal.proofs.Workloads.{place_low}
-use Rattle.hs_law_lockstep.specs.Reaching as reaching
+use Rattle.hs_law_run.specs.Reaching as reaching
 use Rattle.hs_records.specs.Views.{operations_of}
 use Rattle.hs_records.specs.declared.setting.Setting.TheVariants as settings
 use Rattle.hs_records.proofs.Sizes.{few_nodes, product_few, last_low, operations_sliced}

@@ -2,8 +2,8 @@
 use Rattle.std.proofs.Common.{◌≡◌, ℕ, zero, suc, ◌+◌, List, [], ◌∷◌, ◌++◌, length, map, zip, Some, refl, sym, ap, subst, ◌∙◌}
 use Rattle.hs_replay.proofs.Prelude.{flat_map, range_with_len, same_Some, Messages, Step, NodeRun, followed, pool_history, Machine, done_at, agents_take, heard_in, AgentsTakeSo, after_steps, PlainWorkload, ClientSends, client_sends, place_of, PoolEvent, PlainReplayNode, IsAmid, WentBy, StandsStill, takes_by, takes_first, NodeIsAt, ReplayNodeStands}
 use Rattle.hs_records.specs.declared.journal.Step.TheVariants as steps
-use Rattle.hs_law_lockstep.specs.Lockstep.{with_steps, takes_of, takes_all, pass_steps}
-use Rattle.hs_law_lockstep.specs.Parts.{AgentTakes}
+use Rattle.hs_law_run.specs.Lockstep.{with_steps, takes_of, takes_all, pass_steps}
+use Rattle.hs_law_run.specs.Parts.{AgentTakes}
 use Rattle.hs_replay.specs.declared.queue.Queue.TheVariants as queues
 use Rattle.hs_replay.proofs.Looping.{takes_in_pass}
 

@@ -23,22 +23,22 @@ pub use Rattle.hs_law_journal.specs.Ends.{is_left_bare, rounds_of}
 pub use Rattle.hs_law_journal.specs.Following.{Asks, asks_to, Chunks, Crumbs, event_of, followed, is_from, message_of, NodeRun, perform, Run, taken, takes, Triggers}
 pub use Rattle.hs_law_journal.specs.Performing.{after_names, after_steps, StepByStep}
 pub use Rattle.hs_law_journal.specs.Pooled.{page_of, pool_history}
-pub use Rattle.hs_law_lockstep.proofs.Standing.{message_named}
-pub use Rattle.hs_law_lockstep.specs.Ending.{AllDone, behind_rounds, HasClosing, passed}
-pub use Rattle.hs_law_lockstep.specs.Lockstep.{agents_give, agents_take, client_goes, clients_go, done_at, lockstep, Machine, machine_start, rounds}
-pub use Rattle.hs_law_lockstep.specs.Parts.{AgentsGiveSo, AgentsTakeSo, ClientGoes, ClientsGoSo, heard_in, node_at}
-pub use Rattle.hs_law_lockstep.specs.Reaching.{IsReached, MachinesAreWhole, MachinesStartSo, Takes}
+pub use Rattle.hs_law_run.proofs.Standing.{message_named}
+pub use Rattle.hs_law_run.specs.Ending.{AllDone, behind_rounds, HasClosing, passed}
+pub use Rattle.hs_law_run.specs.Lockstep.{agents_give, agents_take, client_goes, clients_go, done_at, lockstep, Machine, machine_start, rounds}
+pub use Rattle.hs_law_run.specs.Parts.{AgentsGiveSo, AgentsTakeSo, ClientGoes, ClientsGoSo, heard_in, node_at}
+pub use Rattle.hs_law_run.specs.Reaching.{IsReached, MachinesAreWhole, MachinesStartSo, Takes}
 pub use Rattle.hs_law_outcome.specs.Outcomes.{client_book}
-pub use Rattle.hs_law_sends.specs.Drawn.{DrawnPage}
-pub use Rattle.hs_law_sends.specs.Sending.{client_sends, ClientSends, draws_at, node_sends, operations_at, place_of}
-pub use Rattle.hs_lists.proofs.Alls.{all_at, all_each}
-pub use Rattle.hs_lists.proofs.Counts.{count_push, one_if}
-pub use Rattle.hs_lists.proofs.Lent.{indexed, lent_from, lent_is}
-pub use Rattle.hs_lists.proofs.Numbers.{suc_le}
-pub use Rattle.hs_lists.proofs.Parts.{take_whole}
-pub use Rattle.hs_lists.proofs.Places.{get_mid, get_push_cases, get_set_cases, get_there, item_there}
-pub use Rattle.hs_lists.proofs.Ranges.{map_range_from, range_append}
-pub use Rattle.hs_lists.proofs.Tests.{list_all_by_place, list_all_fails}
+pub use Rattle.hs_client.specs.Drawn.{DrawnPage}
+pub use Rattle.hs_client.specs.Sending.{client_sends, ClientSends, draws_at, node_sends, operations_at, place_of}
+pub use Rattle.hs_base.proofs.Alls.{all_at, all_each}
+pub use Rattle.hs_base.proofs.Counts.{count_push, one_if}
+pub use Rattle.hs_base.proofs.Lent.{indexed, lent_from, lent_is}
+pub use Rattle.hs_base.proofs.Numbers.{suc_le}
+pub use Rattle.hs_base.proofs.Parts.{take_whole}
+pub use Rattle.hs_base.proofs.Places.{get_mid, get_push_cases, get_set_cases, get_there, item_there}
+pub use Rattle.hs_base.proofs.Ranges.{map_range_from, range_append}
+pub use Rattle.hs_base.proofs.Tests.{list_all_by_place, list_all_fails}
 pub use Rattle.hs_pool.specs.Pool.{IsAfter, Pool}
 pub use Rattle.hs_records.specs.Books.{agent_book_of, client_book_of, PlainAgentBook, PlainClientBook}
 pub use Rattle.hs_records.specs.Journals.{PlainJournal}

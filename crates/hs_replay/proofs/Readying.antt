@@ -6,7 +6,7 @@ use Rattle.hs_law_journal.specs.Following.{Queue, next_of}
 use Rattle.hs_law_journal.specs.Pooled.{buffer_of as buffer_in_draw}
 use Rattle.hs_replay_client.specs.Places.{IsChunkAt}
 use Rattle.hs_replay_client.specs.ReplayClients.{Unleased}
-use Rattle.hs_law_sends.specs.Sending.{Sent}
+use Rattle.hs_client.specs.Sending.{Sent}
 use Rattle.hs_replay.proofs.Counting.{taken_once}
 
 -- ---- clients

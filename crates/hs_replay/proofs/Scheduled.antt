@@ -4,9 +4,9 @@ use Rattle.hs_replay.proofs.Prelude.{range_with_len, cases_lt, slice_get_within,
 use Rattle.std.proofs.Math.Nat.{div-add-mod, div-lt_iff_lt-mul, mod-lt, mul_comm}
 use Rattle.hs_law_journal.specs.Ends.{is_bare}
 use Rattle.hs_law_journal.specs.Played.{played}
-use Rattle.hs_law_lockstep.specs.Ending.{HasRounds}
-use Rattle.hs_law_lockstep.specs.Lockstep.{passes, round}
-use Rattle.hs_law_lockstep.specs.Reaching as reaching
+use Rattle.hs_law_run.specs.Ending.{HasRounds}
+use Rattle.hs_law_run.specs.Lockstep.{passes, round}
+use Rattle.hs_law_run.specs.Reaching as reaching
 use Rattle.hs_law_journal.proofs.Workloads.{place_low}
 use Rattle.hs_replay.proofs.Others.{gone, clients_are, all_still}
 

@@ -2,12 +2,12 @@
 use Rattle.std.proofs.Common.{◌≡◌, ℕ, ◌+◌, ◌<◌, ◌^◌, List, [], ◌∷◌, ◌++◌, map, Option, Some, None, sym, ap, subst, ◌∙◌, option_map, append_assoc, count_by}
 use Rattle.hs_replay.proofs.Prelude.{map-append, AllByRecursion, option_and_then, all_each, Input, PlainAgent, sheet_in, Follows, Knows, Told, Messages, Step, Asks, taken, asks_to, is_from, NodeRun, event_of, perform, Machine, heard_in, after_steps, StepByStep, EventsGoOn, EventsAddThis, StepsSayWhatTheyTell, sheets_of, AgentState, AgentEvent, Took, after_event, PlainSettings, PlainWorkload, Buffer, Sheet, PlainReplayNode, IsAmid, IsReady, IsThere, TookOne, WentBy, step_from, Queue, Remain, ReplayClientsStand, ReplayAgentStands, IsLent, run_of}
 use Rattle.std.specs.Option.{option_to_list}
-use Rattle.hs_lists.proofs.Alls.{all_append}
+use Rattle.hs_base.proofs.Alls.{all_append}
 use Rattle.hs_agent.specs.declared.input.Input.TheVariants as inputs
 use Rattle.hs_agent.specs.Runs.{IsTakable, after_input, buffers_in, input_of, point_of, told_in}
 use Rattle.hs_agent.proofs.Brought.{sheets_brought}
 use Rattle.hs_law_journal.specs.Fitting.{MayTake}
-use Rattle.hs_law_lockstep.specs.Conditions.{MachinesFit}
+use Rattle.hs_law_run.specs.Conditions.{MachinesFit}
 use Rattle.hs_law_agent.specs.Stepping.{after, told_by}
 use Rattle.hs_replay.specs.Passing.{FitsChunk}
 

@@ -7,10 +7,10 @@ use Rattle.hs_records.specs.Plain.{PlainWorkload}
 use Rattle.hs_records.specs.Validity.{IsValid}
 use Rattle.hs_law_journal.specs.Ends.{is_bare}
 use Rattle.hs_law_journal.specs.Played.{played}
-use Rattle.hs_law_lockstep.specs.Ending.{AllDone}
-use Rattle.hs_law_lockstep.specs.Lockstep.{Machine, client_goes, lockstep}
-use Rattle.hs_law_lockstep.specs.Parts.{heard_in}
-use Rattle.hs_law_lockstep.specs.Reaching.{IsReached}
+use Rattle.hs_law_run.specs.Ending.{AllDone}
+use Rattle.hs_law_run.specs.Lockstep.{Machine, client_goes, lockstep}
+use Rattle.hs_law_run.specs.Parts.{heard_in}
+use Rattle.hs_law_run.specs.Reaching.{IsReached}
 use Rattle.hs_replay.specs.Parts.{PlainReplayNode}
 use Rattle.hs_replay.specs.Standing.{NodeIsHeard, NodeIsAt}
 

@@ -8,7 +8,7 @@ use Rattle.hs_coord.specs.declared.asks.Asks.{Asks}
 use Rattle.hs_law_journal.specs.Following.{takes, followed}
 use Rattle.hs_law_journal.specs.Journals.{of_trigger_first}
 use Rattle.hs_law_journal.specs.Workloads.{trigger_first, short_of_pins}
-use Rattle.hs_law_lockstep.specs.Lockstep.{machine_start}
+use Rattle.hs_law_run.specs.Lockstep.{machine_start}
 use Rattle.hs_records.specs.declared.journal.Step.TheVariants as steps
 use Rattle.hs_replay.specs.All.{clients_gone}
 use Rattle.hs_replay.specs.declared.queue.Queue.TheVariants as queues

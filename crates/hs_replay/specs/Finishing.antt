@@ -3,14 +3,14 @@ use Rattle.std.specs.Prelude.{◌≡◌, ℕ, List, [], length, map, slice_get, 
 use Rattle.hs_client.specs.Calls.{note_of}
 use Rattle.hs_records.specs.Books.{PlainClientBook, PlainAgentBook}
 use Rattle.hs_law_journal.specs.Following.{NodeRun}
-use Rattle.hs_law_lockstep.specs.Lockstep.{Machine}
-use Rattle.hs_law_lockstep.specs.Parts.{node_at}
+use Rattle.hs_law_run.specs.Lockstep.{Machine}
+use Rattle.hs_law_run.specs.Parts.{node_at}
 use Rattle.hs_law_agent.specs.Books.{book_of}
 use Rattle.hs_replay_client.specs.Places.{ReplayClientIsAt}
 use Rattle.hs_replay_client.specs.ReplayClients.{PlainReplayClient}
 use Rattle.hs_records.specs.Pages.{pages_of}
 use Rattle.hs_records.specs.Plain.{PlainWorkload}
-use Rattle.hs_law_sends.specs.Sending.{draws_at, operations_at, place_of}
+use Rattle.hs_client.specs.Sending.{draws_at, operations_at, place_of}
 use Rattle.hs_replay.specs.Left.{IsNodeDone}
 use Rattle.hs_replay.specs.Parts.{PlainReplayNode}
 use Rattle.hs_replay.specs.Standing.{NodeIsAt}

@@ -3,9 +3,9 @@ use Rattle.std.specs.Prelude.{◌≡◌, ℕ, ◌*◌, ◌<◌, List, map, lengt
 use Rattle.std.specs.List.{range_with_len}
 use Rattle.hs_base.specs.Listing.{Listing}
 use Rattle.hs_base.specs.declared.settings.Settings.{Settings}
-use Rattle.hs_law_lockstep.specs.Lockstep.{Machine, client_goes}
+use Rattle.hs_law_run.specs.Lockstep.{Machine, client_goes}
 use Rattle.hs_records.specs.Plain.{PlainWorkload, settings_of}
-use Rattle.hs_law_sends.specs.Sending.{operations_at, place_of}
+use Rattle.hs_client.specs.Sending.{operations_at, place_of}
 use Rattle.hs_records.specs.declared.operation.Op.{Op}
 use Rattle.hs_records.specs.Views.{operation_of, operations_of}
 

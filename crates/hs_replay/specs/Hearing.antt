@@ -11,8 +11,8 @@ use Rattle.hs_coord.specs.Kept.{PlainCoordinator}
 use Rattle.hs_coord.specs.declared.asks.Asks.{Asks}
 use Rattle.hs_records.specs.Plain.{PlainWorkload}
 use Rattle.hs_law_journal.specs.Following.{NodeRun, is_from, message_of, followed}
-use Rattle.hs_law_lockstep.specs.Lockstep.{Machine, told_of}
-use Rattle.hs_law_lockstep.specs.Parts.{node_at, heard_in}
+use Rattle.hs_law_run.specs.Lockstep.{Machine, told_of}
+use Rattle.hs_law_run.specs.Parts.{node_at, heard_in}
 use Rattle.hs_law_journal.specs.Performing.{after_names}
 use Rattle.hs_replay.specs.All.{AllHeard}
 use Rattle.hs_replay.specs.Parts.{PlainReplayNode}

@@ -4,9 +4,9 @@ use Rattle.std.specs.List.{range_with_len, list_all}
 use Rattle.hs_base.specs.Listing.{Listing}
 use Rattle.hs_law_journal.specs.Ends.{took_all}
 use Rattle.hs_law_journal.specs.Following.{NodeRun}
-use Rattle.hs_law_lockstep.specs.Lockstep.{Machine, done_at}
+use Rattle.hs_law_run.specs.Lockstep.{Machine, done_at}
 use Rattle.hs_records.specs.Plain.{PlainWorkload}
-use Rattle.hs_law_sends.specs.Sending.{ClientSends, operations_at, place_of}
+use Rattle.hs_client.specs.Sending.{ClientSends, operations_at, place_of}
 use Rattle.hs_records.specs.declared.operation.Op.{Op}
 use Rattle.hs_records.specs.Views.{operations_of}
 

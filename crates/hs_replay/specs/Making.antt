@@ -2,11 +2,11 @@
 use Rattle.std.specs.Prelude.{◌≡◌, ℕ, ◌<◌, List, [], length, slice_get, Some}
 use Rattle.hs_base.specs.Listing.{Listing}
 use Rattle.hs_base.specs.declared.settings.Settings.{Settings}
-use Rattle.hs_law_lockstep.specs.Lockstep.{machine_start}
+use Rattle.hs_law_run.specs.Lockstep.{machine_start}
 use Rattle.hs_replay_client.specs.Places.{ReplayClientIsAt}
 use Rattle.hs_replay_client.specs.ReplayClients.{PlainReplayClient}
 use Rattle.hs_records.specs.Plain.{PlainWorkload}
-use Rattle.hs_law_sends.specs.Sending.{operations_at, place_of}
+use Rattle.hs_client.specs.Sending.{operations_at, place_of}
 use Rattle.hs_records.specs.declared.operation.Op.{Op}
 use Rattle.hs_records.specs.Validity.{IsValid}
 use Rattle.hs_replay.specs.Going.{AreOf}

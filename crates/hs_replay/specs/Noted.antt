@@ -7,7 +7,7 @@ use Rattle.hs_records.specs.Books.{agent_book_of, client_book_of}
 use Rattle.hs_law_journal.specs.Following.{followed}
 use Rattle.hs_law_journal.specs.Samples.{chunk, turn}
 use Rattle.hs_law_journal.specs.Workloads.{one_point}
-use Rattle.hs_law_lockstep.specs.Lockstep.{lockstep}
+use Rattle.hs_law_run.specs.Lockstep.{lockstep}
 use Rattle.hs_law_outcome.specs.Outcomes.{client_books, agent_books}
 use Rattle.hs_records.specs.Plain.{PlainWorkload}
 use Rattle.hs_replay.specs.declared.books.NotedBooks.{NotedBooks}

@@ -7,13 +7,13 @@ use Rattle.hs_agent.specs.Runs.{IsChunkFor, input_of}
 use Rattle.hs_records.specs.declared.journal.Step.{Step}
 use Rattle.hs_law_journal.specs.Following.{NodeRun, event_of, taken, asks_to}
 use Rattle.hs_law_journal.specs.Pooled.{pool_history}
-use Rattle.hs_law_lockstep.specs.Lockstep.{Machine, done_at, takes_from, give_steps}
-use Rattle.hs_law_lockstep.specs.Parts.{node_at, heard_in}
+use Rattle.hs_law_run.specs.Lockstep.{Machine, done_at, takes_from, give_steps}
+use Rattle.hs_law_run.specs.Parts.{node_at, heard_in}
 use Rattle.hs_law_journal.specs.Performing.{after_steps}
-use Rattle.hs_law_lockstep.specs.Reaching.{IsReached}
+use Rattle.hs_law_run.specs.Reaching.{IsReached}
 use Rattle.hs_law_agent.specs.Stepping.{Took, step_of}
 use Rattle.hs_records.specs.Plain.{PlainSettings, PlainWorkload}
-use Rattle.hs_law_sends.specs.Sending.{client_sends, place_of, sent_within}
+use Rattle.hs_client.specs.Sending.{client_sends, place_of, sent_within}
 use Rattle.hs_words.specs.Buffers.{buffer_of}
 use Rattle.hs_records.specs.Validity.{IsValid}
 use Rattle.hs_replay.specs.declared.queue.Queue.{Queue}

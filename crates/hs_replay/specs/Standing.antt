@@ -11,8 +11,8 @@ use Rattle.hs_coord.specs.Following.{Messages}
 use Rattle.hs_records.specs.declared.journal.Step.{Step}
 use Rattle.hs_law_journal.specs.Following.{Chunks, Crumbs, Triggers, Asks, taken, asks_to, is_from, NodeRun}
 use Rattle.hs_law_journal.specs.Pooled.{buffer_of, page_of, pool_history}
-use Rattle.hs_law_lockstep.specs.Lockstep.{Machine, done_at}
-use Rattle.hs_law_lockstep.specs.Parts.{node_at, heard_in}
+use Rattle.hs_law_run.specs.Lockstep.{Machine, done_at}
+use Rattle.hs_law_run.specs.Parts.{node_at, heard_in}
 use Rattle.hs_law_agent.specs.Laws.{sheets_of}
 use Rattle.hs_law_agent.specs.State.{start}
 use Rattle.hs_law_agent.specs.Stepping.{after}
@@ -20,8 +20,8 @@ use Rattle.hs_replay_client.specs.Places.{ReplayClientIsAt}
 use Rattle.hs_replay_client.specs.ReplayClients.{PlainReplayClient}
 use Rattle.hs_pool.specs.Pool.{Pool, IsAfter, HasSize}
 use Rattle.hs_records.specs.Plain.{PlainSettings, PlainWorkload}
-use Rattle.hs_law_sends.specs.Drawn.{DrawnPage}
-use Rattle.hs_law_sends.specs.Sending.{draws_at, node_sends, operations_at, place_of}
+use Rattle.hs_client.specs.Drawn.{DrawnPage}
+use Rattle.hs_client.specs.Sending.{draws_at, node_sends, operations_at, place_of}
 use Rattle.hs_words.specs.Buffers.{Buffer}
 use Rattle.hs_words.specs.PoolHistory.{PoolEvent}
 use Rattle.hs_replay.specs.Parts.{PlainReplayNode}

@@ -3,8 +3,8 @@
 ghost use Rattle.std.specs.Prelude.{◌≡◌, ℕ, ◌<◌, length, OnOk};
 ghost use Rattle.hs_law_journal.specs.Ends.{is_bare};
 ghost use Rattle.hs_law_journal.specs.Played.{played};
-ghost use Rattle.hs_law_lockstep.specs.Ending.{AllDone};
-ghost use Rattle.hs_law_lockstep.specs.Lockstep.{Machine, agents_take, agents_give, clients_go, passes};
+ghost use Rattle.hs_law_run.specs.Ending.{AllDone};
+ghost use Rattle.hs_law_run.specs.Lockstep.{Machine, agents_take, agents_give, clients_go, passes};
 ghost use Rattle.hs_records.specs.Plain.{PlainWorkload};
 ghost use Rattle.hs_records.specs.Views.{workload_of};
 ghost use Rattle.hs_replay.specs.All.{AllAt, NodesAt, NodesBetween, TellsLeft};
@@ -18,7 +18,7 @@ use crate::coordinator::coordinate;
 use crate::node::ReplayNode;
 use hs_base::{List, Memory};
 use hs_coord::Coordinator;
-use hs_law_lockstep::laws::{
+use hs_law_run::lockstep_laws::{
     agents_give_so, agents_take_so, clients_go_so, machines_are_whole, machines_lead_on,
 };
 use hs_records::Workload;

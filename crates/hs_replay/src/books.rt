@@ -8,7 +8,7 @@ ghost use Rattle.hs_replay.specs.Noted.{AreNoted};
 
 use crate::node::ReplayNode;
 use hs_base::{List, Memory};
-use hs_law_lockstep::laws::machines_are_whole;
+use hs_law_run::lockstep_laws::machines_are_whole;
 use hs_records::{AgentBook, ClientBook};
 use std::alloc::Global;
 

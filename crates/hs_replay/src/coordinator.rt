@@ -4,7 +4,7 @@ ghost use Rattle.std.specs.Prelude.{◌≡◌, ℕ, ◌<◌, ◌≤◌, length, 
 ghost use Rattle.hs_base.specs.declared.limits.TheConstants.{MAX_NODES};
 ghost use Rattle.hs_coord.specs.Following.{Messages};
 ghost use Rattle.hs_records.specs.Plain.{PlainWorkload};
-ghost use Rattle.hs_law_lockstep.specs.Lockstep.{Machine, coordinator_hears};
+ghost use Rattle.hs_law_run.specs.Lockstep.{Machine, coordinator_hears};
 ghost use Rattle.hs_replay.specs.All.{AllHeard, AllAt};
 ghost use Rattle.hs_base.specs.Changing.{ChangesAt};
 ghost use Rattle.hs_replay.specs.Hearing.{TellsNext, with_ask, asked_by, AreAsked, HearsNext, HearsNode};
@@ -14,7 +14,7 @@ use hs_base::limits::MAX_TAKEN;
 use hs_base::{Ask, List, Memory, NodeId, Told};
 use hs_coord::{Asks, Coordinator};
 use hs_law_journal::laws::step_by_step;
-use hs_law_lockstep::laws::{
+use hs_law_run::lockstep_laws::{
     coordinator_hears_so, machines_are_whole, machines_lead_on, machines_tell_within,
 };
 

@@ -4,7 +4,7 @@ ghost use Rattle.std.specs.Prelude.{◌≡◌, ℕ, [], ◌++◌, map, None, IfO
 ghost use Rattle.std.specs.List.{range_with_len};
 ghost use Rattle.hs_agent.specs.Runs.{Follows, Knows, AgentRun, state_of};
 ghost use Rattle.hs_records.specs.Books.{agent_book_of, client_book_of};
-ghost use Rattle.hs_law_lockstep.specs.Lockstep.{Machine};
+ghost use Rattle.hs_law_run.specs.Lockstep.{Machine};
 ghost use Rattle.hs_agent.specs.Points.{book_kept};
 ghost use Rattle.hs_records.specs.Plain.{PlainWorkload};
 ghost use Rattle.hs_replay.specs.Finishing.{HasEnded, HaveEnded, IsBookAt, client_noted};

@@ -3,8 +3,8 @@
 ghost use Rattle.std.specs.Prelude.{◌≡◌, ℕ, Some};
 ghost use Rattle.hs_law_journal.specs.Ends.{is_left_bare};
 ghost use Rattle.hs_law_journal.specs.Following.{NodeRun, followed};
-ghost use Rattle.hs_law_lockstep.specs.Lockstep.{Machine};
-ghost use Rattle.hs_law_lockstep.specs.Parts.{node_at};
+ghost use Rattle.hs_law_run.specs.Lockstep.{Machine};
+ghost use Rattle.hs_law_run.specs.Parts.{node_at};
 ghost use Rattle.hs_records.specs.Plain.{PlainWorkload};
 ghost use Rattle.hs_replay.specs.Left.{HasClients, IsNodeDone, TellsNodeLeft, are_clients_bare};
 ghost use Rattle.hs_replay.specs.Passing.{StandsStill};
@@ -12,8 +12,8 @@ ghost use Rattle.hs_replay.specs.Standing.{NodeIsAt};
 
 use crate::node::ReplayNode;
 use hs_base::List;
-use hs_law_lockstep::laws::machines_are_whole;
-use hs_law_sends::laws::all_is_sent_in_the_end;
+use hs_client::sending_laws::all_is_sent_in_the_end;
+use hs_law_run::lockstep_laws::machines_are_whole;
 use hs_records::Op;
 
 impl ReplayNode {

@@ -1,5 +1,5 @@
 //! The replay of a workload on one thread, by the lockstep schedule: nodes with their pools, clients and agents, what waits between these
-//! and the coordinator, and the rounds of them all (`docs/RULES.md`, "Schedules"). A node follows the machine of `hs_law_lockstep`.
+//! and the coordinator, and the rounds of them all (`docs/RULES.md`, "Schedules"). A node follows the machine of `hs_law_run`.
 #![tactic(auto)]
 
 mod all;

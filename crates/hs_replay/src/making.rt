@@ -1,7 +1,7 @@
 //! A node at its beginning.
 
 ghost use Rattle.std.specs.Prelude.{IfOk};
-ghost use Rattle.hs_law_lockstep.specs.Lockstep.{machine_start};
+ghost use Rattle.hs_law_run.specs.Lockstep.{machine_start};
 ghost use Rattle.hs_records.specs.Plain.{PlainWorkload};
 ghost use Rattle.hs_replay.specs.Making.{IsNewNode, AreNew};
 ghost use Rattle.hs_replay.specs.Standing.{NodeIsAt};
@@ -9,8 +9,8 @@ ghost use Rattle.hs_replay.specs.Standing.{NodeIsAt};
 use crate::node::ReplayNode;
 use hs_agent::Agent;
 use hs_base::{ClientId, List, Memory, NodeId, Settings};
-use hs_law_lockstep::laws::machines_start_so;
-use hs_law_sends::laws::valid_clients_may_be_played;
+use hs_client::sending_laws::valid_clients_may_be_played;
+use hs_law_run::lockstep_laws::machines_start_so;
 use hs_pool::PlainPool;
 use hs_records::Op;
 use hs_replay_client::ReplayClient;

@@ -2,7 +2,7 @@
 
 ghost use Rattle.std.specs.Prelude.{◌≡◌, ℕ, ◌+◌, ◌^◌, ◌<◌, map, [], ◌∷◌, ◌++◌, length, set, slice_get, Some, None, IfOk, OnOk, MatchBool};
 ghost use Rattle.hs_law_journal.specs.Following.{NodeRun, perform};
-ghost use Rattle.hs_law_lockstep.specs.Lockstep.{Machine, agents_take, agents_give, client_goes};
+ghost use Rattle.hs_law_run.specs.Lockstep.{Machine, agents_take, agents_give, client_goes};
 ghost use Rattle.hs_replay.specs.Standing.{NodeIsAt};
 ghost use Rattle.hs_law_agent.specs.Stepping.{Took};
 ghost use Rattle.hs_agent.specs.Runs.{input_of};
@@ -11,7 +11,7 @@ ghost use Rattle.hs_records.specs.declared.journal.Step.TheVariants.{Turn};
 ghost use Rattle.hs_records.specs.Plain.{PlainWorkload};
 ghost use Rattle.hs_words.specs.Buffers.{buffer_in};
 ghost use Rattle.hs_replay_client.specs.ReplayClients.{PlainReplayClient};
-ghost use Rattle.hs_law_sends.specs.Sending.{place_of};
+ghost use Rattle.hs_client.specs.Sending.{place_of};
 ghost use Rattle.hs_records.specs.Views.{operation_of};
 ghost use Rattle.hs_replay.specs.Going.{node_goes, AreOf, IsOneOf};
 ghost use Rattle.hs_replay_client.specs.Places.{IsWithin, Goes, KeepsPool, TakesChunk, TakesCrumb, TakesTrigger};
@@ -26,7 +26,7 @@ use hs_base::limits::{MAX_OPERATIONS, MAX_TAKEN};
 use hs_base::{Ask, AutoRule, Crumb, List, Memory, Settings, Told, Trigger};
 use hs_law_agent::laws::{events_add_this, events_go_on, steps_say_what_they_tell};
 use hs_law_journal::laws::step_by_step;
-use hs_law_lockstep::laws::{
+use hs_law_run::lockstep_laws::{
     agents_give_so, agents_take_so, clients_go_so, machines_are_whole, machines_fit,
 };
 use hs_pool::{PlainPool, what_is_out_may_be_given};

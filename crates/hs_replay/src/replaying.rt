@@ -1,7 +1,7 @@
 //! The replay.
 
 ghost use Rattle.std.specs.Prelude.{IfOk};
-ghost use Rattle.hs_law_lockstep.specs.Lockstep.{lockstep};
+ghost use Rattle.hs_law_run.specs.Lockstep.{lockstep};
 ghost use Rattle.hs_outcome.specs.Outcomes.{AreBooksOf, IsOutcome};
 ghost use Rattle.hs_records.specs.Validity.{IsValid};
 ghost use Rattle.hs_records.specs.Views.{workload_of};
@@ -10,7 +10,7 @@ use crate::books::{NotedBooks, books_of};
 use crate::schedule::{close, rounds};
 use crate::start::{make_coordinator, make_nodes};
 use hs_base::{List, Memory};
-use hs_law_lockstep::laws::{machines_are_whole, schedule_is_lawful};
+use hs_law_run::lockstep_laws::{machines_are_whole, schedule_is_lawful};
 use hs_outcome::{Books, Outcome, gather};
 use hs_records::Workload;
 use std::alloc::Global;

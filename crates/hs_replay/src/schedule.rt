@@ -1,8 +1,8 @@
 //! The rounds of a replay, and its closing.
 
 ghost use Rattle.std.specs.Prelude.{OnOk};
-ghost use Rattle.hs_law_lockstep.specs.Ending.{behind_rounds};
-ghost use Rattle.hs_law_lockstep.specs.Lockstep.{machine_start};
+ghost use Rattle.hs_law_run.specs.Ending.{behind_rounds};
+ghost use Rattle.hs_law_run.specs.Lockstep.{machine_start};
 ghost use Rattle.hs_records.specs.Views.{workload_of};
 ghost use Rattle.hs_replay.specs.All.{AllAt, AllClosed};
 
@@ -10,7 +10,7 @@ use crate::all::{has_left, is_bare, pass, play_all};
 use crate::node::ReplayNode;
 use hs_base::{List, Memory};
 use hs_coord::Coordinator;
-use hs_law_lockstep::laws::{clients_go_so, closing_ends, machines_are_whole, rounds_end};
+use hs_law_run::lockstep_laws::{clients_go_so, closing_ends, machines_are_whole, rounds_end};
 use hs_records::Workload;
 
 /// All rounds, as long as operations are left: the clients' turns, the agents' passes, and the coordinator's.

@@ -1,7 +1,7 @@
 //! All nodes of a replay and its coordinator, where nothing was done.
 
 ghost use Rattle.std.specs.Prelude.{◌<◌, ℕ, IfOk};
-ghost use Rattle.hs_law_lockstep.specs.Lockstep.{machine_start};
+ghost use Rattle.hs_law_run.specs.Lockstep.{machine_start};
 ghost use Rattle.hs_records.specs.Validity.{IsValid};
 ghost use Rattle.hs_records.specs.Views.{workload_of};
 ghost use Rattle.hs_replay.specs.All.{AllAt, NodesAt};
@@ -10,7 +10,7 @@ ghost use Rattle.hs_replay.specs.Standing.{NodeIsAt};
 use crate::node::ReplayNode;
 use hs_base::{List, Memory};
 use hs_coord::Coordinator;
-use hs_law_lockstep::laws::machines_start_so;
+use hs_law_run::lockstep_laws::machines_start_so;
 use hs_records::Workload;
 use std::alloc::Global;
 

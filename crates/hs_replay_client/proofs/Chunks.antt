@@ -3,9 +3,9 @@ use Rattle.std.proofs.Common.{◌≡◌, ℕ, zero, suc, Bool, true, false, List
 use Rattle.hs_replay_client.proofs.Prelude.{slice_get-map, same_Some, slice_get, nat_lt, option_map, flat_map, get_front, ClientId, Draw, Operation, PlainSettings, DrawnPage, ChunksAreInOrder, Sent, sends_of, sent_within, timed_pages, Contents, clear_chunk, Unleased, IsPlayable, chunk_of, chunks_within}
 use Rattle.std.specs.Prelude.{if◌then◌else◌}
 use Rattle.hs_records.specs.declared.journal.Draw.TheVariants as noted
-use Rattle.hs_law_sends.specs.Drawn.{has_buffer}
-use Rattle.hs_law_sends.specs.Sending.{sent_chunks, sheet_of}
-use Rattle.hs_law_sends.proofs.Order.{page_at}
+use Rattle.hs_client.specs.Drawn.{has_buffer}
+use Rattle.hs_client.specs.Sending.{sent_chunks, sheet_of}
+use Rattle.hs_client.proofs.Order.{page_at}
 use Rattle.hs_words.specs.Chunks.{with_page}
 use Rattle.hs_words.specs.Pages.{Sheet}
 use Rattle.hs_replay_client.specs.Places.{IsChunkAt, chunk_by}

@@ -6,7 +6,7 @@ use Rattle.hs_words.specs.declared.token.Drawn.TheVariants as drawn
 use Rattle.hs_words.specs.PoolHistory.{Got, Empty}
 use Rattle.hs_words.specs.PoolAnswers as answers
 use Rattle.hs_pool.specs.Pool.{Extends, Draws, number_of}
-use Rattle.hs_law_sends.specs.Draws.{next_draws}
+use Rattle.hs_client.specs.Draws.{next_draws}
 
 drop_none : (m : ℕ) → drop {A = ℕ} m [] ≡ []
 drop_none zero = refl

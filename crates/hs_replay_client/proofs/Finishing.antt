@@ -6,7 +6,7 @@ use Rattle.hs_client.specs.Calls.{note_of}
 use Rattle.hs_client.proofs.Bare.{after_keeps}
 use Rattle.hs_records.specs.Books.{PlainClientBook}
 use Rattle.hs_records.specs.Pages.{pages_of, segment_pages}
-use Rattle.hs_law_sends.proofs.OneMore.{none_open}
+use Rattle.hs_client.proofs.OneMore.{none_open}
 use Rattle.hs_replay_client.proofs.Standing.{recorded}
 
 after-client : (new : Core (Unit {0})) (steps : List (CoreStep (Unit {0}))) → (after new steps).client ≡ new.client
@@ -22,7 +22,7 @@ all_done : (settings : PlainSettings) (client : ClientId) (ops : List Operation)
     → (gone : Gone) × HasDone (made_for settings client ops) ops gone player.works
 all_done settings client ops drawn k l m player a =
     let whole : take (length ops) ops ≡ ops = take_all (length ops) ops (omega arith) in
-    let gone = gone_of settings.size (Rattle.hs_law_sends.specs.Sending.sends_of settings client ops drawn) (length ops) k l m in
+    let gone = gone_of settings.size (Rattle.hs_client.specs.Sending.sends_of settings client ops drawn) (length ops) k l m in
     (gone, subst (λ (l' : List Operation). HasDone (made_for settings client ops) l' gone player.works) whole a.inside)
 
 pub is_closed : (player : PlainReplayClient) → IsDone player → IsNone player.works.core.trace

@@ -4,9 +4,9 @@ use Rattle.hs_replay_client.proofs.Prelude.{ltb-false, le-ltb, nat_lt, flat_map,
 use Rattle.hs_records.specs.declared.journal.Draw.TheVariants as noted
 use Rattle.hs_client.specs.Calls.{filled}
 use Rattle.hs_records.specs.Pages.{PlainPage}
-use Rattle.hs_law_sends.specs.Drawn.{drawn_from}
-use Rattle.hs_law_sends.specs.Laws.{IsTimely}
-use Rattle.hs_law_sends.specs.Timing.{TimedPage}
+use Rattle.hs_client.specs.Drawn.{drawn_from}
+use Rattle.hs_client.specs.Laws.{IsTimely}
+use Rattle.hs_client.specs.Timing.{TimedPage}
 
 abbrev pub page_in : TimedPage → PlainPage
 page_in p = p.page

@@ -2,10 +2,10 @@
 use Rattle.std.proofs.Common.{◌≡◌, ℕ, ◌+◌, ◌<◌, ◌≤◌, true, false, List, [], ◌∷◌, ◌++◌, length, map, Option, Some, None, IsSome, inl, inr, refl, sym, ap, ◌∙◌, subst, arith, append_assoc}
 use Rattle.hs_replay_client.proofs.Prelude.{append-nil, length-map, slice_get-map, is_some, slice_get, option_map, is_some_false, TraceId, AutoRule, Watch, Operation, Begin, Point, End, Fire, Sample, PlainSettings, operation_pieces, client_pieces, client_more, ClientId, Working, Way, Made, Spends, Gone, HasDone, Does, MayDo, IsPlayable, made_for}
 use Rattle.std.proofs.lemmas.Option.{slice_get_cases}
-use Rattle.hs_lists.proofs.Alls.{all_mid}
+use Rattle.hs_base.proofs.Alls.{all_mid}
 use Rattle.hs_records.specs.Plain as plain
 use Rattle.hs_records.specs.Records.{AreBracketed}
-use Rattle.hs_law_sends.proofs.OneMore.{bracketed_behind}
+use Rattle.hs_client.proofs.OneMore.{bracketed_behind}
 use Rattle.hs_records.specs.Validity.{IsOperation}
 use Rattle.hs_replay_client.proofs.Spending.{spends_none, spends_more}
 

@@ -2,7 +2,7 @@
 use Rattle.std.proofs.Common.{◌≡◌, ℕ, zero, suc, ◌+◌, ◌<◌, ◌≤◌, Bool, true, false, List, [], ◌∷◌, ◌++◌, length, map, take, drop, get_or, Some, refl, sym, ap, ◌∙◌, arith, append_assoc, length-append}
 use Rattle.hs_replay_client.proofs.Prelude.{append-nil, map-append, take-append-drop, length-take-le, take_at, drop_at, ltb-false, le-ltb, slice_get, nat_lt, AreInOrder, Sent, sent_within}
 use Rattle.std.proofs.lemmas.List.{drop_more, take-map}
-use Rattle.hs_lists.proofs.Places.{get_mid}
+use Rattle.hs_base.proofs.Places.{get_mid}
 
 module _ {A : Type 0} where
   take_none : (k : ℕ) → take {A = A} k [] ≡ []

@@ -1,7 +1,7 @@
 -- A client that was made has done nothing.
 use Rattle.std.proofs.Common.{◌≡◌, ◌≤◌, List, [], ◌++◌, map, reverse, refl, sym, ap, subst, arith}
 use Rattle.hs_replay_client.proofs.Prelude.{AllByRecursion, ClientId, MIN_SIZE, Watch, HasSampled, Core, with_all, Draw, Operation, PlainSettings, segments_from, segments_of, coming, Working, PlainReplayClient, Made, IsSound, new_of, Gone, HasDone, IsPlayable, ReplayClientIsAt, made_for}
-use Rattle.hs_lists.proofs.Alls.{all_everywhere}
+use Rattle.hs_base.proofs.Alls.{all_everywhere}
 use Rattle.hs_replay_client.proofs.Standing.{Laws, is_at}
 
 -- what is known of a client that was made

@@ -1,14 +1,14 @@
 -- A client that has done some operations does one more.
 use Rattle.std.proofs.Common.{◌≡◌, ℕ, ◌+◌, ◌≤◌, Bool, false, List, [], ◌∷◌, ◌++◌, length, reverse, Option, Some, None, IsSome, refl, sym, ap, ap₂, ◌∙◌, subst, arith, append_assoc}
 use Rattle.hs_replay_client.proofs.Prelude.{append-nil, reverse-append, is_some, TraceId, Crumb, Trigger, Operation, Begin, Point, End, Fire, Piece, Segment, numbered_of, piece_count, record_pieces, segments_from, segments_of, coming, Core, Began, after_step, May, Way, AreWatching, has_open_page, trigger_in, OneMore, at, operation_pieces, client_more, Unleased, Working, Made, Writing, IsSound, IsWriting, Records, EndsTrace, Gone, HasDone, Does}
-use Rattle.hs_lists.proofs.Options.{is_some_true, some_item}
+use Rattle.hs_base.proofs.Options.{is_some_true, some_item}
 use Rattle.hs_base.specs.declared.ids.NodeId.{NodeId}
 use Rattle.hs_records.specs.Plain as plain
 use Rattle.hs_records.specs.Records.{NumberedOperation, open_behind, pieces_until_end}
-use Rattle.hs_law_sends.specs.OneMore.{next_behind}
-use Rattle.hs_law_sends.specs.Sending.{crumb_in}
-use Rattle.hs_law_sends.proofs.Adding.{page_more, unseen, begin_unseen, point_unseen, end_unseen, crumb_unseen, fire_unseen, begin_no_crumb, begin_no_trigger, point_no_crumb, point_no_trigger, end_no_crumb, end_no_trigger, coming_crumb, crumb_no_trigger, coming_fire, fire_no_crumb, trigger_of_fire}
-use Rattle.hs_law_sends.proofs.OneMore.{open_push}
+use Rattle.hs_client.specs.OneMore.{next_behind}
+use Rattle.hs_client.specs.Sending.{crumb_in}
+use Rattle.hs_client.proofs.Adding.{page_more, unseen, begin_unseen, point_unseen, end_unseen, crumb_unseen, fire_unseen, begin_no_crumb, begin_no_trigger, point_no_crumb, point_no_trigger, end_no_crumb, end_no_trigger, coming_crumb, crumb_no_trigger, coming_fire, fire_no_crumb, trigger_of_fire}
+use Rattle.hs_client.proofs.OneMore.{open_push}
 use Rattle.hs_replay_client.specs.Doing.{writing_of}
 use Rattle.hs_replay_client.proofs.Sound.{sound_began}
 use Rattle.hs_replay_client.proofs.Steps.{began_trace}

@@ -9,18 +9,18 @@ pub use Rattle.hs_base.specs.declared.told.Crumb.{Crumb}
 pub use Rattle.hs_base.specs.declared.told.Trigger.{Trigger}
 pub use Rattle.hs_client.specs.Calls.{after, AreSteps, draws_supplied, filled_chunks, IsBook, May, segments_of_steps, with_all}
 pub use Rattle.hs_client.specs.Core.{after_step, Began, Core, draw_of, Ended_, handed, Needed, new_core, number_after, Refused, CoreStep, Supplied, supplied, Wrote}
-pub use Rattle.hs_law_sends.proofs.Adding.{at, OneMore}
-pub use Rattle.hs_law_sends.proofs.Order.{length_next}
-pub use Rattle.hs_law_sends.specs.Drawn.{DrawnPage}
-pub use Rattle.hs_law_sends.specs.Draws.{count_started, draws_behind, event_drawn}
-pub use Rattle.hs_law_sends.specs.OneMore.{AreWatching, items_of}
-pub use Rattle.hs_law_sends.specs.Order.{AreInOrder, ChunksAreInOrder}
-pub use Rattle.hs_law_sends.specs.Playable.{IsPlayable}
-pub use Rattle.hs_law_sends.specs.Sending.{sends_of, Sent, sent_within, trigger_in}
-pub use Rattle.hs_law_sends.specs.SoFar.{done_behind, has_open_page, pages_within}
-pub use Rattle.hs_law_sends.specs.Timing.{timed_pages}
-pub use Rattle.hs_lists.proofs.Options.{is_some_false}
-pub use Rattle.hs_lists.proofs.Places.{get_front}
+pub use Rattle.hs_client.proofs.Adding.{at, OneMore}
+pub use Rattle.hs_client.proofs.Order.{length_next}
+pub use Rattle.hs_client.specs.Drawn.{DrawnPage}
+pub use Rattle.hs_client.specs.Draws.{count_started, draws_behind, event_drawn}
+pub use Rattle.hs_client.specs.OneMore.{AreWatching, items_of}
+pub use Rattle.hs_client.specs.Order.{AreInOrder, ChunksAreInOrder}
+pub use Rattle.hs_client.specs.Playable.{IsPlayable}
+pub use Rattle.hs_client.specs.Sending.{sends_of, Sent, sent_within, trigger_in}
+pub use Rattle.hs_client.specs.SoFar.{done_behind, has_open_page, pages_within}
+pub use Rattle.hs_client.specs.Timing.{timed_pages}
+pub use Rattle.hs_base.proofs.Options.{is_some_false}
+pub use Rattle.hs_base.proofs.Places.{get_front}
 pub use Rattle.hs_pool.specs.Pool.{IsAfter, Pool}
 pub use Rattle.hs_records.proofs.Payloads.{AreCut}
 pub use Rattle.hs_records.proofs.Sizes.{client_more}

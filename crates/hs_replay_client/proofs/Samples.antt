@@ -3,13 +3,13 @@ use Rattle.std.proofs.Common.{◌≡◌, ℕ, ◌<◌, List, [], ◌∷◌, ◌+
 use Rattle.hs_replay_client.proofs.Prelude.{same_Some, slice_get-map, slice_get, option_map, TraceId, Trigger, AutoRule, fired_by, Operation, Sample, numbered_of, Watch, HasSampled, AreWatching, trigger_in, OneMore, at, Working, Does}
 use Rattle.std.proofs.lemmas.Option.{slice_get_within}
 use Rattle.std.specs.Option.{option_map_or}
-use Rattle.hs_lists.proofs.Lent.{lent_from}
+use Rattle.hs_base.proofs.Lent.{lent_from}
 use Rattle.hs_base.specs.declared.ids.TriggerId.{TriggerId}
 use Rattle.hs_auto.specs.Firing.{sampled}
 use Rattle.hs_auto.specs.Firing as firing
 use Rattle.hs_auto.specs.declared.sampled.Sampled.{Sampled}
-use Rattle.hs_law_sends.specs.Sending.{samples_of, trigger_of}
-use Rattle.hs_law_sends.proofs.Sampling.{sample, fired_trigger, trigger_is, watches, coming_sample, sample_no_crumb}
+use Rattle.hs_client.specs.Sending.{samples_of, trigger_of}
+use Rattle.hs_client.proofs.Sampling.{sample, fired_trigger, trigger_is, watches, coming_sample, sample_no_crumb}
 use Rattle.hs_replay_client.proofs.Operations.{IsApart, apart_writes, done_now, none_more}
 
 -- ---- the autotriggers

@@ -2,11 +2,11 @@
 use Rattle.std.proofs.Common.{◌≡◌, ℕ, ◌≤◌, false, List, [], ◌++◌, length, map, take, drop, reverse, refl, sym, ap, ◌∙◌, subst, arith, length-append}
 use Rattle.hs_replay_client.proofs.Prelude.{append-nil, take-append-drop, length-take-le, take_at, drop_at, is_some, flat_map, ClientId, Crumb, Trigger, Core, CoreStep, new_core, AreSteps, IsBook, after, draws_supplied, filled_chunks, segments_of_steps, with_all, Operation, PlainSettings, segments_of, count_started, items_of, Sent, sends_of, sent_within, has_open_page, pages_within, timed_pages, Working, PlainReplayClient, Made, new_of, buffer_got, Gone, HasDone, IsPlayable, ReplayClientIsAt, Waits, chunk_of, chunks_within, gone_of, made_for}
 use Rattle.hs_records.proofs.Payloads.{nothing_comes}
-use Rattle.hs_law_sends.specs.Drawn.{drawn_pages}
-use Rattle.hs_law_sends.specs.Laws.{TimedPagesAreTimely}
-use Rattle.hs_law_sends.specs.Sending.{sent_crumbs, sent_triggers}
-use Rattle.hs_law_sends.specs.HandedOut.{CoresHandOutSoFar}
-use Rattle.hs_law_sends.specs.SoFar.{FirstCrumbsAreSent, FirstTriggersAreSent}
+use Rattle.hs_client.specs.Drawn.{drawn_pages}
+use Rattle.hs_client.specs.Laws.{TimedPagesAreTimely}
+use Rattle.hs_client.specs.Sending.{sent_crumbs, sent_triggers}
+use Rattle.hs_client.specs.HandedOut.{CoresHandOutSoFar}
+use Rattle.hs_client.specs.SoFar.{FirstCrumbsAreSent, FirstTriggersAreSent}
 use Rattle.hs_replay_client.proofs.Fronts.{page_in, front_drawn, filled_are}
 
 -- what is known of cores and of clients

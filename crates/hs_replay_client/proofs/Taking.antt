@@ -2,7 +2,7 @@
 use Rattle.std.proofs.Common.{◌≡◌, ◌↔◌, ℕ, ◌+◌, ◌≤◌, Bool, IsTrue, List, [], ◌∷◌, ◌++◌, length, take, drop, Option, Some, None, refl, sym, ap, ◌∙◌, subst, arith, append_assoc}
 use Rattle.hs_replay_client.proofs.Prelude.{length-map, slice_get-map, same_Some, slice_get, option_map, option_to_list, get_front, ClientId, Crumb, Trigger, Draw, Operation, PlainSettings, segments_from, segments_of, coming, items_of, AreInOrder, ChunksAreInOrder, Sent, sends_of, sent_within, Unleased, Working, PlainReplayClient, Made, IsWriting, Gone, HasDone, ReplayClientIsAt, Waits, chunks_within, gone_of, made_for, TakesChunk, TakesCrumb, TakesTrigger, TellsBare}
 use Rattle.std.proofs.lemmas.List.{drop_all}
-use Rattle.hs_law_sends.specs.Order.{CrumbsAreInOrder, TriggersAreInOrder}
+use Rattle.hs_client.specs.Order.{CrumbsAreInOrder, TriggersAreInOrder}
 use Rattle.hs_replay_client.specs.Doing.{HasNothing}
 use Rattle.hs_replay_client.specs.Places.{IsItemAt}
 use Rattle.hs_replay_client.proofs.Chunks.{chunk_at, chunks_counted}

@@ -8,9 +8,9 @@ use Rattle.hs_client.specs.Core.{IsLeft}
 use Rattle.hs_records.specs.Plain.{Operation, Begin, Point, End, Fire, Sample}
 use Rattle.hs_records.specs.Plain as plain
 use Rattle.hs_records.specs.Records.{numbered_of, piece_count, segments_from, segments_of, coming}
-use Rattle.hs_law_sends.specs.OneMore.{open_after, items_of, AreWatching}
-use Rattle.hs_law_sends.specs.SoFar.{has_open_page}
-use Rattle.hs_law_sends.specs.Sending.{sent_crumbs, sent_triggers}
+use Rattle.hs_client.specs.OneMore.{open_after, items_of, AreWatching}
+use Rattle.hs_client.specs.SoFar.{has_open_page}
+use Rattle.hs_client.specs.Sending.{sent_crumbs, sent_triggers}
 use Rattle.hs_records.specs.Validity.{client_pieces}
 use Rattle.hs_replay_client.specs.ReplayClients.{Unleased, Working}
 use Rattle.hs_replay_client.specs.Writing.{Made, Writing, IsWriting, IsSound}

@@ -9,15 +9,15 @@ use Rattle.hs_records.specs.declared.journal.Draw.{Draw}
 use Rattle.hs_records.specs.declared.journal.Draw.TheVariants.{Got, Empty}
 use Rattle.hs_records.specs.Plain.{Point, End}
 use Rattle.hs_records.specs.Records.{Piece, Segment, coming}
-use Rattle.hs_law_sends.specs.Samples.{begin, fire, plain, two_fills}
-use Rattle.hs_law_sends.specs.Sending.{sends_of}
-use Rattle.hs_law_sends.specs.SoFar.{done_behind}
+use Rattle.hs_client.specs.Samples.{begin, fire, plain, two_fills}
+use Rattle.hs_client.specs.Sending.{sends_of}
+use Rattle.hs_client.specs.SoFar.{done_behind}
 use Rattle.hs_words.specs.Chunks.{clear_chunk}
 use Rattle.hs_words.specs.PoolHistory as pool
 use Rattle.hs_replay_client.specs.ReplayClients.{Unleased, Working}
 use Rattle.hs_replay_client.specs.Writing.{buffer_got}
 use Rattle.hs_replay_client.specs.Doing.{HasNothing, MayDo}
-use Rattle.hs_law_sends.specs.Playable.{IsPlayable}
+use Rattle.hs_client.specs.Playable.{IsPlayable}
 use Rattle.hs_replay_client.specs.Places.{Waits, chunk_by, chunks_within, gone_of, made_for, draws_going}
 
 abbrev sent_buffers : ℕ → List Draw → List ℕ

@@ -14,11 +14,11 @@ use Rattle.hs_records.specs.declared.journal.Draw.TheVariants as draws
 use Rattle.hs_pool.specs.Pool.{Pool, IsAfter, HasSize}
 use Rattle.hs_records.specs.Plain.{Operation, PlainSettings}
 use Rattle.hs_records.specs.Pages.{pages_of}
-use Rattle.hs_law_sends.specs.Draws.{draws_behind, event_drawn, count_started}
-use Rattle.hs_law_sends.specs.Drawn.{DrawnPage}
-use Rattle.hs_law_sends.specs.OneMore.{items_of}
-use Rattle.hs_law_sends.specs.Sending.{Sent, ClientSends, sends_of, sent_within, sheet_of}
-use Rattle.hs_law_sends.specs.SoFar.{done_behind}
+use Rattle.hs_client.specs.Draws.{draws_behind, event_drawn, count_started}
+use Rattle.hs_client.specs.Drawn.{DrawnPage}
+use Rattle.hs_client.specs.OneMore.{items_of}
+use Rattle.hs_client.specs.Sending.{Sent, ClientSends, sends_of, sent_within, sheet_of}
+use Rattle.hs_client.specs.SoFar.{done_behind}
 use Rattle.hs_words.specs.Chunks.{Contents, with_page, clear_chunk}
 use Rattle.hs_words.specs.Pages.{Sheet}
 use Rattle.hs_words.specs.PoolHistory.{PoolEvent}
@@ -27,7 +27,7 @@ use Rattle.hs_replay_client.specs.ReplayClients.{PlainReplayClient, Unleased}
 use Rattle.hs_replay_client.specs.Wells.{Way, IsReadyFor, DrawsAll}
 use Rattle.hs_replay_client.specs.Writing.{Made}
 use Rattle.hs_replay_client.specs.Doing.{Gone, HasDone}
-use Rattle.hs_law_sends.specs.Playable.{IsPlayable}
+use Rattle.hs_client.specs.Playable.{IsPlayable}
 
 -- ---- what was sent
 

@@ -3,7 +3,7 @@
 use Rattle.std.specs.Prelude.{◌≡◌, ℕ, ◌+◌, ◌<◌, ◌^◌, List, [], ◌∷◌, ◌++◌, map}
 use Rattle.hs_records.specs.declared.journal.Draw.{Draw}
 use Rattle.hs_pool.specs.Pool.{Pool, IsAfter, HasSize}
-use Rattle.hs_law_sends.specs.Draws.{draws_behind, event_drawn}
+use Rattle.hs_client.specs.Draws.{draws_behind, event_drawn}
 use Rattle.hs_words.specs.PoolHistory.{PoolEvent}
 use Rattle.hs_replay_client.specs.Wells.{Way}
 

@@ -7,7 +7,7 @@ ghost use Rattle.hs_records.specs.Plain.{settings_of};
 ghost use Rattle.hs_words.specs.Buffers.{buffer_in};
 ghost use Rattle.hs_records.specs.Validity.{operation_pieces, client_pieces};
 ghost use Rattle.hs_records.specs.Views.{operation_of};
-ghost use Rattle.hs_law_sends.specs.Playable.{IsPlayable};
+ghost use Rattle.hs_client.specs.Playable.{IsPlayable};
 ghost use Rattle.hs_replay_client.specs.Places.{ReplayClientIsAt, IsWithin, Goes, KeepsPool, IsWithinAt, GoesOn, TakesChunk, TakesCrumb, TakesTrigger, TellsLeft, TellsBare, IsDone, Notes};
 
 use crate::doing::Doing;
@@ -15,11 +15,11 @@ use crate::well::Well;
 use crate::writer::Writer;
 use hs_auto::Auto;
 use hs_base::{AutoRule, ClientId, Crumb, List, Memory, Settings, Trigger};
-use hs_client::{ClientCore, any_steps_make_the_book};
-use hs_law_sends::laws::{
+use hs_client::sending_laws::{
     cores_hand_out_so_far, items_are_sent_in_order, the_first_crumbs_are_sent,
     the_first_triggers_are_sent, timed_pages_are_timely,
 };
+use hs_client::{ClientCore, any_steps_make_the_book};
 use hs_pool::PlainPool;
 use hs_records::{ClientBook, Op, piece_count};
 use hs_words::Held;

@@ -17,7 +17,7 @@ use crate::writer::Writer;
 use hs_auto::{Auto, Sampled};
 use hs_base::{AutoRule, Crumb, List, Memory, NodeId, TraceId, Trigger, TriggerId};
 use hs_client::Begun;
-use hs_law_sends::laws::one_operation_more;
+use hs_client::sending_laws::one_operation_more;
 use hs_records::Op;
 use std::collections::VecDeque;
 

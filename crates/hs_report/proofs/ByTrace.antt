@@ -3,8 +3,8 @@ use Rattle.std.proofs.Common.{◌≡◌, ℕ, ◌+◌, ◌<◌, ◌≤◌, Bool,
 use Rattle.hs_report.proofs.Prelude.{filter, ties, nat_tests, get_or-take, get_or-drop, length-take, take-append-drop, filter-append, TraceId, Entry, is_of}
 use Rattle.std.specs.List.Sorted.{IsStableByKey, IsPartitionPoint}
 use Rattle.std.specs.Ordering.{nat_cmp, is_lt}
-use Rattle.hs_lists.proofs.Stable.{stable_keeps}
-use Rattle.hs_lists.proofs.Filters.{filter_whole, filter_nothing}
+use Rattle.hs_base.proofs.Stable.{stable_keeps}
+use Rattle.hs_base.proofs.Filters.{filter_whole, filter_nothing}
 
 abbrev pub number_of : Entry → ℕ
 number_of entry = entry.trace.0

@@ -2,7 +2,7 @@
 use Rattle.std.proofs.Common.{◌≡◌, ◌+◌, ℕ, not, List, [], ◌∷◌, ◌++◌, map, sym, ap, ◌∙◌, append-nil}
 use Rattle.hs_report.proofs.Prelude.{filter, flat_map, map-append, flat_map-append, filter-append, TraceId, Placed, placed_of, Entry, is_reported, reported_wholes, was_reported, placed_line, gap_line, report_lines, text_of, report_by}
 use Rattle.hs_collect.specs.declared.records.TraceRecord.{TraceRecord}
-use Rattle.hs_lists.proofs.Loops.{Joins}
+use Rattle.hs_base.proofs.Loops.{Joins}
 
 -- ---- what the loops append
 

@@ -12,8 +12,8 @@ pub use Rattle.hs_law_outcome.specs.Outcomes.{outcome_of}
 pub use Rattle.hs_law_outcome.specs.Reports.{is_of}
 pub use Rattle.hs_ledger.specs.Totals.{is_reported}
 pub use Rattle.hs_ledger.specs.declared.ledger.Entry.{Entry}
-pub use Rattle.hs_lists.proofs.Bools.{first_true, second_true}
-pub use Rattle.hs_lists.proofs.Filters.{filter_weaker}
+pub use Rattle.hs_base.proofs.Bools.{first_true, second_true}
+pub use Rattle.hs_base.proofs.Filters.{filter_weaker}
 pub use Rattle.hs_outcome.specs.Outcomes.{IsOutcome}
 pub use Rattle.hs_outcome.specs.declared.outcome.Outcome.{Outcome}
 pub use Rattle.hs_records.specs.Journals.{HasItsLists, journal_of, PlainJournal}

@@ -8,7 +8,7 @@ use Rattle.hs_base.specs.Samples.{one_rule}
 use Rattle.hs_ledger.specs.declared.ledger.Entry.{Entry}
 use Rattle.hs_ledger.specs.Totals.{totals_of}
 use Rattle.hs_records.specs.Plain.{Point, End, PlainWorkload}
-use Rattle.hs_law_sends.specs.Samples.{settings, workload, begin, fire, segment}
+use Rattle.hs_client.specs.Samples.{settings, workload, begin, fire, segment}
 use Rattle.hs_text.specs.Text.{text_of}
 use Rattle.hs_report.specs.declared.form.Form.TheVariants.{Text, Json}
 use Rattle.hs_report.specs.OutcomeText.{entry_line, gap_line, total_line, report_lines, json_list, reports_text, outcome_text}

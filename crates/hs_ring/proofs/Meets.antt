@@ -2,8 +2,8 @@
 use Rattle.std.proofs.Common.{◌≡◌, ℕ, suc, ◌≤◌, Bool, true, false, ◌==◌, List, [], ◌∷◌, ◌++◌, length, set, max, refl, sym, ap, ◌∙◌, subst, inl, inr, arith}
 use Rattle.hs_ring.proofs.Prelude.{some, get_elem?, AllByRecursion, Splits, Joins, set_else, Deed, Answer, got_by, answers_by, told_in, IsDeedAt, answer_to, draw_is_at, Plan, AtSeat, DrawerSeat, Hand, nothing, drew, GiverSeat, Palm, View, nobody, drawing, giving, drawer_note, giver_note, giver_seat_after, Allowed, Has, Facts, HandOk, IsSettled, DeskOk, PostOk, Knows, Kept, RingRule}
 use borrow.Author.Tests.{eqb-true}
-use Rattle.hs_lists.proofs.Numbers.{max_le}
-use Rattle.hs_lists.proofs.Alls.{all_append}
+use Rattle.hs_base.proofs.Numbers.{max_le}
+use Rattle.hs_base.proofs.Alls.{all_append}
 use Rattle.hs_words.specs.Ends.{met, stamps_in, put_if}
 use Rattle.hs_words.proofs.Deeds.{at_below, at_once}
 use Rattle.hs_ring.proofs.Updates.{allowed_set, allowed_and}

@@ -4,8 +4,8 @@ pub use Rattle.atomic_table.specs.Seated.{TableId}
 pub use Rattle.atomic_table.specs.Table.{Act, Allows, gives, Joins, keeps, Me, opening, Splits, State, step, stepped, takes}
 pub use Rattle.hs_base.proofs.Updates.{put, put_cases, put_else, put_here}
 pub use Rattle.hs_base.specs.declared.limits.TheConstants.{MOST_AHEAD, MOST_BUFFERS, MOST_DRAWS}
-pub use Rattle.hs_lists.proofs.Counts.{count_cons}
-pub use Rattle.hs_lists.proofs.Places.{elem_push_cases}
+pub use Rattle.hs_base.proofs.Counts.{count_cons}
+pub use Rattle.hs_base.proofs.Places.{elem_push_cases}
 pub use Rattle.hs_ring.specs.Making.{closed_giver_seat, IsMaking}
 pub use Rattle.hs_ring.specs.Parts.{answers_of_all, Drawing, new_drawers}
 pub use Rattle.hs_ring.specs.Rule.{Allowed, Cell, CellOk, DeskOk, drawn, Facts, first_view, free, HandOk, IsLaid, IsLastOf, IsSettled, Kept, Knows, laid, PalmOk, PostOk, published, RingRule, SpotOk, waits}

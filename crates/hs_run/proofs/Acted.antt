@@ -1,8 +1,8 @@
 -- What it says of a node that its agent made a pass and its clients went on.
 use Rattle.std.proofs.Common.{◌≡◌, ℕ, List, Some, refl, sym, subst, ◌∙◌, arith}
 use Rattle.hs_run.proofs.Prelude.{slice_get, slice_get_within, get_there, Listing, Settings, client_of, Incoming, Outgoing, Key, IsMate, Operation, PlainSettings, PlainWorkload, settings_of, operations_at, place_of, Op, operations_of, PlainClientActor, ClientActorIsAt, NodeWork, IsFew, with_events, PlainNodeActors, NodeActorsStand, NodeActorsAct, AllMayGo, AllHaveGone, AreClients, HasActed}
-use Rattle.hs_run_client.specs.Standing.{Goes, IsFlushed}
-use Rattle.hs_run_agent.specs.AgentActors.{EachReceives}
+use Rattle.hs_run_actors.specs.Standing.{Goes, IsFlushed}
+use Rattle.hs_run_actors.specs.AgentActors.{EachReceives}
 use Rattle.hs_run.specs.Sites.{HasPassed}
 
 pub may_go : (W : PlainWorkload) (node : ℕ) (work : NodeWork) (settings : Settings) (lists : List (Listing Op)) (site : PlainNodeActors) → NodeActorsStand W node work site → AreClients W node settings lists

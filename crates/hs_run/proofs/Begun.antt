@@ -1,16 +1,16 @@
 -- From a node's clients and port, where nothing was done, to where the node and the whole run begin.
 use Rattle.std.proofs.Common.{◌≡◌, inl, inr, ℕ, zero, suc, ◌+◌, List, [], ◌∷◌, ◌++◌, length, map, Some, None, refl, sym, ap, ◌∙◌, subst, arith, length-append, slice_get}
 use Rattle.hs_run.proofs.Prelude.{length-map, same_Some, slice_get_within, get_there, client_of, Outgoing, Incoming, AreMates, Key, IsMate, PlainWorkload, Drawing, Giving, IsValid, PlainClientActor, PlainCoordinatorActor, IsCoordinatorActor, linked, PlainAgentActor, IsAgentActor, NodeWork, PlainNodeActors, RunState, NodeActorsStand, RunStands, PoolOf, ActingNode, AreMade, CanBegin, sites_of}
-use Rattle.hs_lists.proofs.Places.{get_push_cases}
+use Rattle.hs_base.proofs.Places.{get_push_cases}
 use Rattle.hs_live.specs.Live.{Port, IsEnd}
 use Rattle.hs_words.specs.Pools.{PoolName}
-use Rattle.hs_run_client.specs.Nodes as begun
-use Rattle.hs_run_client.specs.Nodes.{NodeBegins, ClientActorBegins, receiving_of}
-use Rattle.hs_run_client.specs.Standing as standing
-use Rattle.hs_run_agent.specs.Intakes.{Intake, key_of, key_for, AreIntakesFor}
-use Rattle.hs_run_agent.specs.AgentActors.{BeginsAt}
-use Rattle.hs_run_agent.specs.Work.{no_work}
-use Rattle.hs_run_story.specs.Laws.{LinkIsNew, LinksBegin}
+use Rattle.hs_run_actors.specs.Nodes as begun
+use Rattle.hs_run_actors.specs.Nodes.{NodeBegins, ClientActorBegins, receiving_of}
+use Rattle.hs_run_actors.specs.Standing as standing
+use Rattle.hs_run_actors.specs.Intakes.{Intake, key_of, key_for, AreIntakesFor}
+use Rattle.hs_run_actors.specs.AgentActors.{BeginsAt}
+use Rattle.hs_run_actors.specs.Work.{no_work}
+use Rattle.hs_run.specs.Laws.{LinkIsNew, LinksBegin}
 use Rattle.hs_run.specs.Making.{NodeActorsBegin, nothing_moved, nothing_asked}
 use Rattle.hs_run.proofs.Choosing.{Chosen, choose}
 use Rattle.hs_run.proofs.Moments.{node_there}

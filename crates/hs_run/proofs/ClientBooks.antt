@@ -3,12 +3,12 @@ use Rattle.std.proofs.Common.{◌≡◌, ℕ, suc, ◌+◌, ◌*◌, ◌/◌, �
 use Rattle.hs_run.proofs.Prelude.{map-append, slice_get, range_with_len, ClientId, client_of, PlainClientBook, PlainJournal, client_book, PlainWorkload, operations_at, PlainClientActor, IsNoted, books_of, first_books}
 use Rattle.std.proofs.Math.Nat.{mul-add-mod_self_right, mod-eq_of_lt}
 use Rattle.std.proofs.lemmas.Nat.{div-mul-add}
-use Rattle.hs_lists.proofs.Ranges.{range_append}
+use Rattle.hs_base.proofs.Ranges.{range_append}
 use Rattle.hs_client.specs.Calls.{note_of}
 use Rattle.hs_law_outcome.specs.Outcomes.{client_at}
 use Rattle.hs_records.specs.Pages.{pages_of}
-use Rattle.hs_law_sends.specs.Sending.{ops_of}
-use Rattle.hs_run_client.specs.Nodes.{AreNotes}
+use Rattle.hs_client.specs.Sending.{ops_of}
+use Rattle.hs_run_actors.specs.Nodes.{AreNotes}
 
 -- the client at the place of a node's client
 client_is : (each node number : ℕ) → number < each → client_of node number ≡ client_at each (node * each + number)

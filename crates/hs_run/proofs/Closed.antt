@@ -1,10 +1,10 @@
 -- A pass of all behind the rounds leads on.
 use Rattle.std.proofs.Common.{◌≡◌, ℕ, suc, ◌<◌, ◌≤◌, List, [], ◌++◌, length, Option, Some, refl, sym, ap, subst, ◌∙◌, arith, filter, slice_get, append-nil}
 use Rattle.hs_run.proofs.Prelude.{AllByRecursion, option_map_or, length-append, slice_get_within, get_there, Messages, Asks, AgentEvent, PlainWorkload, few_nodes, asks_in, crumbs_in, triggers_in, steps_of, log_stamps, Leased, Buffer, PlainClientActor, PlainCoordinatorActor, Hears, heard_of, asks_for, PlainClosedAgent, NodeWork, is_of, PlainNodeActors, RunState, moved_by, asked_by, NodeBetweenPasses, AllSents, PassedAlone, ClosingStands, Passing, Asked, ClosingAt}
-use Rattle.hs_run_agent.specs.ClosedAgents.{closed_intakes, closed_working_agent}
-use Rattle.hs_run_story.specs.Spans.{IsNodeBetweenPasses, IsStep}
-use Rattle.hs_run_story.specs.Closing.{TakesAllOfClient, IsPassAlone}
-use Rattle.hs_run_story.specs.Laws.{ClosingGoesOn, AgentsAreBetweenPasses}
+use Rattle.hs_run_actors.specs.ClosedAgents.{closed_intakes, closed_working_agent}
+use Rattle.hs_run.specs.Spans.{IsNodeBetweenPasses, IsStep}
+use Rattle.hs_run.specs.Closing.{TakesAllOfClient, IsPassAlone}
+use Rattle.hs_run.specs.Laws.{ClosingGoesOn, AgentsAreBetweenPasses}
 use Rattle.hs_run.specs.Closings.{LedOn, PassesPay}
 
 -- what was heard, and nothing was asked yet

@@ -1,7 +1,7 @@
 -- What the counts behind a round come to.
 use Rattle.std.proofs.Common.{◌≡◌, ℕ, zero, suc, ◌+◌, ◌/◌, ◌%◌, ◌<◌, ◌≤◌, not, List, length, map, take, Option, Some, unwrap_or, [], refl, sym, ap, subst, ◌∙◌, arith, slice_get, sum_by, count_by, div-lt_iff_lt-mul, div-add-mod'}
 use Rattle.hs_run.proofs.Prelude.{mod-lt, range_with_len, get_there, Progress, is_null, PlainJournal, Draw, Step, is_point, is_chunk, is_given, done_after, points_after, nulls_after, steps_after, progress_after, Operation, PlainWorkload, NotesRounds, RunState, RunStands, Came, has_buffer, operations_at, place_of, IsValid, ClientCount, LogCount, PlainRunTally, AreCounts, log_count, progress_of}
-use Rattle.hs_lists.proofs.Counts.{count_alike}
+use Rattle.hs_base.proofs.Counts.{count_alike}
 use Rattle.hs_records.specs.declared.journal.Draw.TheVariants as draws
 use Rattle.hs_run.specs.Progress.{draws_after}
 use Rattle.hs_records.specs.declared.setting.Setting.TheVariants as settings

@@ -1,14 +1,14 @@
 -- When nothing is left and the pools are closed, the run is over.
 use Rattle.std.proofs.Common.{◌≡◌, ℕ, zero, suc, ◌+◌, ◌<◌, true, false, List, [], ◌∷◌, ◌++◌, length, map, Some, None, refl, sym, ap, subst, ◌∙◌, arith, slice_get, append-nil}
 use Rattle.hs_run.proofs.Prelude.{AllByRecursion, length-map, slice_get_within, get_there, Told, Crumb, Trigger, Messages, Remaining, Key, after, PlainWorkload, Leased, Drawing, Giving, AreAllEnds, operations_at, place_of, Buffer, asks_in, crumbs_in, triggers_in, PlainClientActor, PlainCoordinatorActor, heard_of, closed, PlainClosedAgent, came_of, PlainNodeActors, RunState, RunStands, Came, PoolOf, AllBegin, PoolsAreKept, AllSents, ClosingAt}
-use Rattle.hs_lists.proofs.Alls.{all_at}
+use Rattle.hs_base.proofs.Alls.{all_at}
 use Rattle.hs_coord.specs.Messages.{Message}
 use Rattle.hs_ring.specs.Parts.{AreInOrder, Closes, answers_of_all}
 use Rattle.hs_words.specs.Ends.{IsTogether}
 use Rattle.hs_words.specs.declared.token.Tally.{Tally}
-use Rattle.hs_run_agent.specs.Coordinators.{IsHearable, all_empty}
-use Rattle.hs_run_story.specs.Closing as closing
-use Rattle.hs_run_story.specs.Closing.{drawn_at, IsClosedPool, IsOver}
+use Rattle.hs_run_actors.specs.Coordinators.{IsHearable, all_empty}
+use Rattle.hs_run.specs.Closing as closing
+use Rattle.hs_run.specs.Closing.{drawn_at, IsClosedPool, IsOver}
 use Rattle.hs_run.specs.Shutting.{AllBare}
 
 abbrev pub drawer_of : PlainClientActor → Drawing

@@ -7,9 +7,9 @@ use Rattle.hs_law_agent.specs.Stepping.{Chunk, Crumbed, Triggered, Asked, Turn, 
 use Rattle.hs_law_journal.specs.Doings.{chunk_in, chunks_in, crumb_in, trigger_in}
 use Rattle.hs_law_journal.specs.Following.{asks_to}
 use Rattle.hs_law_journal.proofs.Sums.{sum_to}
-use Rattle.hs_law_lockstep.proofs.Closing.{sum_const}
-use Rattle.hs_law_lockstep.proofs.FewAsks.{asks_few}
-use Rattle.hs_run_agent.specs.Agents.{IsWithin, state_at}
+use Rattle.hs_law_run.proofs.Closing.{sum_const}
+use Rattle.hs_law_run.proofs.FewAsks.{asks_few}
+use Rattle.hs_run_actors.specs.Agents.{IsWithin, state_at}
 use Rattle.hs_run.specs.Accounts.{worked, load_of, done_for, total, PaysFor}
 use Rattle.hs_run.specs.Closings.{SentsFit, most_passes}
 use Rattle.hs_run.proofs.FewTaken.{few_clients}

@@ -1,16 +1,16 @@
 -- No agent takes more triggers than its clients sent, and these are no more than the workload has.
 use Rattle.std.proofs.Common.{◌≡◌, ℕ, zero, suc, ◌+◌, ◌*◌, ◌<◌, ◌≤◌, List, [], ◌∷◌, ◌++◌, length, take, cond, eq-eqb, Bool, false, Option, refl, ap, ◌∙◌, arith, slice_get, unwrap_or, length-append}
 use Rattle.hs_run.proofs.Prelude.{AllByRecursion, get_there, triggers_in, Trigger, AgentEvent, Operation, PlainWorkload, NodeWork, IsFew, IsValid, client_pieces, last_low}
-use Rattle.hs_lists.proofs.Counts.{count_cons}
-use Rattle.hs_lists.proofs.Places.{take_more}
+use Rattle.hs_base.proofs.Counts.{count_cons}
+use Rattle.hs_base.proofs.Places.{take_more}
 use Rattle.hs_base.specs.declared.limits.TheConstants.{MAX_CLIENTS}
 use Rattle.hs_law_agent.specs.Stepping.{Chunk, Crumbed, Triggered, Asked, Turn, Took, Gave}
 use Rattle.hs_law_journal.proofs.Sums.{sum_to, sum_le, sum_lt}
 use Rattle.hs_law_journal.specs.Doings.{trigger_in}
 use Rattle.hs_records.specs.Validity.{workload_pieces}
 use Rattle.hs_records.specs.declared.setting.Setting.TheVariants as settings
-use Rattle.hs_run_agent.specs.Agents.{IsWithin}
-use Rattle.hs_run_agent.specs.Work.{is_triggered, triggered}
+use Rattle.hs_run_actors.specs.Agents.{IsWithin}
+use Rattle.hs_run_actors.specs.Work.{is_triggered, triggered}
 
 -- ---- the clients of a workload
 

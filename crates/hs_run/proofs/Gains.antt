@@ -12,8 +12,8 @@ use Rattle.hs_law_journal.proofs.Loads.{load_input, weight}
 use Rattle.hs_law_journal.specs.Following.{Queue, Chunks, Crumbs, Triggers, Asks, taken, takes}
 use Rattle.hs_law_journal.specs.LoopPasses.{IsPass, step_from}
 use Rattle.hs_law_journal.specs.Passes.{queues_of}
-use Rattle.hs_lists.proofs.Counts.{count_append, count_cons, one_few, one_if}
-use Rattle.hs_run_agent.specs.Agents.{state_at}
+use Rattle.hs_base.proofs.Counts.{count_append, count_cons, one_few, one_if}
+use Rattle.hs_run_actors.specs.Agents.{state_at}
 use Rattle.hs_run.specs.Accounts.{weigh, worked, load, load_of}
 
 -- ---- what is taken

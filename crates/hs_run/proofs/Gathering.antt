@@ -5,7 +5,7 @@ use Rattle.hs_law_journal.specs.Following.{followed}
 use Rattle.hs_law_journal.specs.Lawful.{IsLawful}
 use Rattle.hs_law_agent.specs.Books.{book_of}
 use Rattle.hs_law_outcome.specs.Outcomes.{client_books, agent_books}
-use Rattle.hs_run_story.specs.Laws.{IsRecounted}
+use Rattle.hs_run.specs.Laws.{IsRecounted}
 use Rattle.hs_run.specs.Shutting.{IsClosedAgentFrom}
 use Rattle.hs_run.proofs.ClientBooks.{node_books, books_more}
 use Rattle.hs_run.proofs.Ending.{drawer_of, all_ends, all_over}

@@ -1,4 +1,20 @@
 mod Prelude
+pub mod Coming
+pub mod Chunks
+pub mod Drawing
+pub mod Spanning
+pub mod StoryMoments
+pub mod StoryMeetings
+pub mod Links
+pub mod LinkKinds
+pub mod Joined
+pub mod Sending
+pub mod Whole
+pub mod Further
+pub mod Recounted
+pub mod Kept
+pub mod StoryNoted
+pub mod Drawn
 pub mod Choosing
 pub mod Clients
 pub mod Acted

@@ -3,13 +3,13 @@ use Rattle.std.proofs.Common.{◌≡◌, ℕ, suc, ◌<◌, ◌≤◌, max, List
 use Rattle.hs_run.proofs.Prelude.{map-append, same_Some, slice_get_within, slice_get, same_or_less, get_set_cases, get_set, get_other, client_of, Incoming, Outgoing, AreMates, Key, IsMate, PlainWorkload, Giving, operations_at, place_of, PlainClientActor, ClientActorIsAt, PlainAgentActor, NodeWork, PlainNodeActors, NodeActorsStand, NodeActorsMeet, MeetsOne, HaveMet}
 use Rattle.std.proofs.Math.Nat.{le-max_left, le-max_right}
 use Rattle.std.proofs.lemmas.List.{reverse-append}
-use Rattle.hs_lists.proofs.Places.{take_more, take_get, get_take}
-use Rattle.hs_lists.proofs.Parts.{take_whole}
+use Rattle.hs_base.proofs.Places.{take_more, take_get, get_take}
+use Rattle.hs_base.proofs.Parts.{take_whole}
 use Rattle.hs_link.specs.Contents.{Contains}
 use Rattle.hs_live.specs.Live.{hears, is_told, MeetAt}
 use Rattle.hs_ring.specs.Parts.{AllBelow}
 use Rattle.hs_words.specs.Ends.{Answer, GiverTurn, answers_in, stamps_in}
-use Rattle.hs_run_story.specs.Meeting.{EndsMet, ClientActorMet, GiverMet, told_of}
+use Rattle.hs_run.specs.Meeting.{EndsMet, ClientActorMet, GiverMet, told_of}
 use Rattle.hs_law_journal.proofs.Told.{answers_behind}
 
 -- ---- one link

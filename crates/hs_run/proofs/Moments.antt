@@ -1,7 +1,7 @@
 -- From what each node did to what all did between two moments.
 use Rattle.std.proofs.Common.{◌≡◌, inl, inr, ℕ, zero, suc, ◌<◌, List, [], ◌∷◌, ◌++◌, length, Some, None, refl, sym, ap, subst, ◌∙◌, arith, slice_get}
 use Rattle.hs_run.proofs.Prelude.{AllByRecursion, cases_lt, length-map, same_Some, slice_get_within, Result, Ok, Err, OnOk, get_there, Ask, Told, Messages, PlainWorkload, workload_of, Workload, PlainCoordinatorActor, IsCoordinatorActor, asks_for, Hears, NodeWork, PlainNodeActors, RunState, NodeActorsStand, RunStands, moved_by, asked_by, NodeActorsAct, NodeActorsMeet, ActingNode, EachChanged, IsHere, AreFew, ActedTo, MetTo, HasMet, AllHaveActed, NoneFailed, sites_of}
-use Rattle.hs_run_agent.specs.Agents.{IsTellable}
+use Rattle.hs_run_actors.specs.Agents.{IsTellable}
 use Rattle.hs_run.specs.Nodes.{HasHeard}
 use Rattle.hs_run.proofs.Choosing.{Chosen, choose}
 

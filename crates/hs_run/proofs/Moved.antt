@@ -2,8 +2,8 @@
 use Rattle.std.proofs.Common.{◌≡◌, inl, inr, ℕ, ◌+◌, ◌<◌, ◌≤◌, List, [], ◌++◌, set, length, Some, refl, sym, ap, ap₂, subst, ◌∙◌, arith, slice_get}
 use Rattle.hs_run.proofs.Prelude.{cases_lt, length-map, get_set_cases, put, put_here, put_else, Asks, PlainWorkload, PlainCoordinatorActor, IsCoordinatorActor, asks_for, NodeWork, PlainNodeActors, RunState, NodeActorsStand, RunStands, moved_by, asked_by, ActingNode, IsHere, MovedTo, Moving, sites_of}
 use Rattle.hs_base.proofs.Updates.{put_cases}
-use Rattle.hs_run_agent.specs.Coordinators.{AreFetched}
-use Rattle.hs_run_story.specs.Moving.{IsSameDoing, NodeActorsMove}
+use Rattle.hs_run_actors.specs.Coordinators.{AreFetched}
+use Rattle.hs_run.specs.Moving.{IsSameDoing, NodeActorsMove}
 use Rattle.hs_run.specs.Movings.{HasExchanged, IsExchanged, NodeMoves, exchanged}
 use Rattle.hs_run.proofs.Changed.{first_none, first_more, first_all}
 use Rattle.hs_run.proofs.Moments.{node_count, node_stands, coordinates, node_there}

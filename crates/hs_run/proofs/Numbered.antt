@@ -7,8 +7,8 @@ use Rattle.std.proofs.lemmas.List.Sums.{sum_by-append}
 use Rattle.std.proofs.lemmas.Bool.{and_parts}
 use Rattle.std.specs.Cmp.Derive.{both_true}
 use Rattle.std.specs.Option.{option_and_then, option_to_list}
-use Rattle.hs_lists.proofs.Alls.{all_append, all_find, all_front}
-use Rattle.hs_lists.proofs.Counts.{count_cons, one_few}
+use Rattle.hs_base.proofs.Alls.{all_append, all_find, all_front}
+use Rattle.hs_base.proofs.Counts.{count_cons, one_few}
 use Rattle.hs_base.specs.Ids.{same_trace}
 use Rattle.hs_base.specs.declared.told.Group.{Group}
 use Rattle.hs_coord.specs.Messages.{Message}
@@ -21,12 +21,12 @@ use Rattle.hs_law_journal.specs.Following.{asks_behind, asks_to, is_from}
 use Rattle.hs_law_journal.proofs.Groups.{asks_known}
 use Rattle.hs_law_journal.proofs.Hearing.{heard_both}
 use Rattle.hs_law_journal.proofs.Steps.{asks_more}
-use Rattle.hs_law_lockstep.proofs.FewAsks.{IsNumbered}
-use Rattle.hs_run_agent.specs.Coordinators.{IsHearable}
-use Rattle.hs_run_agent.specs.Work.{is_triggered, triggered}
-use Rattle.hs_run_story.proofs.Joined.{post, heard_by, post_last, heard_last, heard_low, heard_grows, all_posts, all_steps}
-use Rattle.hs_run_story.proofs.Spanning.{heard_count, asked_before, said_before}
-use Rattle.hs_run_story.specs.Spans.{IsNodeBetweenPasses, IsStep}
+use Rattle.hs_law_run.proofs.FewAsks.{IsNumbered}
+use Rattle.hs_run_actors.specs.Coordinators.{IsHearable}
+use Rattle.hs_run_actors.specs.Work.{is_triggered, triggered}
+use Rattle.hs_run.proofs.Joined.{post, heard_by, post_last, heard_last, heard_low, heard_grows, all_posts, all_steps}
+use Rattle.hs_run.proofs.Spanning.{heard_count, asked_before, said_before}
+use Rattle.hs_run.specs.Spans.{IsNodeBetweenPasses, IsStep}
 
 -- ---- lists
 

@@ -2,7 +2,7 @@
 use Rattle.std.proofs.Common.{◌≡◌, ℕ, true, ap, ◌∙◌, eq-eqb, Option}
 use Rattle.hs_run.proofs.Prelude.{Buffer, ClientId, Leased, PlainWorkload, Sheet, is_of}
 use Rattle.hs_agent.specs.Points.{sheet_in}
-use Rattle.hs_run_agent.specs.Agents.{IsPageThere}
+use Rattle.hs_run_actors.specs.Agents.{IsPageThere}
 use Rattle.hs_words.specs.Pools.{PoolName}
 
 pub of_client : (W : PlainWorkload) (node : ℕ) (pool : PoolName) (buffer : Buffer Leased) (there : IsPageThere W node pool buffer) → is_of there.client buffer ≡ true

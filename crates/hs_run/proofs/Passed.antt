@@ -1,8 +1,8 @@
 -- A pass of one node, and of one node after another.
 use Rattle.std.proofs.Common.{◌≡◌, inl, inr, ℕ, ◌+◌, ◌<◌, List, [], ◌++◌, set, length, length-set, Some, refl, sym, ap, subst, ◌∙◌, arith, slice_get}
 use Rattle.hs_run.proofs.Prelude.{length-append, same_everywhere, same_Some, same_or_less, get_set_cases, get_other, Messages, AgentEvent, PlainWorkload, Leased, Buffer, asks_in, steps_of, put, put_here, put_else, log_stamps, PlainCoordinatorActor, Brings, PlainClosedAgent, AllSent, IsClosedAgent, NodeWork, with_events, with_moved, moved_by, asked_by, AllSents, IsClosedAgentAt, PassedAlone, ClosingStands, Passing}
-use Rattle.hs_run_agent.specs.Turns.{GiverGoesOn}
-use Rattle.hs_run_agent.specs.ClosedAgents.{ClosedAgentPasses}
+use Rattle.hs_run_actors.specs.Turns.{GiverGoesOn}
+use Rattle.hs_run_actors.specs.ClosedAgents.{ClosedAgentPasses}
 use Rattle.hs_run.specs.Shutting.{ClosingCanPass, ClosingHasPassed}
 use Rattle.hs_run.proofs.Moments.{coordinates_same}
 

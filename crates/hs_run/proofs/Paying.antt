@@ -2,13 +2,13 @@
 use Rattle.std.proofs.Common.{◌≡◌, inl, inr, ℕ, ◌+◌, ◌<◌, ◌≤◌, List, ◌∷◌, ◌++◌, length, sym, ap, subst, ◌∙◌, arith}
 use Rattle.hs_run.proofs.Prelude.{AllByRecursion, length-append, length-map, slice_get_within, get_there, Messages, Sheet, EventsAddThis, PlainWorkload, Leased, Buffer, PlainCoordinatorActor, Hears, heard_of, ListsHaveTheirChunks, NodeWork, came_of, is_of, PlainClosedAgent, RunState, moved_by, asked_by, AllSents, IsClosedAgentAt, Passing, Asked, ClosingAt}
 use Rattle.hs_agent.specs.Points.{sheet_in}
-use Rattle.hs_lists.proofs.Alls.{all_at, all_by_place, all_front, all_map}
+use Rattle.hs_base.proofs.Alls.{all_at, all_by_place, all_front, all_map}
 use Rattle.hs_law_agent.specs.Laws.{CanReport, ChunksStandByTheirClaim, EventsAddFew, EventsGoOn, sheets_of, StepsSayWhatTheyTell, TurnsReport}
 use Rattle.hs_law_journal.proofs.ItemsTaken.{sheets_taken}
 use Rattle.hs_law_journal.proofs.Shares.{HaveWeights}
 use Rattle.hs_law_journal.specs.Doings.{chunks_in}
-use Rattle.hs_run_agent.specs.Agents.{IsPageThere, state_at}
-use Rattle.hs_run_story.proofs.Chunks.{chunks_came}
+use Rattle.hs_run_actors.specs.Agents.{IsPageThere, state_at}
+use Rattle.hs_run.proofs.Chunks.{chunks_came}
 use Rattle.hs_law_journal.proofs.Lists.{all_passing}
 use Rattle.hs_words.specs.Chunks.{used_of}
 use Rattle.hs_run.specs.Accounts.{load_of, done_for, PaysFor}

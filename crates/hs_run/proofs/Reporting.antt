@@ -1,7 +1,7 @@
 -- What is pinned can be reported: in a run each claim is of a declared trigger id.
 use Rattle.std.proofs.Common.{◌≡◌, ℕ, ◌≤◌, Bool, true, false, cond, List, [], ◌∷◌, sym, subst, Some, None}
 use Rattle.hs_run.proofs.Prelude.{AllByRecursion, Sheet, after, AgentEvent, PlainWorkload, ListsHaveTheirChunks}
-use Rattle.hs_lists.proofs.Alls.{all_at}
+use Rattle.hs_base.proofs.Alls.{all_at}
 use Rattle.hs_base.specs.Rules.{is_declared}
 use Rattle.hs_base.specs.declared.told.Group.{Group}
 use Rattle.hs_law_agent.specs.Laws.{IsPassed, claimed_by, sheets_of, CanReport, EventsAddFew, ChunksStandByTheirClaim}
@@ -9,7 +9,7 @@ use Rattle.hs_law_agent.specs.State.{AgentState, start}
 use Rattle.hs_law_agent.specs.Stepping.{Input, Chunk, Crumbed, Triggered, Asked, Turn, Took, Gave, admits, after_from, after_event, group_of}
 use Rattle.hs_law_journal.proofs.Pinned.{AreDeclared, can_report}
 use Rattle.hs_law_journal.proofs.Shares.{AreOfRules, HaveWeights, shares_event, shares_start}
-use Rattle.hs_run_agent.specs.Agents.{IsWithin}
+use Rattle.hs_run_actors.specs.Agents.{IsWithin}
 use Rattle.hs_words.specs.Chunks.{used_of}
 
 -- ---- what is claimed

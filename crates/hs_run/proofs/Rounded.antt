@@ -4,11 +4,11 @@ use Rattle.hs_run.proofs.Prelude.{suc-mul, slice_get_within, get_there, ClientId
 use Rattle.std.proofs.Math.Nat.{mul-le-mul_left}
 use Rattle.hs_records.specs.declared.setting.Setting.TheVariants as settings
 use Rattle.hs_records.proofs.Sizes.{operations_few}
-use Rattle.hs_run_agent.specs.Work.{triggered}
-use Rattle.hs_run_story.specs.Acting.{Acts}
-use Rattle.hs_run_story.specs.Meeting.{AllMeet}
-use Rattle.hs_run_story.specs.Moving.{Moves}
-use Rattle.hs_run_story.specs.Coming.{RoundsGoOn}
+use Rattle.hs_run_actors.specs.Work.{triggered}
+use Rattle.hs_run.specs.Acting.{Acts}
+use Rattle.hs_run.specs.Meeting.{AllMeet}
+use Rattle.hs_run.specs.Moving.{Moves}
+use Rattle.hs_run.specs.Coming.{RoundsGoOn}
 use Rattle.hs_run.specs.Moments.{AllDone}
 use Rattle.hs_run.specs.Movings.{AllStand}
 use Rattle.hs_run.specs.Nodes.{AreWhole}

@@ -1,10 +1,10 @@
 -- What the watchers of a run see.
 use Rattle.std.proofs.Common.{◌≡◌, ℕ, zero, suc, ◌*◌, ◌≤◌, Bool, true, false, not, cond, nat_lt, ltb-true, List, [], ◌∷◌, ◌++◌, length, take, filter, Some, None, refl, sym, ap, subst, ◌∙◌, ⊎_elim, arith, sum_by, count_by}
 use Rattle.hs_run.proofs.Prelude.{AllByRecursion, range_with_len, sum_by-cons, Progress, first, IsLast, PlainJournal, Draw, is_point, is_chunk, is_given, done_after, points_after, nulls_after, steps_after, progress_after, Operation, PlainWorkload, NotesRounds, RunState, Came, has_buffer, operations_at, TimedPage, timed_pages, IsValid, IsTotalBehind, IsTotal, ShownIsSeen}
-use Rattle.hs_lists.proofs.Alls.{all_weaker}
+use Rattle.hs_base.proofs.Alls.{all_weaker}
 use Rattle.hs_board.specs.Shown.{IsAmong}
-use Rattle.hs_law_sends.specs.Draws.{count_started}
-use Rattle.hs_law_sends.specs.Sending.{draws_at}
+use Rattle.hs_client.specs.Draws.{count_started}
+use Rattle.hs_client.specs.Sending.{draws_at}
 use Rattle.hs_run.proofs.Counted.{counts_come, progress_so}
 
 none_started : (pages : List TimedPage) → length (filter (λ (page : TimedPage). nat_lt page.started 0) pages) ≡ 0

@@ -5,19 +5,19 @@ use Rattle.std.specs.List.{sum_by}
 use Rattle.hs_agent.specs.Points.{sheet_in}
 use Rattle.hs_client.specs.Calls.{sheet_for}
 use Rattle.hs_records.specs.declared.journal.Draw.{Draw}
-use Rattle.hs_lists.proofs.Alls.{all_filter, all_map, all_unmap}
-use Rattle.hs_lists.proofs.Filters.{filter_few}
+use Rattle.hs_base.proofs.Alls.{all_filter, all_map, all_unmap}
+use Rattle.hs_base.proofs.Filters.{filter_few}
 use Rattle.hs_law_journal.specs.Known.{PiecesCounted}
 use Rattle.hs_law_journal.proofs.FewSent.{chunks_few, drawn_few, sends_few}
 use Rattle.hs_law_journal.proofs.Sizes.{all_few, client_few}
 use Rattle.hs_law_journal.proofs.Workloads.{ends_at}
-use Rattle.hs_law_lockstep.specs.Clauses.{ValidWorkloadsRun}
-use Rattle.hs_law_sends.specs.Drawn.{DrawnPage, drawn_from, has_buffer}
-use Rattle.hs_law_sends.specs.Laws.{PagesFit, TimedPagesAreThePages}
-use Rattle.hs_law_sends.specs.OneMore.{items_of}
-use Rattle.hs_law_sends.specs.Sending.{Sent, sends_of, sent_chunks, sent_within, sheet_of}
+use Rattle.hs_law_run.specs.Clauses.{ValidWorkloadsRun}
+use Rattle.hs_client.specs.Drawn.{DrawnPage, drawn_from, has_buffer}
+use Rattle.hs_client.specs.Laws.{PagesFit, TimedPagesAreThePages}
+use Rattle.hs_client.specs.OneMore.{items_of}
+use Rattle.hs_client.specs.Sending.{Sent, sends_of, sent_chunks, sent_within, sheet_of}
 use Rattle.hs_records.specs.Pages.{pages_of}
-use Rattle.hs_run_story.proofs.Chunks.{sheets_are}
+use Rattle.hs_run.proofs.Chunks.{sheets_are}
 use Rattle.hs_words.specs.Chunks.{used_of}
 use Rattle.hs_run.specs.Closings.{SentsFit}
 use Rattle.hs_run.proofs.Starting.{HaveSent, are_sents}

@@ -3,13 +3,13 @@ use Rattle.std.proofs.Common.{◌≡◌, ℕ, zero, suc, ◌<◌, List, [], ◌�
 use Rattle.hs_run.proofs.Prelude.{Result, Ok, Err, IfOk, Listing, client_book_of, IsClosedAgent, AllSent, append-nil, length-map, AllByRecursion, get_unmap, Crumb, Trigger, client_of, PlainClientBook, Outgoing, Incoming, Key, IsMate, Drawing, Leased, Buffer, PlainClientActor, linked, PlainClosedAgent, AreMatesOf, PlainNodeActors, operations_at, place_of, HaveClosedLinks}
 use Rattle.std.proofs.lemmas.Result.{IfOk-at_ok}
 use Rattle.hs_base.specs.declared.ids.Memory.{Memory}
-use Rattle.hs_lists.proofs.Alls.{all_by_place}
-use Rattle.hs_run_client.specs.Standing.{IsDone}
+use Rattle.hs_base.proofs.Alls.{all_by_place}
+use Rattle.hs_run_actors.specs.Standing.{IsDone}
 use Rattle.hs_records.specs.declared.books.ClientBook.{ClientBook}
 use Rattle.hs_live.specs.Live.{outgoing}
-use Rattle.hs_run_agent.specs.ClosedAgents.{all_sent}
-use Rattle.hs_run_client.specs.Nodes.{AreNotes}
-use Rattle.hs_run_client.specs.declared.apart.PartedClients.{PartedClients}
+use Rattle.hs_run_actors.specs.ClosedAgents.{all_sent}
+use Rattle.hs_run_actors.specs.Nodes.{AreNotes}
+use Rattle.hs_run_actors.specs.declared.apart.PartedClients.{PartedClients}
 use Rattle.hs_run.specs.Closed.{AreEndsLeft, IsClosedOf, IsClosedWith}
 use Rattle.hs_run.specs.Ended.{IsEnded, HasClosedLinks}
 use Rattle.hs_run.specs.declared.shutting.ClosedNode.{ClosedNode}

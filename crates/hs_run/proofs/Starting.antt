@@ -1,8 +1,8 @@
 -- Where the rounds end, closing begins.
 use Rattle.std.proofs.Common.{◌≡◌, ℕ, zero, suc, ◌<◌, ◌≤◌, List, [], ◌∷◌, ◌++◌, length, map, Option, Some, sym, ap, subst, ◌∙◌, arith, slice_get, option_map}
 use Rattle.hs_run.proofs.Prelude.{option_map_or, slice_get-map, slice_get_within, get_there, ClientId, client_of, Outgoing, sent, Key, after, Operation, PlainSettings, PlainWorkload, Giving, operations_at, place_of, client_pieces, PlainClientActor, ClientActorIsAt, HasSentSoFar, PlainClosedAgent, AllSent, IsClosedAgent, NodeWork, PlainNodeActors, RunState, RunStands, Came, NodeBetweenPasses, ClosingBegins, ClosingAt, AreClosedAgentsFrom, sents_at}
-use Rattle.hs_run_agent.specs.ClosedAgents.{sent_at}
-use Rattle.hs_run_story.specs.Closing.{left_at}
+use Rattle.hs_run_actors.specs.ClosedAgents.{sent_at}
+use Rattle.hs_run.specs.Closing.{left_at}
 use Rattle.hs_run.specs.Shutting.{AreSentsOf}
 use Rattle.hs_run.proofs.FewShut.{few_shut}
 use Rattle.hs_run.specs.Ended.{sents_of}

@@ -1,7 +1,7 @@
 -- What all nodes leave, one after another.
 use Rattle.std.proofs.Common.{◌≡◌, ℕ, zero, suc, ◌<◌, List, [], ◌∷◌, ◌++◌, length, map, zip, get_or, Some, None, sym, ap, subst, ◌∙◌, arith, slice_get}
 use Rattle.hs_run.proofs.Prelude.{length-map, same_Some, get_unmap, Listing, PlainAgentBook, Incoming, Outgoing, Key, IsMate, Drawing, PlainClientActor, PlainClosedAgent, AreMatesOf, CanFinish, MayFinish, HasFinished, HaveFinished, items_of}
-use Rattle.hs_lists.proofs.Places.{get_map}
+use Rattle.hs_base.proofs.Places.{get_map}
 
 -- the senders of all clients, with their receivers
 pub mates_of : {T : Type 0} (f : PlainClientActor → Outgoing T Key) (callers : List PlainClientActor) (senders : List (Outgoing T Key)) (receivers : List (Incoming T Key)) → senders ≡ map f callers → length callers ≡ length receivers

@@ -2,7 +2,7 @@
 use Rattle.std.proofs.Common.{◌≡◌, ℕ, ◌+◌, ◌<◌, ◌≤◌, Bool, true, false, cond, eq-eqb, List, [], ◌∷◌, ◌++◌, length, refl, ap, ◌∙◌, inl, inr, arith, slice_get, count_by, length-append}
 use Rattle.hs_run.proofs.Prelude.{cases_lt, length-map, sum_by-cons, AllByRecursion, flat_map, steps_of, Step, EventsAddThis, ListsHaveTheirChunks, brought_by, noted_as, AgentEvent, after, is_chunk, is_given, PlainSettings}
 use Rattle.std.specs.Prelude.{IsSome}
-use Rattle.hs_lists.proofs.Counts.{one_if, one_few}
+use Rattle.hs_base.proofs.Counts.{one_if, one_few}
 use Rattle.hs_law_journal.specs.LoopPasses.{HandsReady}
 use Rattle.hs_law_agent.proofs.Counts.{passes_past}
 use Rattle.hs_law_agent.specs.Laws.{ListsEach, count_of, given_places}

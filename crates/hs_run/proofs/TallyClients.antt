@@ -2,12 +2,12 @@
 use Rattle.std.proofs.Common.{◌≡◌, ℕ, ◌+◌, ◌≤◌, List, [], ◌∷◌, ◌++◌, length, map, take, drop, filter, ap, ◌∙◌, arith, Some, refl, count_by, length-append, length-take, nat_lt}
 use Rattle.hs_run.proofs.Prelude.{length-map, ClientId, MAX_OPERATIONS, PlainClientActor, ClientActorIsAt, HasSentSoFar, is_null, ClientCount, client_count, Draw, sent, is_point, Operation, PlainSettings, Leased, has_buffer, TimedPage, timed_pages, Buffer, Sheet, client_pieces, no_operations}
 use Rattle.std.proofs.lemmas.List.Sums.{count_by-le-length}
-use Rattle.hs_lists.proofs.Filters.{filter_few}
-use Rattle.hs_run_client.specs.Standing.{sheets_in}
+use Rattle.hs_base.proofs.Filters.{filter_few}
+use Rattle.hs_run_actors.specs.Standing.{sheets_in}
 use Rattle.hs_client.specs.Calls.{after}
 use Rattle.hs_client.specs.Core.{Core, CoreStep, Began, Wrote, Needed, Supplied, Ended_, Refused, draw_of, new_core}
-use Rattle.hs_law_sends.specs.Drawn.{DrawnPage, drawn_from, drawn_pages}
-use Rattle.hs_law_sends.specs.Sending.{Sent, sends_of, sent_within, sheet_of}
+use Rattle.hs_client.specs.Drawn.{DrawnPage, drawn_from, drawn_pages}
+use Rattle.hs_client.specs.Sending.{Sent, sends_of, sent_within, sheet_of}
 
 -- what clients have sent
 abbrev pub SendSo : Type 0

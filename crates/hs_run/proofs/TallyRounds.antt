@@ -6,9 +6,9 @@ use Rattle.std.proofs.lemmas.List.{length-replicate}
 use Rattle.std.proofs.lemmas.Option.{slice_get_within as within}
 use Rattle.hs_law_journal.proofs.ItemsTaken.{own_log}
 use Rattle.hs_base.specs.declared.limits.TheConstants.{MAX_NODES, MAX_CLIENTS}
-use Rattle.hs_run_agent.specs.Agents.{IsPageThere}
-use Rattle.hs_run_story.proofs.Meetings.{caller_at, done_at, here_at}
-use Rattle.hs_run_story.proofs.Moments.{doing_same, round_steps, site_acts, site_meets, site_of, site_there, stands_at}
+use Rattle.hs_run_actors.specs.Agents.{IsPageThere}
+use Rattle.hs_run.proofs.StoryMeetings.{caller_at, done_at, here_at}
+use Rattle.hs_run.proofs.StoryMoments.{doing_same, round_steps, site_acts, site_meets, site_of, site_there, stands_at}
 use Rattle.hs_records.specs.declared.setting.Setting.TheVariants as settings
 use Rattle.hs_run.specs.TallyingNodes.{MayCountLogs}
 use Rattle.hs_run.proofs.FewTaken.{few_clients}

@@ -2,7 +2,7 @@
 use Rattle.std.proofs.Common.{◌≡◌, ℕ, zero, suc, ◌+◌, ◌*◌, ◌<◌, ◌≤◌, refl, arith}
 use Rattle.hs_run.proofs.Prelude.{mul-le-mul_right, suc-mul}
 use Rattle.hs_law_journal.proofs.Sums.{sum_to, sum_le, sum_lt}
-use Rattle.hs_law_lockstep.proofs.Closing.{sum_both}
+use Rattle.hs_law_run.proofs.Closing.{sum_both}
 use Rattle.hs_run.specs.Accounts.{total}
 
 total_is : (f : ℕ → ℕ) (n : ℕ) → total f n ≡ sum_to f n

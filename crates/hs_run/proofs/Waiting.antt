@@ -4,9 +4,9 @@ use Rattle.hs_run.proofs.Prelude.{AllByRecursion, length-append, length-map, sli
 use Rattle.hs_base.specs.declared.limits.TheConstants.{MAX_TAKEN}
 use Rattle.hs_law_agent.specs.Laws.{CanReport, EventsAddFew, EventsGoOn, StepsSayWhatTheyTell, TurnsReport}
 use Rattle.hs_law_journal.specs.Doings.{chunks_in}
-use Rattle.hs_run_agent.specs.Agents.{state_at}
-use Rattle.hs_run_agent.specs.Coordinators.{all_empty, is_empty}
-use Rattle.hs_run_story.specs.Moving.{IsSameDoing}
+use Rattle.hs_run_actors.specs.Agents.{state_at}
+use Rattle.hs_run_actors.specs.Coordinators.{all_empty, is_empty}
+use Rattle.hs_run.specs.Moving.{IsSameDoing}
 use Rattle.hs_run.proofs.Gains.{Gains, gains_even, gains_heard, gains_chunk, gains_crumb, gains_trigger, gains_ask, gains_report}
 
 pub data Waits (W : PlainWorkload) (node : ℕ) (sents : AllSent) (heard : Messages) (work : NodeWork) : Type 0 where

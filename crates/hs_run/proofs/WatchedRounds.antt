@@ -1,9 +1,9 @@
 -- Why what is shown to the watchers of a run goes on to be right, round by round, and what it comes to at the end.
 use Rattle.std.proofs.Common.{◌≡◌, inl, inr, ℕ, zero, suc, ◌+◌, ◌*◌, ◌-◌, ◌/◌, ◌%◌, ◌<◌, ◌≤◌, List, [], ◌∷◌, length, Option, Some, None, true, false, unwrap_or, ⊎_elim, refl, sym, ap, subst, ◌∙◌, arith, slice_get, div-lt_iff_lt-mul, div-add-mod'}
 use Rattle.hs_run.proofs.Prelude.{mod-lt, AllByRecursion, Result, Ok, Err, OnOk, slice_get_within, all_each, get_there, Progress, first, IsLast, PlainRunTally, AreCounts, progress_of, TheseAreAllRounds, IsTotal, IsTotalBehind, PlainCoordinatorActor, Operation, PlainWorkload, AllBegin, PlainNodeActors, RunState, IsBegun, Came, NoRoundsCome, operations_at, place_of, Showing, ActingNode, ActedTo, MetTo, MovedTo, CanBegin, DoneIn, RoundsMade, TellsLeft, FitTotals, MayCount, shown_on, RoundsWatched, AllWatched}
-use Rattle.hs_lists.proofs.Alls.{all_append}
+use Rattle.hs_base.proofs.Alls.{all_append}
 use Rattle.hs_run.proofs.Seeing.{end_of}
-use Rattle.hs_run_story.specs.Coming.{RoundsKeepWhatCame}
+use Rattle.hs_run.specs.Coming.{RoundsKeepWhatCame}
 use Rattle.hs_board.specs.Watching.{ShownTotals, WatchStands, BothLookTimes, HaveLookedInAll, KnowLast}
 use Rattle.hs_records.specs.declared.setting.Setting.TheVariants as settings
 use Rattle.hs_run.specs.Watched.{MayShow, IsNeeded, WatchEnded}

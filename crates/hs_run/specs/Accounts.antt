@@ -8,9 +8,9 @@ use Rattle.hs_law_agent.specs.Laws.{borne}
 use Rattle.hs_law_agent.specs.State.{AgentState}
 use Rattle.hs_law_journal.specs.Doings.{steps_of}
 use Rattle.hs_records.specs.Plain.{PlainWorkload}
-use Rattle.hs_run_agent.specs.Agents.{state_at}
-use Rattle.hs_run_agent.specs.Coordinators.{heard_of}
-use Rattle.hs_run_agent.specs.Work.{NodeWork}
+use Rattle.hs_run_actors.specs.Agents.{state_at}
+use Rattle.hs_run_actors.specs.Coordinators.{heard_of}
+use Rattle.hs_run_actors.specs.Work.{NodeWork}
 
 -- how many items or asks a step takes
 abbrev pub weigh : Step → ℕ

@@ -3,10 +3,10 @@ use Rattle.std.specs.Prelude.{◌≡◌, map, Result, Ok}
 use Rattle.hs_base.specs.declared.ids.Memory.{Memory}
 use Rattle.hs_live.specs.Live.{outgoing}
 use Rattle.hs_records.specs.Plain.{PlainWorkload}
-use Rattle.hs_run_agent.specs.AgentActors.{PlainAgentActor, IsAgentActor}
-use Rattle.hs_run_agent.specs.ClosedAgents.{AreMatesOf, IsClosedAgent, all_sent}
-use Rattle.hs_run_agent.specs.Work.{NodeWork}
-use Rattle.hs_run_client.specs.declared.apart.PartedClients.{PartedClients}
+use Rattle.hs_run_actors.specs.AgentActors.{PlainAgentActor, IsAgentActor}
+use Rattle.hs_run_actors.specs.ClosedAgents.{AreMatesOf, IsClosedAgent, all_sent}
+use Rattle.hs_run_actors.specs.Work.{NodeWork}
+use Rattle.hs_run_actors.specs.declared.apart.PartedClients.{PartedClients}
 use Rattle.hs_run.specs.declared.shutting.ClosedNode.{ClosedNode}
 
 -- What the clients left are the other ends of the agent's links.

@@ -6,11 +6,11 @@ use Rattle.hs_base.specs.declared.limits.TheConstants.{MAX_NODES, MAX_OPERATIONS
 use Rattle.hs_coord.specs.Messages.{Messages}
 use Rattle.hs_records.specs.Plain.{PlainWorkload}
 use Rattle.hs_ring.specs.Parts.{Leased}
-use Rattle.hs_run_agent.specs.ClosedAgents.{PlainClosedAgent}
-use Rattle.hs_run_agent.specs.Coordinators.{PlainCoordinatorActor, Hears}
-use Rattle.hs_run_agent.specs.Work.{NodeWork}
-use Rattle.hs_run_story.specs.Coming.{Came}
-use Rattle.hs_run_story.specs.RunStates.{RunState, RunStands, moved_by, asked_by}
+use Rattle.hs_run_actors.specs.ClosedAgents.{PlainClosedAgent}
+use Rattle.hs_run_actors.specs.Coordinators.{PlainCoordinatorActor, Hears}
+use Rattle.hs_run_actors.specs.Work.{NodeWork}
+use Rattle.hs_run.specs.Coming.{Came}
+use Rattle.hs_run.specs.RunStates.{RunState, RunStands, moved_by, asked_by}
 use Rattle.hs_words.specs.Buffers.{Buffer}
 use Rattle.hs_words.specs.Chunks.{used_of}
 use Rattle.hs_run.specs.Accounts.{PaysFor}

@@ -4,9 +4,9 @@ use Rattle.hs_records.specs.Journals.{PlainJournal}
 use Rattle.hs_law_journal.specs.Ends.{rounds_of}
 use Rattle.hs_run.specs.Progress.{progress_after}
 use Rattle.hs_records.specs.Plain.{Operation, PlainWorkload}
-use Rattle.hs_run_story.specs.Noting.{NotesRounds}
-use Rattle.hs_run_story.specs.RunStates.{RunState}
-use Rattle.hs_run_story.specs.Coming.{Came}
+use Rattle.hs_run.specs.Noting.{NotesRounds}
+use Rattle.hs_run.specs.RunStates.{RunState}
+use Rattle.hs_run.specs.Coming.{Came}
 use Rattle.hs_records.specs.Validity.{IsValid}
 use Rattle.hs_run.specs.Counts.{PlainRunTally, AreCounts, progress_of}
 

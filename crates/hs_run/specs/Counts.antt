@@ -3,15 +3,15 @@
 use Rattle.std.specs.Prelude.{◌≡◌, ℕ, ◌<◌, List, length, take, slice_get, Some, count_by, sum_by}
 use Rattle.hs_law_journal.specs.Doings.{steps_of}
 use Rattle.hs_board.specs.declared.progress.Progress.{Progress}
-use Rattle.hs_run_client.specs.ClientActors.{PlainClientActor}
+use Rattle.hs_run_actors.specs.ClientActors.{PlainClientActor}
 use Rattle.hs_client.specs.Core.{is_null}
 use Rattle.hs_run.specs.declared.client.ClientCount.{ClientCount}
 use Rattle.hs_run.specs.declared.log.LogCount.{LogCount}
 use Rattle.hs_records.specs.declared.journal.Step.{Step}
 use Rattle.hs_run.specs.Progress.{is_point, is_chunk, is_given}
 use Rattle.hs_records.specs.Plain.{Operation, PlainWorkload}
-use Rattle.hs_run_story.specs.RunStates.{PlainNodeActors, RunState}
-use Rattle.hs_law_sends.specs.Sending.{operations_at, place_of}
+use Rattle.hs_run.specs.RunStates.{PlainNodeActors, RunState}
+use Rattle.hs_client.specs.Sending.{operations_at, place_of}
 
 -- of each client, in the order of node and number, and of each node
 pub record PlainRunTally : Type 0 where

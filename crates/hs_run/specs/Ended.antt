@@ -5,15 +5,15 @@ use Rattle.hs_records.specs.Books.{PlainAgentBook, PlainClientBook}
 use Rattle.hs_law_agent.specs.Books.{book_of}
 use Rattle.hs_records.specs.Plain.{PlainWorkload}
 use Rattle.hs_ring.specs.Parts.{Drawing, AreAllEnds, Closes}
-use Rattle.hs_law_sends.specs.Sending.{operations_at, place_of}
+use Rattle.hs_client.specs.Sending.{operations_at, place_of}
 use Rattle.hs_words.specs.declared.token.Tally.{Tally}
-use Rattle.hs_run_client.specs.ClientActors.{PlainClientActor}
-use Rattle.hs_run_client.specs.Nodes.{AreNotes}
-use Rattle.hs_run_agent.specs.Agents.{state_at}
-use Rattle.hs_run_agent.specs.AgentActors.{IsAgentActor}
-use Rattle.hs_run_agent.specs.ClosedAgents.{PlainClosedAgent, AllSent, IsClosedAgent, all_sent}
-use Rattle.hs_run_agent.specs.Work.{NodeWork}
-use Rattle.hs_run_story.specs.RunStates.{PlainNodeActors, NodeActorsStand}
+use Rattle.hs_run_actors.specs.ClientActors.{PlainClientActor}
+use Rattle.hs_run_actors.specs.Nodes.{AreNotes}
+use Rattle.hs_run_actors.specs.Agents.{state_at}
+use Rattle.hs_run_actors.specs.AgentActors.{IsAgentActor}
+use Rattle.hs_run_actors.specs.ClosedAgents.{PlainClosedAgent, AllSent, IsClosedAgent, all_sent}
+use Rattle.hs_run_actors.specs.Work.{NodeWork}
+use Rattle.hs_run.specs.RunStates.{PlainNodeActors, NodeActorsStand}
 
 abbrev pub items_of : {A : Type 0} → List (Listing A) → List (List A)
 items_of lists = map (λ list. list.items) lists

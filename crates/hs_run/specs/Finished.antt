@@ -8,9 +8,9 @@ use Rattle.hs_records.specs.declared.books.ClientBook.{ClientBook}
 use Rattle.hs_records.specs.declared.operation.Workload.{Workload}
 use Rattle.hs_records.specs.Journals.{PlainJournal}
 use Rattle.hs_records.specs.Plain.{PlainWorkload}
-use Rattle.hs_run_story.specs.RunStates.{RunState}
-use Rattle.hs_run_story.specs.Coming.{Came}
-use Rattle.hs_run_story.specs.Noting.{NotesRounds}
+use Rattle.hs_run.specs.RunStates.{RunState}
+use Rattle.hs_run.specs.Coming.{Came}
+use Rattle.hs_run.specs.Noting.{NotesRounds}
 use Rattle.hs_outcome.specs.Outcomes.{AreBooksOf}
 use Rattle.hs_outcome.specs.declared.outcome.Books.{Books}
 

@@ -8,7 +8,7 @@ use Rattle.hs_records.specs.Books.{agent_book_of}
 use Rattle.hs_records.specs.declared.books.AgentBook.{AgentBook}
 use Rattle.hs_records.specs.Plain.{PlainWorkload}
 use Rattle.hs_outcome.specs.declared.outcome.Books.{Books}
-use Rattle.hs_run_agent.specs.Coordinators.{PlainCoordinatorActor, Tellings, Askings, IsCoordinatorActor}
+use Rattle.hs_run_actors.specs.Coordinators.{PlainCoordinatorActor, Tellings, Askings, IsCoordinatorActor}
 use Rattle.hs_records.specs.declared.operation.Workload.{Workload}
 use Rattle.hs_run.specs.Ended.{HaveFinished, items_of}
 use Rattle.hs_run.specs.Finished.{AreGathered}

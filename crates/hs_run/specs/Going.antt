@@ -5,8 +5,8 @@ use Rattle.hs_base.specs.declared.ids.ClientId.{ClientId}
 use Rattle.hs_records.specs.Plain.{PlainSettings}
 use Rattle.hs_records.specs.declared.operation.Op.{Op}
 use Rattle.hs_records.specs.Views.{operations_of}
-use Rattle.hs_run_client.specs.ClientActors.{PlainClientActor}
-use Rattle.hs_run_client.specs.Standing.{ClientActorIsAt, Goes}
+use Rattle.hs_run_actors.specs.ClientActors.{PlainClientActor}
+use Rattle.hs_run_actors.specs.Standing.{ClientActorIsAt, Goes}
 
 -- The client is somewhere in the operations with its number.
 abbrev pub MayGo : PlainSettings → List (Listing Op) → ℕ → PlainClientActor → Type 0

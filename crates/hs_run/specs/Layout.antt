@@ -1,5 +1,5 @@
 -- How a node lies in its fields, and where nodes and a coordinator stand.
-use Rattle.hs_run_story.specs.RunStates.{PlainNodeActors}
+use Rattle.hs_run.specs.RunStates.{PlainNodeActors}
 use Rattle.hs_run.specs.declared.node_actors.NodeActors.TheInside.{Inside}
 
 abbrev pub site_of : Inside → PlainNodeActors

@@ -1,3 +1,12 @@
+pub mod RunStates
+pub mod Acting
+pub mod Meeting
+pub mod Moving
+pub mod Coming
+pub mod Spans
+pub mod Closing
+pub mod Laws
+pub mod Noting
 pub mod Layout
 pub mod Changing
 pub mod Going

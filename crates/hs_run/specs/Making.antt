@@ -4,10 +4,10 @@ use Rattle.hs_base.specs.declared.told.Ask.{Ask}
 use Rattle.hs_base.specs.declared.told.Told.{Told}
 use Rattle.hs_records.specs.Plain.{PlainWorkload}
 use Rattle.hs_words.specs.Pools.{PoolName}
-use Rattle.hs_run_client.specs.ClientActors.{PlainClientActor}
-use Rattle.hs_run_agent.specs.Work.{no_work}
-use Rattle.hs_run_story.specs.RunStates.{PlainNodeActors, NodeActorsStand}
-use Rattle.hs_run_story.specs.Laws.{LinksBegin, PoolOf}
+use Rattle.hs_run_actors.specs.ClientActors.{PlainClientActor}
+use Rattle.hs_run_actors.specs.Work.{no_work}
+use Rattle.hs_run.specs.RunStates.{PlainNodeActors, NodeActorsStand}
+use Rattle.hs_run.specs.Laws.{LinksBegin, PoolOf}
 use Rattle.hs_run.specs.declared.node.ActingNode.{ActingNode}
 
 abbrev pub nothing_moved : ℕ → List Told

@@ -1,16 +1,16 @@
 -- Nodes and a coordinator that stand at a moment of a run, and how far the rounds have come.
 use Rattle.std.specs.Prelude.{◌≡◌, ℕ, ◌*◌, ◌<◌, min, List, length, slice_get, Some}
 use Rattle.hs_records.specs.Plain.{PlainWorkload}
-use Rattle.hs_law_sends.specs.Sending.{operations_at, place_of}
-use Rattle.hs_run_client.specs.ClientActors.{PlainClientActor}
-use Rattle.hs_run_agent.specs.Coordinators.{PlainCoordinatorActor}
-use Rattle.hs_run_agent.specs.Work.{IsFew}
-use Rattle.hs_run_story.specs.RunStates.{PlainNodeActors, RunState, RunStands, IsBegun}
-use Rattle.hs_run_story.specs.Acting.{Acts}
-use Rattle.hs_run_story.specs.Meeting.{AllMeet}
-use Rattle.hs_run_story.specs.Moving.{Moves}
-use Rattle.hs_run_story.specs.Coming.{Came}
-use Rattle.hs_run_story.specs.Laws.{AllBegin}
+use Rattle.hs_client.specs.Sending.{operations_at, place_of}
+use Rattle.hs_run_actors.specs.ClientActors.{PlainClientActor}
+use Rattle.hs_run_actors.specs.Coordinators.{PlainCoordinatorActor}
+use Rattle.hs_run_actors.specs.Work.{IsFew}
+use Rattle.hs_run.specs.RunStates.{PlainNodeActors, RunState, RunStands, IsBegun}
+use Rattle.hs_run.specs.Acting.{Acts}
+use Rattle.hs_run.specs.Meeting.{AllMeet}
+use Rattle.hs_run.specs.Moving.{Moves}
+use Rattle.hs_run.specs.Coming.{Came}
+use Rattle.hs_run.specs.Laws.{AllBegin}
 use Rattle.hs_run.specs.declared.node.ActingNode.{ActingNode}
 use Rattle.hs_run.specs.Nodes.{sites_of}
 

@@ -3,11 +3,11 @@ use Rattle.std.specs.Prelude.{◌≡◌, ℕ, ◌<◌, ◌≤◌, List, slice_ge
 use Rattle.hs_base.specs.declared.told.Told.{Told}
 use Rattle.hs_coord.specs.declared.asks.Asks.{Asks}
 use Rattle.hs_records.specs.Plain.{PlainWorkload}
-use Rattle.hs_run_agent.specs.Coordinators.{PlainCoordinatorActor, IsCoordinatorActor, AllAskable, Brings, asks_for}
-use Rattle.hs_run_agent.specs.Work.{NodeWork, with_asks, with_moved}
-use Rattle.hs_run_story.specs.RunStates.{PlainNodeActors, RunState, NodeActorsStand, moved_by, asked_by}
-use Rattle.hs_run_story.specs.Meeting.{NodeActorsMeet}
-use Rattle.hs_run_story.specs.Moving.{NodeActorsMove}
+use Rattle.hs_run_actors.specs.Coordinators.{PlainCoordinatorActor, IsCoordinatorActor, AllAskable, Brings, asks_for}
+use Rattle.hs_run_actors.specs.Work.{NodeWork, with_asks, with_moved}
+use Rattle.hs_run.specs.RunStates.{PlainNodeActors, RunState, NodeActorsStand, moved_by, asked_by}
+use Rattle.hs_run.specs.Meeting.{NodeActorsMeet}
+use Rattle.hs_run.specs.Moving.{NodeActorsMove}
 use Rattle.hs_run.specs.Changing.{FirstChanged}
 use Rattle.hs_run.specs.Sites.{StandsSomewhere}
 use Rattle.hs_run.specs.declared.node.ActingNode.{ActingNode}

@@ -2,15 +2,15 @@
 use Rattle.std.specs.Prelude.{◌≡◌, ℕ, ◌<◌, ◌≤◌, Bool, true, false, List, length, map, slice_get, Some}
 use Rattle.hs_coord.specs.Messages.{Messages}
 use Rattle.hs_records.specs.Plain.{PlainWorkload}
-use Rattle.hs_law_sends.specs.Sending.{operations_at, place_of}
+use Rattle.hs_client.specs.Sending.{operations_at, place_of}
 use Rattle.hs_records.specs.Validity.{IsValid}
 use Rattle.hs_records.specs.Views.{workload_of}
 use Rattle.hs_records.specs.declared.operation.Workload.{Workload}
-use Rattle.hs_run_client.specs.ClientActors.{PlainClientActor}
-use Rattle.hs_run_agent.specs.Coordinators.{PlainCoordinatorActor, IsCoordinatorActor, Hears}
-use Rattle.hs_run_agent.specs.Work.{NodeWork, IsFew}
-use Rattle.hs_run_story.specs.RunStates.{PlainNodeActors, NodeActorsStand, moved_by, asked_by}
-use Rattle.hs_run_story.specs.Acting.{NodeActorsAct}
+use Rattle.hs_run_actors.specs.ClientActors.{PlainClientActor}
+use Rattle.hs_run_actors.specs.Coordinators.{PlainCoordinatorActor, IsCoordinatorActor, Hears}
+use Rattle.hs_run_actors.specs.Work.{NodeWork, IsFew}
+use Rattle.hs_run.specs.RunStates.{PlainNodeActors, NodeActorsStand, moved_by, asked_by}
+use Rattle.hs_run.specs.Acting.{NodeActorsAct}
 use Rattle.hs_run.specs.declared.node.ActingNode.{ActingNode}
 
 -- ---- acting

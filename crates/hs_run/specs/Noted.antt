@@ -6,10 +6,10 @@ use Rattle.hs_records.specs.Books.{PlainClientBook}
 use Rattle.hs_records.specs.Journals.{PlainJournal}
 use Rattle.hs_law_outcome.specs.Outcomes.{client_book}
 use Rattle.hs_records.specs.Plain.{PlainWorkload}
-use Rattle.hs_law_sends.specs.Sending.{draws_at, place_of, ops_of}
-use Rattle.hs_run_client.specs.ClientActors.{PlainClientActor}
-use Rattle.hs_run_client.specs.Nodes.{AreNotes}
-use Rattle.hs_run_client.specs.Standing.{ClientActorIsAt}
+use Rattle.hs_client.specs.Sending.{draws_at, place_of, ops_of}
+use Rattle.hs_run_actors.specs.ClientActors.{PlainClientActor}
+use Rattle.hs_run_actors.specs.Nodes.{AreNotes}
+use Rattle.hs_run_actors.specs.Standing.{ClientActorIsAt}
 
 -- The client has done all, and the journal notes its draws.
 pub record IsNoted (W : PlainWorkload) (J : PlainJournal) (node number : ℕ) (caller : PlainClientActor) : Type 0 where

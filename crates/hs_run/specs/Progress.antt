@@ -8,9 +8,9 @@ use Rattle.hs_records.specs.declared.journal.Step.{Step}
 use Rattle.hs_records.specs.declared.journal.Step.TheVariants as steps
 use Rattle.hs_records.specs.Journals.{PlainJournal}
 use Rattle.hs_records.specs.Plain.{Operation, Begin, Point, Crumb, End, Fire, Sample, PlainWorkload}
-use Rattle.hs_law_sends.specs.Drawn.{has_buffer}
-use Rattle.hs_law_sends.specs.Draws.{count_started}
-use Rattle.hs_law_sends.specs.Sending.{operations_at, draws_at}
+use Rattle.hs_client.specs.Drawn.{has_buffer}
+use Rattle.hs_client.specs.Draws.{count_started}
+use Rattle.hs_client.specs.Sending.{operations_at, draws_at}
 use Rattle.hs_law_journal.specs.Following.{log_at}
 use Rattle.hs_law_journal.specs.Passes.{passes_of}
 

@@ -13,17 +13,17 @@ use Rattle.hs_records.specs.Validity.{IsValid}
 use Rattle.hs_law_journal.specs.Doings.{asks_in, crumbs_in, triggers_in, steps_of}
 use Rattle.hs_law_journal.specs.LoopPasses.{EndsPass}
 use Rattle.hs_law_journal.specs.Shape.{log_stamps}
-use Rattle.hs_run_client.specs.ClientActors.{PlainClientActor}
-use Rattle.hs_run_agent.specs.Coordinators.{PlainCoordinatorActor, IsCoordinatorActor, AllAskable, all_empty, asks_for}
-use Rattle.hs_run_agent.specs.AgentActors.{IsAgentActor}
-use Rattle.hs_run_agent.specs.ClosedAgents.{PlainClosedAgent, AllSent, IsClosedAgent, IsClosedAgentBare}
-use Rattle.hs_run_agent.specs.Turns.{GiverGoesOn}
-use Rattle.hs_run_agent.specs.Work.{NodeWork, IsFew, came_of, with_asks, with_events}
-use Rattle.hs_run_agent.specs.Agents.{state_at}
-use Rattle.hs_run_story.specs.RunStates.{PlainNodeActors, RunState, moved_by, asked_by}
-use Rattle.hs_run_story.specs.Moving.{IsSameDoing}
-use Rattle.hs_run_story.specs.Spans.{NodeBetweenPasses}
-use Rattle.hs_run_story.specs.Closing.{Closing}
+use Rattle.hs_run_actors.specs.ClientActors.{PlainClientActor}
+use Rattle.hs_run_actors.specs.Coordinators.{PlainCoordinatorActor, IsCoordinatorActor, AllAskable, all_empty, asks_for}
+use Rattle.hs_run_actors.specs.AgentActors.{IsAgentActor}
+use Rattle.hs_run_actors.specs.ClosedAgents.{PlainClosedAgent, AllSent, IsClosedAgent, IsClosedAgentBare}
+use Rattle.hs_run_actors.specs.Turns.{GiverGoesOn}
+use Rattle.hs_run_actors.specs.Work.{NodeWork, IsFew, came_of, with_asks, with_events}
+use Rattle.hs_run_actors.specs.Agents.{state_at}
+use Rattle.hs_run.specs.RunStates.{PlainNodeActors, RunState, moved_by, asked_by}
+use Rattle.hs_run.specs.Moving.{IsSameDoing}
+use Rattle.hs_run.specs.Spans.{NodeBetweenPasses}
+use Rattle.hs_run.specs.Closing.{Closing}
 use Rattle.hs_run.specs.Changing.{EachChanged}
 use Rattle.hs_run.specs.Ended.{sents_of}
 

@@ -6,19 +6,19 @@ use Rattle.hs_base.specs.Ids.{client_of}
 use Rattle.hs_law_agent.specs.Stepping.{AgentEvent}
 use Rattle.hs_records.specs.Plain.{PlainWorkload, settings_of}
 use Rattle.hs_ring.specs.Parts.{Leased}
-use Rattle.hs_law_sends.specs.Sending.{operations_at, place_of}
+use Rattle.hs_client.specs.Sending.{operations_at, place_of}
 use Rattle.hs_words.specs.Buffers.{Buffer}
 use Rattle.hs_records.specs.declared.operation.Op.{Op}
 use Rattle.hs_records.specs.Validity.{IsValid}
 use Rattle.hs_records.specs.Views.{operations_of}
-use Rattle.hs_run_client.specs.ClientActors.{PlainClientActor}
-use Rattle.hs_run_agent.specs.AgentActors.{PlainAgentActor, IsAgentActor, Passes}
-use Rattle.hs_run_agent.specs.Work.{NodeWork, IsFew}
-use Rattle.hs_run_story.specs.RunStates.{PlainNodeActors, NodeActorsStand}
+use Rattle.hs_run_actors.specs.ClientActors.{PlainClientActor}
+use Rattle.hs_run_actors.specs.AgentActors.{PlainAgentActor, IsAgentActor, Passes}
+use Rattle.hs_run_actors.specs.Work.{NodeWork, IsFew}
+use Rattle.hs_run.specs.RunStates.{PlainNodeActors, NodeActorsStand}
 use Rattle.hs_live.specs.Calls.{MeetsAt}
-use Rattle.hs_run_client.specs.Standing.{ClientActorIsAt}
-use Rattle.hs_run_story.specs.Acting.{NodeActorsAct}
-use Rattle.hs_run_story.specs.Meeting.{ClientActorMet, GiverMet}
+use Rattle.hs_run_actors.specs.Standing.{ClientActorIsAt}
+use Rattle.hs_run.specs.Acting.{NodeActorsAct}
+use Rattle.hs_run.specs.Meeting.{ClientActorMet, GiverMet}
 
 -- The settings are those of the workload, and these are the operations of the clients of a node.
 pub record AreClients (W : PlainWorkload) (node : ℕ) (settings : Settings) (lists : List (Listing Op)) : Type 0 where

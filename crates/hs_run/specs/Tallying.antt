@@ -4,7 +4,7 @@ use Rattle.hs_records.specs.Plain.{PlainWorkload}
 use Rattle.hs_run.specs.declared.client.ClientCount.{ClientCount}
 use Rattle.hs_run.specs.declared.log.LogCount.{LogCount}
 use Rattle.hs_run.specs.Counts.{PlainRunTally, AreCounts}
-use Rattle.hs_run_agent.specs.Coordinators.{PlainCoordinatorActor}
+use Rattle.hs_run_actors.specs.Coordinators.{PlainCoordinatorActor}
 use Rattle.hs_run.specs.declared.node.ActingNode.{ActingNode}
 use Rattle.hs_run.specs.Moments.{RoundsMade}
 

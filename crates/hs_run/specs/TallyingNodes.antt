@@ -1,14 +1,14 @@
 -- How counts go on behind a round, client by client and log by log.
 use Rattle.std.specs.Prelude.{◌≡◌, ℕ, ◌+◌, ◌*◌, ◌^◌, ◌<◌, ◌≤◌, List, length, take, count_by, slice_get, Some}
 use Rattle.hs_base.specs.declared.limits.TheConstants.{MAX_OPERATIONS}
-use Rattle.hs_run_client.specs.ClientActors.{PlainClientActor}
+use Rattle.hs_run_actors.specs.ClientActors.{PlainClientActor}
 use Rattle.hs_run.specs.declared.client.ClientCount.{ClientCount}
 use Rattle.hs_run.specs.declared.log.LogCount.{LogCount}
 use Rattle.hs_run.specs.Counts.{client_count, log_count}
 use Rattle.hs_records.specs.declared.journal.Step.{Step}
 use Rattle.hs_run.specs.Progress.{is_point, is_chunk, is_given}
 use Rattle.hs_records.specs.Plain.{Operation, PlainWorkload}
-use Rattle.hs_law_sends.specs.Sending.{operations_at, place_of}
+use Rattle.hs_client.specs.Sending.{operations_at, place_of}
 use Rattle.hs_records.specs.Validity.{IsValid}
 use Rattle.hs_run.specs.declared.node.ActingNode.{ActingNode}
 

@@ -5,7 +5,7 @@ use Rattle.hs_board.specs.declared.progress.Progress.{Progress}
 use Rattle.hs_board.specs.Shown.{first, IsLast}
 use Rattle.hs_run.specs.Counts.{PlainRunTally, AreCounts, progress_of}
 use Rattle.hs_run.specs.Seen.{IsSeen, IsTotal}
-use Rattle.hs_run_agent.specs.Coordinators.{PlainCoordinatorActor}
+use Rattle.hs_run_actors.specs.Coordinators.{PlainCoordinatorActor}
 use Rattle.hs_records.specs.Journals.{PlainJournal}
 use Rattle.hs_law_journal.specs.Ends.{rounds_of}
 use Rattle.hs_records.specs.Plain.{Operation, PlainWorkload}

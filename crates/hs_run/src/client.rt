@@ -7,7 +7,7 @@ ghost use Rattle.hs_records.specs.Views.{operation_of};
 ghost use Rattle.hs_run.specs.Counts.{client_count};
 
 use hs_records::Op;
-use hs_run_client::ClientActor;
+use hs_run_actors::ClientActor;
 
 /// Of a client: how many of its operations were counted, the points among these, and its null pages.
 #[derive(Clone, Copy)]

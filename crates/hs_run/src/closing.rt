@@ -3,15 +3,15 @@
 ghost use Rattle.std.specs.Prelude.{◌≡◌, ℕ, ◌<◌, [], true, false, length, OnOk};
 ghost use Rattle.hs_coord.specs.Messages.{Messages};
 ghost use Rattle.hs_records.specs.Plain.{PlainWorkload};
-ghost use Rattle.hs_run_story.specs.RunStates.{RunState};
-ghost use Rattle.hs_run_agent.specs.Work.{NodeWork};
+ghost use Rattle.hs_run.specs.RunStates.{RunState};
+ghost use Rattle.hs_run_actors.specs.Work.{NodeWork};
 ghost use Rattle.hs_run.specs.Closings.{ClosingPaid, LedOn};
 ghost use Rattle.hs_run.specs.Shutting.{AllSents, ClosingMayPass, ClosingCanPass, ClosingHasPassed, MayPassAll, ClosingStands, Passing, ClosedAgentsStand, Asked, IsAsking, AllBare, IsSomethingLeft, ClosedAt, ClosingAt, MayClose};
 
 use crate::laws::{passes_are_few, passes_pay};
+use crate::story_laws::{agents_are_between_passes, closing_goes_on};
 use hs_base::{List, Memory, NodeId, OpenGate};
-use hs_run_agent::{ClosedAgent, CoordinatorActor};
-use hs_run_story::laws::{agents_are_between_passes, closing_goes_on};
+use hs_run_actors::{ClosedAgent, CoordinatorActor};
 
 /// Passes of all agents and the coordinator, while anything waits or is pinned.
 pub(crate) fn close_down(

@@ -4,7 +4,7 @@ ghost use Rattle.std.specs.Prelude.{◌≡◌, ◌⊎◌, map, IfOk, OnErr, IsEr
 ghost use Rattle.hs_coord.specs.Messages.{Messages};
 ghost use Rattle.hs_records.specs.Plain.{PlainWorkload};
 ghost use Rattle.hs_records.specs.Views.{workload_of};
-ghost use Rattle.hs_run_agent.specs.Coordinators.{Tellings, Askings, IsCoordinatorActor};
+ghost use Rattle.hs_run_actors.specs.Coordinators.{Tellings, Askings, IsCoordinatorActor};
 ghost use Rattle.hs_run.specs.Moments.{RoundsOver};
 ghost use Rattle.hs_run.specs.Ended.{MayFinish, items_of};
 ghost use Rattle.hs_run.specs.Finished.{AreLawfulBooks, AreBooksBehind, AreGathered};
@@ -15,12 +15,11 @@ use crate::laws::{all_is_paid_for, what_is_sent_fits};
 use crate::node::ActingNode;
 use crate::pools::close_pools;
 use crate::shutting::{ClosedNodes, shut_all};
+use crate::story_laws::{closing_begins, journals_note_rounds, pools_are_kept, runs_are_lawful};
 use hs_base::{List, Memory, NodeId};
 use hs_outcome::Books;
 use hs_records::{AgentBook, ClientBook, Workload};
-use hs_run_agent::CoordinatorActor;
-use hs_run_client::callers_have_sent;
-use hs_run_story::laws::{closing_begins, journals_note_rounds, pools_are_kept, runs_are_lawful};
+use hs_run_actors::{CoordinatorActor, callers_have_sent};
 use std::alloc::Global;
 
 /// Ends a run whose rounds are over, and answers its books: those of a lawful journal of the workload, which notes where the rounds

@@ -6,14 +6,14 @@ ghost use Rattle.hs_run.specs.Seen.{ShownIsSeen};
 ghost use Rattle.hs_run.specs.ProgressExamples.{Examples};
 ghost use Rattle.hs_run.specs.FirstPasses.{FirstPassesAreNoted};
 
+use hs_client::sending_laws::{pages_fit, timed_pages_are_the_pages};
 use hs_law_agent::laws::{
     chunks_stand_by_their_claim, events_add_few, events_add_this, events_go_on,
     lists_have_their_chunks, steps_say_what_they_tell, turns_report,
 };
-use hs_law_lockstep::laws::valid_workloads_run;
-use hs_law_sends::laws::{pages_fit, timed_pages_are_the_pages};
+use hs_law_run::lockstep_laws::valid_workloads_run;
 use hs_records::pieces_are_counted;
-use hs_run_client::callers_have_sent;
+use hs_run_actors::callers_have_sent;
 
 /// Behind each round the sums of what is counted are those of the workload and of the journal that notes the rounds.
 pub fn counts_are_progress()

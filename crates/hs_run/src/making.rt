@@ -1,7 +1,7 @@
 //! All nodes and their coordinator before the first round.
 
 ghost use Rattle.std.specs.Prelude.{ℕ, ◌<◌, [], IfOk};
-ghost use Rattle.hs_run_agent.specs.Coordinators.{IsCoordinatorActor};
+ghost use Rattle.hs_run_actors.specs.Coordinators.{IsCoordinatorActor};
 ghost use Rattle.hs_records.specs.Validity.{IsValid};
 ghost use Rattle.hs_records.specs.Views.{workload_of};
 ghost use Rattle.hs_run.specs.Making.{NodeActorsBegin, AreMade, nothing_moved, nothing_asked};
@@ -11,8 +11,7 @@ use crate::node::ActingNode;
 use crate::node_actors::NodeActors;
 use hs_base::{List, Memory};
 use hs_records::Workload;
-use hs_run_agent::{AgentActor, CoordinatorActor};
-use hs_run_client::{NewNode, begin_node};
+use hs_run_actors::{AgentActor, CoordinatorActor, NewNode, begin_node};
 use std::alloc::Global;
 
 /// The nodes of a valid workload and their coordinator, where nothing was done.

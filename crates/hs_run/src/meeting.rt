@@ -3,7 +3,7 @@
 ghost use Rattle.std.specs.Prelude.{◌<◌, length, OnOk};
 ghost use Rattle.hs_base.specs.declared.limits.TheConstants.{MAX_NODES};
 ghost use Rattle.hs_records.specs.Plain.{PlainWorkload};
-ghost use Rattle.hs_run_story.specs.RunStates.{RunState};
+ghost use Rattle.hs_run.specs.RunStates.{RunState};
 ghost use Rattle.hs_run.specs.Changing.{EachChanged};
 ghost use Rattle.hs_run.specs.Moments.{IsHere, MovedTo};
 ghost use Rattle.hs_run.specs.Movings.{HasMet, AllStand, HasExchanged};
@@ -11,7 +11,7 @@ ghost use Rattle.hs_run.specs.Movings.{HasMet, AllStand, HasExchanged};
 use crate::node::ActingNode;
 use crate::node_actors::NodeActors;
 use hs_base::{List, Memory, NodeId};
-use hs_run_agent::CoordinatorActor;
+use hs_run_actors::CoordinatorActor;
 
 /// All clients meet their agents.
 pub(crate) fn meet_all(nodes: &mut List<ActingNode>)

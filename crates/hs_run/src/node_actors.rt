@@ -3,16 +3,15 @@
 ghost use Rattle.std.specs.Thread.{IsSync};
 ghost use Rattle.std.specs.Prelude.{◌≡◌, ℕ, ◌<◌, length, OnOk};
 ghost use Rattle.hs_records.specs.Plain.{PlainWorkload, settings_of};
-ghost use Rattle.hs_run_agent.specs.Work.{NodeWork};
-ghost use Rattle.hs_run_story.specs.RunStates.{NodeActorsStand};
-ghost use Rattle.hs_run_story.specs.Meeting.{NodeActorsMeet};
+ghost use Rattle.hs_run_actors.specs.Work.{NodeWork};
+ghost use Rattle.hs_run.specs.RunStates.{NodeActorsStand};
+ghost use Rattle.hs_run.specs.Meeting.{NodeActorsMeet};
 ghost use Rattle.hs_run.specs.Going.{MayGo, HasGone, AllMayGo, AllHaveGone};
 ghost use Rattle.hs_run.specs.Sites.{MayPass, HasPassed, MayAct, HasActed, TellsSiteLeft, StandsSomewhere, MeetsOne};
 
 use hs_base::{Gate, List, Memory, Settings};
 use hs_records::Op;
-use hs_run_agent::AgentActor;
-use hs_run_client::ClientActor;
+use hs_run_actors::{AgentActor, ClientActor};
 use std::marker::Model;
 use std::thread;
 use std::thread::{Threads, join_mut};
@@ -25,7 +24,7 @@ pub(crate) struct NodeActors {
 }
 
 impl Model for NodeActors {
-    ghost use Rattle.hs_run_story.specs.RunStates.{PlainNodeActors as Stood};
+    ghost use Rattle.hs_run.specs.RunStates.{PlainNodeActors as Stood};
 
     ghost Value = { Stood };
 

@@ -7,7 +7,7 @@ ghost use Rattle.hs_run.specs.Ended.{MayFinish, HaveFinished, items_of};
 use hs_base::{List, Memory};
 use hs_records::AgentBook;
 use hs_ring::Drawer;
-use hs_run_agent::ClosedAgent;
+use hs_run_actors::ClosedAgent;
 use std::alloc::Global;
 
 /// Closes the pool of each node, with its drawers, and answers the books of the agents.

@@ -2,7 +2,7 @@
 
 ghost use Rattle.std.specs.Thread.{IsSync};
 ghost use Rattle.std.specs.Prelude.{◌≡◌, ◌<◌, true, false, length, slice_get, OnOk};
-ghost use Rattle.hs_run_story.specs.RunStates.{RunState};
+ghost use Rattle.hs_run.specs.RunStates.{RunState};
 ghost use Rattle.hs_records.specs.Views.{workload_of};
 ghost use Rattle.hs_run.specs.Nodes.{MayActAt, HasActedAt, AllMayAct, AllHaveActed, NoneFailed, SomeFailed, MayHear, HasHeard, IsWhole, AreWhole, TellsNodeLeft, TellsLeft};
 ghost use Rattle.hs_run.specs.Moments.{IsHere, AreFew, CanAct, ActedTo, CanBegin, RoundsOver};
@@ -10,11 +10,10 @@ ghost use Rattle.hs_run.specs.Moments.{IsHere, AreFew, CanAct, ActedTo, CanBegin
 use crate::meeting::{meet_all, move_all};
 use crate::node::ActingNode;
 use crate::node_actors::NodeActors;
+use crate::story_laws::{no_rounds_come, rounds_go_on};
 use hs_base::{Gate, List, Memory};
 use hs_records::Workload;
-use hs_run_agent::CoordinatorActor;
-use hs_run_client::callers_have_sent;
-use hs_run_story::laws::{no_rounds_come, rounds_go_on};
+use hs_run_actors::{CoordinatorActor, callers_have_sent};
 use std::thread;
 use std::thread::{Threads, join_mut};
 

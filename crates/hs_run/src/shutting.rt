@@ -3,7 +3,7 @@
 ghost use Rattle.std.specs.Prelude.{◌≡◌, ◌∷◌, ◌++◌, [], map, IfOk, OnOk};
 ghost use Rattle.hs_records.specs.Books.{client_book_of};
 ghost use Rattle.hs_live.specs.Live.{outgoing};
-ghost use Rattle.hs_run_agent.specs.ClosedAgents.{AreMatesOf};
+ghost use Rattle.hs_run_actors.specs.ClosedAgents.{AreMatesOf};
 ghost use Rattle.hs_run.specs.Closed.{AreEndsLeft, IsClosedWith, IsClosedOf};
 ghost use Rattle.hs_run.specs.Ended.{IsEnded, AreEnded, HasClosedLinks, HaveClosedLinks, items_of};
 ghost use Rattle.hs_run.specs.Nodes.{sites_of};
@@ -13,8 +13,7 @@ use crate::node_actors::NodeActors;
 use hs_base::{List, Memory};
 use hs_records::ClientBook;
 use hs_ring::Drawer;
-use hs_run_agent::{AgentActor, ClosedAgent};
-use hs_run_client::{PartedClients, take_apart};
+use hs_run_actors::{AgentActor, ClosedAgent, PartedClients, take_apart};
 use std::alloc::Global;
 
 /// What a node's clients noted, their drawers, and their agent with closed links.

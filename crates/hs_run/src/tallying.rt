@@ -4,8 +4,8 @@ ghost use Rattle.std.specs.Prelude.{◌≡◌, ◌^◌, ◌<◌, length, replica
 ghost use Rattle.hs_run.specs.Counts.{AreCounts, client_count, log_count, progress_of};
 ghost use Rattle.hs_run.specs.declared.client.ClientCount.{ClientCount};
 ghost use Rattle.hs_run.specs.declared.log.LogCount.{LogCount};
-ghost use Rattle.hs_run_story.specs.RunStates.{RunState, RunStands, IsBegun};
-ghost use Rattle.hs_law_sends.specs.Sending.{operations_at};
+ghost use Rattle.hs_run.specs.RunStates.{RunState, RunStands, IsBegun};
+ghost use Rattle.hs_client.specs.Sending.{operations_at};
 ghost use Rattle.hs_records.specs.Validity.{IsValid};
 ghost use Rattle.hs_records.specs.Views.{workload_of};
 ghost use Rattle.hs_run.specs.Changing.{EachChanged};
@@ -21,7 +21,7 @@ use hs_base::{List, Memory};
 use hs_board::Progress;
 use hs_law_agent::laws::{events_add_this, lists_have_their_chunks};
 use hs_records::Workload;
-use hs_run_client::{ClientActor, callers_have_sent};
+use hs_run_actors::{ClientActor, callers_have_sent};
 use std::alloc::Global;
 use std::marker::Model;
 

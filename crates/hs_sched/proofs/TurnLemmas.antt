@@ -8,7 +8,7 @@ use Rattle.std.proofs.lemmas.List.{take_more, drop_more, map_more, take_all, dro
 use Rattle.std.proofs.lemmas.List.Folds.{find-append}
 use Rattle.std.proofs.lemmas.Grind.{flat_map-append}
 use borrow.Author.Tests.{ne_eqb, eqb-true}
-use Rattle.hs_lists.proofs.Options.{option_or_none}
+use Rattle.hs_base.proofs.Options.{option_or_none}
 use Rattle.hs_base.specs.declared.limits.TheConstants.{MAX_WEIGHT, MAX_SIZE}
 use Rattle.hs_base.specs.declared.settings.TriggerRule.{TriggerRule}
 use Rattle.hs_sched.specs.declared.share.Share.{Share}

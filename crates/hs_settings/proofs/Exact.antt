@@ -4,7 +4,7 @@ use Rattle.std.proofs.Common.{◌≡◌, ℕ, ◌≤◌, Bool, true, false, not,
 use Rattle.std.specs.Prelude.{is_none, option_map, option_and_then}
 use Rattle.std.proofs.lemmas.Bool.{not-false}
 use borrow.Author.Tests.{eqb-true}
-use Rattle.hs_lists.proofs.Numbers.{nat_eq_from}
+use Rattle.hs_base.proofs.Numbers.{nat_eq_from}
 use Rattle.hs_text.specs.Text.{words_of, number_of, numbers_of, has_bad_byte}
 use Rattle.hs_text.specs.Opening.{words_say}
 use Rattle.hs_text.specs.Steps.{◌>>=◌, value_or, unless, first_that_holds}

@@ -5,8 +5,8 @@ use Rattle.std.proofs.lemmas.Bool.{or_parts, not-false, ltb-false}
 use Rattle.std.proofs.lemmas.List.Elements.{All-push, All-nil}
 use Rattle.std.proofs.lemmas.List.Folds.{list_any-append}
 use Rattle.std.proofs.lemmas.List.Quantifiers.{all_pairs_push}
-use Rattle.hs_lists.proofs.Alls.{all_push}
-use Rattle.hs_lists.proofs.Numbers.{nat_le_past, nat_eq_from}
+use Rattle.hs_base.proofs.Alls.{all_push}
+use Rattle.hs_base.proofs.Numbers.{nat_le_past, nat_eq_from}
 use Rattle.hs_base.specs.Ranges.{is_out}
 use Rattle.hs_base.specs.Rules.{IsRule, AreRules, IsAutoRule, AreAutoRules, is_declared, fired_by}
 use Rattle.hs_base.specs.declared.limits.TheConstants.{MAX_TRIGGER, MAX_WEIGHT, MAX_BURST, MAX_RATE, MIN_WINDOW, MAX_WINDOW, WHOLE_SHARE, MAX_LATERALS, MAX_AUTOS}

@@ -2,8 +2,8 @@
 use Rattle.std.proofs.Common.{◌≡◌, ℕ, zero, suc, ◌≤◌, List, Option, Some, None, refl, sym, ap, subst, ◌∙◌, find, arith}
 use Rattle.std.specs.Prelude.{option_map, unwrap_or}
 use borrow.Author.Tests.{eqb-true}
-use Rattle.hs_lists.proofs.Filters.{find_passes}
-use Rattle.hs_lists.proofs.Alls.{all_find}
+use Rattle.hs_base.proofs.Filters.{find_passes}
+use Rattle.hs_base.proofs.Alls.{all_find}
 use Rattle.hs_base.specs.Ranges.{Within}
 use Rattle.hs_base.specs.declared.limits.TheConstants.{MOST_BUFFERS}
 use Rattle.hs_settings.specs.declared.setting.ServiceSetting.{ServiceSetting}

@@ -4,7 +4,7 @@ use Rattle.std.specs.Str.{bytes_eq}
 use Rattle.std.specs.List.{find, list_all}
 use Rattle.std.proofs.lemmas.Bool.{and_parts}
 use Rattle.std.proofs.lemmas.Slice.Eq.{bytes_eq-Decides}
-use Rattle.hs_lists.proofs.Filters.{find_passes}
+use Rattle.hs_base.proofs.Filters.{find_passes}
 
 -- which of these words has this text
 unfoldable pub spelled : {W : Type 0} → (W → List ℕ) → List W → List ℕ → Option W

@@ -11,8 +11,8 @@ use Rattle.std.proofs.lemmas.List.{map-append, take_all}
 use Rattle.std.proofs.lemmas.List.Sums.{sum_by-cons, sum_by_push}
 use Rattle.std.proofs.lemmas.Map.Entries.{sum_by-set_value, sum_by-remove_entry}
 use Rattle.std.proofs.lemmas.Bool.{ltb-false, leb-false}
-use Rattle.hs_lists.proofs.Options.{is_some_false}
-use Rattle.hs_lists.proofs.Bools.{first_false, second_false}
+use Rattle.hs_base.proofs.Options.{is_some_false}
+use Rattle.hs_base.proofs.Bools.{first_false, second_false}
 use Rattle.lru.specs.LruCache.{put_entries, lru_cache}
 use Rattle.hs_base.specs.declared.ids.TraceId.{TraceId}
 use Rattle.hs_base.specs.Ids.{same_trace}

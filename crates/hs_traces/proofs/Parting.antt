@@ -7,8 +7,8 @@ use Rattle.std.specs.Prelude.{if◌then◌else◌}
 use Rattle.std.specs.Map.{lookup}
 use Rattle.std.specs.BTreeMap.{insert_entry}
 use Rattle.std.proofs.lemmas.Option.{same_Some}
-use Rattle.hs_lists.proofs.Options.{is_some_false}
-use Rattle.hs_lists.proofs.Bools.{by_answer}
+use Rattle.hs_base.proofs.Options.{is_some_false}
+use Rattle.hs_base.proofs.Bools.{by_answer}
 use Rattle.hs_traces.specs.declared.key.PageKey.{PageKey}
 use Rattle.hs_traces.specs.Keys.{key_cmp, same_key}
 use Rattle.hs_traces.specs.Parts.{Pages, has_key, with_page}

@@ -4,8 +4,8 @@ use Rattle.std.specs.Prelude.{nat_lt, nat_le, ◌==◌, if◌then◌else◌}
 use Rattle.std.specs.Option.{option_map_or}
 use Rattle.std.proofs.lemmas.Option.{same_Some}
 use Rattle.lru.specs.LruCache.{last_entry}
-use Rattle.hs_lists.proofs.Bools.{by_answer, first_false, second_false, first_true, second_true}
-use Rattle.hs_lists.proofs.Places.{unwrap_set, unwrap_other}
+use Rattle.hs_base.proofs.Bools.{by_answer, first_false, second_false, first_true, second_true}
+use Rattle.hs_base.proofs.Places.{unwrap_set, unwrap_other}
 use Rattle.hs_base.specs.declared.ids.TraceId.{TraceId}
 use Rattle.hs_base.specs.declared.node_set.NodeSet.{NodeSet}
 use Rattle.hs_base.specs.NodeSets.{has_node, either}
@@ -26,7 +26,7 @@ use Rattle.hs_whole.proofs.Looking.{found, same-true, same-refl, found-with_same
 use Rattle.hs_whole.proofs.Standings.{most, IsKept, Stands, raised, presented, doubts, freshly, kept_pending, with_deed, aside, over_now}
 use Rattle.hs_whole.proofs.Searching.{reordered_searched}
 use Rattle.hs_whole.proofs.Ends.{open_handed}
-use Rattle.hs_lists.proofs.Counts.{one_if, count_cons}
+use Rattle.hs_base.proofs.Counts.{one_if, count_cons}
 use Rattle.hs_whole.specs.declared.answers.TheConstants.{MOST_LOOKS}
 use Rattle.hs_whole.specs.declared.answers.Loss.TheVariants.{EvictedPages, AbandonedPages, EvictedCrumbs, ForgottenCrumbs}
 

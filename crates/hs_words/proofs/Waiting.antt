@@ -10,7 +10,7 @@ use Rattle.std.proofs.lemmas.Map.Steps.{length-le_from_distinct_below}
 use Rattle.std.proofs.lemmas.Bool.{cases_lt}
 use Rattle.std.proofs.lemmas.List.FromFn.{length-range_with_len}
 use borrow.Author.Tests.{eqb-true, eq-eqb, ne_eqb}
-use Rattle.hs_lists.proofs.Counts.{count_cons}
+use Rattle.hs_base.proofs.Counts.{count_cons}
 use Rattle.hs_words.specs.PoolHistory.{PoolEvent, Got, Empty, Given, Missed, is_got, is_given, is_empty, is_missed, queue_after, MayFollow, IsHistoryBack}
 use Rattle.hs_words.specs.Ends.{Deed, events_of, drawn_in, given_in, is_any_got, is_any_given}
 use Rattle.hs_words.specs.PoolHistory as pool

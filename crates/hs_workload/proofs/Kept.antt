@@ -5,8 +5,8 @@ use Rattle.std.specs.List.{list_any}
 use Rattle.std.proofs.lemmas.List.Elements.{All-push}
 use Rattle.std.proofs.lemmas.List.Quantifiers.{all_pairs_push}
 use Rattle.std.proofs.lemmas.Bool.{and_parts, or_parts, not-true}
-use Rattle.hs_lists.proofs.Numbers.{nat_le_past}
-use Rattle.hs_lists.proofs.Alls.{all_push}
+use Rattle.hs_base.proofs.Numbers.{nat_le_past}
+use Rattle.hs_base.proofs.Alls.{all_push}
 use Rattle.hs_records.specs.declared.setting.Setting.TheVariants as settings
 use Rattle.hs_workload.proofs.Spelled.{Form}
 use Rattle.hs_workload.proofs.Clear.{Allowed}

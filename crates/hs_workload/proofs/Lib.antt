@@ -8,8 +8,11 @@ pub mod Kept
 pub mod Seen
 pub mod Whole
 pub mod Runs
-pub mod Reading
+pub mod ReaderAnswers
 pub mod Clients
 pub mod Faultless
-pub mod Writing
+pub mod LinesWritten
 pub mod Versions
+pub mod Streams
+pub mod Lines
+pub mod Taking

@@ -1,4 +1,6 @@
 -- What several proofs of this crate take from other crates and from its own specs: each imports it from here.
+pub use Rattle.hs_base.proofs.Numbers.{nat_eq_from, nat_le_false}
+pub use Rattle.hs_base.proofs.Parts.{length_map}
 pub use Rattle.hs_base.specs.Ranges.{is_out, Within}
 pub use Rattle.hs_base.specs.Rules.{AreAutoRules, AreRules, fired_by, is_declared, IsAutoRule, IsRule}
 pub use Rattle.hs_base.specs.declared.ids.TraceId.{TraceId}
@@ -6,8 +8,6 @@ pub use Rattle.hs_base.specs.declared.limits.TheConstants.{MAX_AUTOS, MAX_BURST,
 pub use Rattle.hs_base.specs.declared.settings.AutoRule.{AutoRule}
 pub use Rattle.hs_base.specs.declared.settings.AutoRule.TheVariants.{Category, Exception, Percentile, Queue}
 pub use Rattle.hs_base.specs.declared.settings.TriggerRule.{TriggerRule}
-pub use Rattle.hs_lists.proofs.Numbers.{nat_eq_from, nat_le_false}
-pub use Rattle.hs_lists.proofs.Parts.{length_map}
 pub use Rattle.hs_records.specs.Plain.{Begin, Crumb, End, Fire, Operation, PlainSettings, PlainWorkload, Point, Sample}
 pub use Rattle.hs_records.specs.Records.{AreBracketed}
 pub use Rattle.hs_records.specs.Settings.{least, most, setting_of, setting_place}

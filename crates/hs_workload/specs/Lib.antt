@@ -7,3 +7,8 @@ pub mod Versions
 pub mod Faults
 pub mod Forward
 pub mod Limits
+pub mod Input
+pub mod Reading
+pub mod Written
+pub mod Statuses
+pub mod Refusals

@@ -1,11 +1,11 @@
 -- A text that is due, written whole or in front, ends the call with its status.
 use Rattle.std.proofs.Common.{◌≡◌, ℕ, List, Option, ◌⊎◌, inl, inr, sym, subst}
 use Rattle.hs_base.specs.Outside.{Rose, Gains}
-use Rattle.hs_streams.specs.Input.{ReadWhole}
-use Rattle.hs_streams.specs.Written.{GainsFront}
-use Rattle.hs_streams.specs.declared.status.Status.{Status}
-use Rattle.hs_streams.specs.declared.status.Status.TheVariants.{Done, Usage, Refused, ReadFault, WriteFault, Memory, TooLong, Unlawful}
-use Rattle.hs_streams.specs.Statuses.{NoneFailed}
+use Rattle.hs_workload.specs.Input.{ReadWhole}
+use Rattle.hs_workload.specs.Written.{GainsFront}
+use Rattle.hs_workload.specs.declared.status.Status.{Status}
+use Rattle.hs_workload.specs.declared.status.Status.TheVariants.{Done, Usage, Refused, ReadFault, WriteFault, Memory, TooLong, Unlawful}
+use Rattle.hs_workload.specs.Statuses.{NoneFailed}
 use Rattle.replay.specs.Endings.{IsAnswer, IsDue, Ends}
 
 -- what `finish` answers

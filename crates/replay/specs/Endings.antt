@@ -4,16 +4,16 @@ use Rattle.std.specs.Prelude.{◌≡◌, ℕ, List, Option}
 use Rattle.hs_base.specs.Outside.{Rose, Gains}
 use Rattle.hs_records.specs.Journals.{PlainJournal}
 use Rattle.hs_law_journal.specs.Lawful.{IsLawful}
-use Rattle.hs_law_lockstep.specs.Lockstep.{lockstep}
+use Rattle.hs_law_run.specs.Lockstep.{lockstep}
 use Rattle.hs_report.specs.OutcomeText.{outcome_text}
 use Rattle.hs_report.specs.declared.form.Form.TheVariants.{Text as Lines}
 use Rattle.hs_records.specs.Plain.{PlainWorkload}
-use Rattle.hs_streams.specs.Input.{ReadWhole, ReadBeyond, ReadFront}
-use Rattle.hs_streams.specs.Refusals.{IsRefused, too_long_text}
-use Rattle.hs_streams.specs.Written.{GainsFront}
-use Rattle.hs_streams.specs.declared.status.Status.{Status}
-use Rattle.hs_streams.specs.declared.status.Status.TheVariants.{Done, Usage, Refused, ReadFault, WriteFault, Memory, TooLong, Unlawful}
-use Rattle.hs_streams.specs.Statuses.{NoneFailed}
+use Rattle.hs_workload.specs.Input.{ReadWhole, ReadBeyond, ReadFront}
+use Rattle.hs_workload.specs.Refusals.{IsRefused, too_long_text}
+use Rattle.hs_workload.specs.Written.{GainsFront}
+use Rattle.hs_workload.specs.declared.status.Status.{Status}
+use Rattle.hs_workload.specs.declared.status.Status.TheVariants.{Done, Usage, Refused, ReadFault, WriteFault, Memory, TooLong, Unlawful}
+use Rattle.hs_workload.specs.Statuses.{NoneFailed}
 use Rattle.hs_workload.specs.Grammar.{Reads}
 
 -- The text is an outcome of the workload. Its journal is the one that the lockstep schedule writes, and it is lawful.

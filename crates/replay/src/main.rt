@@ -4,7 +4,7 @@
 
 mod replaying;
 
-use hs_streams::{StdinSource, StdoutSink};
+use hs_workload::{StdinSource, StdoutSink};
 use replaying::replay_all;
 use std::process::ExitCode;
 

@@ -3,23 +3,25 @@
 ghost use Rattle.std.specs.Prelude.{◌≡◌, ◌<◌, ◌≤◌, ◌⊎◌, ℕ, List, Some, length, IfOk};
 ghost use Rattle.hs_base.specs.Outside.{Rose};
 ghost use Rattle.hs_base.specs.declared.limits.TheConstants.{MAX_INPUT};
-ghost use Rattle.hs_law_lockstep.specs.Lockstep.{lockstep};
+ghost use Rattle.hs_law_run.specs.Lockstep.{lockstep};
 ghost use Rattle.hs_report.specs.OutcomeText.{outcome_text};
 ghost use Rattle.hs_report.specs.declared.form.Form.TheVariants.{Text};
 ghost use Rattle.hs_records.specs.Plain.{PlainWorkload};
-ghost use Rattle.hs_streams.specs.Input.{ReadFront};
+ghost use Rattle.hs_workload.specs.Input.{ReadFront};
 ghost use Rattle.hs_records.specs.Validity.{IsValid};
 ghost use Rattle.hs_workload.specs.Grammar.{Reads};
 ghost use Rattle.hs_records.specs.Views.{workload_of};
 ghost use Rattle.replay.specs.Endings.{IsAnswer, Ends, Wrote, WroteFront};
 
 use hs_base::{Bytes, Memory, Sink, Source};
-use hs_law_lockstep::laws::schedule_is_lawful;
+use hs_law_run::lockstep_laws::schedule_is_lawful;
 use hs_records::Workload;
 use hs_replay::replay;
 use hs_report::write_lines;
-use hs_streams::{ReadInput, Status, finish, read_all, refusal_line, refuse_too_long};
-use hs_workload::{ReadError, one_workload_a_text, read_workload};
+use hs_workload::{
+    ReadError, ReadInput, Status, finish, one_workload_a_text, read_all, read_workload,
+    refusal_line, refuse_too_long,
+};
 use std::alloc::Global;
 
 /// What is answered for an input.

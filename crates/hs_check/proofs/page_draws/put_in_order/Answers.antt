@@ -5,8 +5,8 @@ use Rattle.std.specs.Ordering.{nat_cmp, is_lt}
 use Rattle.std.proofs.lemmas.Fn.{filter_same as kept_same}
 use Rattle.std.proofs.lemmas.List.Elements.{filter_agree}
 use Rattle.std.proofs.lemmas.List.Sorted.{IsNonDecreasingBy-from_sort_by_key, answers_always}
-use Rattle.hs_lists.proofs.Numbers.{nat_cmp_tie}
-use Rattle.hs_check_clauses.proofs.Sorting.{put_in_order}
+use Rattle.hs_base.proofs.Numbers.{nat_cmp_tie}
+use Rattle.hs_check_follow.proofs.Sorting.{put_in_order}
 use Rattle.hs_check.proofs.page_draws.put_in_order.Goals as goal
 
 -- what ties with a draw of a stamp has that stamp

@@ -1,6 +1,6 @@
 use Rattle.std.proofs.Common.{◌≡◌, List, length, map, sym, refl, ap, subst, ◌∙◌, arith}
 use Rattle.hs_check_follow.proofs.Prelude.{length-map, row_is, Listing, journal_of, Draw, pages_of, Operation, draws_at, place_of, workload_of, operation_of}
-use Rattle.hs_law_sends.specs.Playable.{IsPlayable}
+use Rattle.hs_client.specs.Playable.{IsPlayable}
 use Rattle.hs_check_follow.proofs.Beginning.{place_below, draws_many, draws_each, client_begins}
 use Rattle.hs_check_follow.proofs.making.make_client.Goals as goal
 

@@ -1,7 +1,7 @@
 use Rattle.std.proofs.Common.{List, ap, map, ◌++◌, ◌∙◌}
 use Rattle.std.proofs.lemmas.Result.{IfOk-weaker}
 use Rattle.hs_check_follow.proofs.Prelude.{FollowedClient}
-use Rattle.hs_check_clauses.specs.declared.found.FoundClient.{FoundClient}
+use Rattle.hs_check_follow.specs.declared.found.FoundClient.{FoundClient}
 use Rattle.hs_check_follow.proofs.parting.part_node.Goals as goal
 
 pub returns-clause-found : goal.returns-clause-found

@@ -1,5 +1,5 @@
 use Rattle.std.proofs.Common.{ℕ, List, sym, subst}
-use Rattle.hs_streams.specs.Input.{ReadWhole}
+use Rattle.hs_workload.specs.Input.{ReadWhole}
 use Rattle.hs_cli.proofs.Answering.{found_whole}
 use Rattle.hs_cli.proofs.answer.read.Goals as goal
 

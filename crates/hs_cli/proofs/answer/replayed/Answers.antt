@@ -1,6 +1,6 @@
 use Rattle.std.proofs.Common.{refl}
 use Rattle.std.proofs.lemmas.Result.{IfOk-weaker}
-use Rattle.hs_law_lockstep.specs.Lockstep.{lockstep}
+use Rattle.hs_law_run.specs.Lockstep.{lockstep}
 use Rattle.hs_records.specs.Views.{workload_of}
 use Rattle.hs_cli.proofs.answer.replayed.Goals as goal
 

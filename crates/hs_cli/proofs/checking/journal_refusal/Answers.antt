@@ -1,6 +1,6 @@
 use Rattle.std.proofs.Common.{◌++◌, ℕ, List, [], ◌∷◌, decimal, codes, ap, ◌∙◌}
 use Rattle.hs_journal.specs.Reasons.{reason_text}
-use Rattle.hs_streams.proofs.Lines.{regrouped}
+use Rattle.hs_workload.proofs.Lines.{regrouped}
 use Rattle.hs_cli.proofs.checking.journal_refusal.Goals as goal
 
 pub returns : goal.returns

@@ -6,7 +6,7 @@ use Rattle.hs_records.specs.Views.{workload_of}
 use Rattle.hs_check.specs.Clauses.{number_of}
 use Rattle.hs_check.specs.Verdicts.{IsVerdict}
 use Rattle.hs_check.specs.declared.verdict.Verdict.{Verdict}
-use Rattle.hs_streams.specs.declared.status.Status.TheVariants.{Done, Unlawful}
+use Rattle.hs_workload.specs.declared.status.Status.TheVariants.{Done, Unlawful}
 use Rattle.hs_cli.proofs.Answering.{judged_as}
 use Rattle.hs_cli.proofs.checking.verdict_on.Goals as goal
 

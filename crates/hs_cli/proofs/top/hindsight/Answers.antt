@@ -1,7 +1,7 @@
 use Rattle.std.proofs.Common.{◌≡◌, ◌∙◌, Some, None, map, string_bytes, refl, sym, inl, inr}
 use Rattle.hs_cli.specs.Commands.{command_in, unwatched_in}
 use Rattle.hs_cli.specs.declared.command.Command.TheVariants.{Watch}
-use Rattle.hs_streams.specs.declared.status.Status.TheVariants.{Done, Usage, Refused, TooLong, Unlawful}
+use Rattle.hs_workload.specs.declared.status.Status.TheVariants.{Done, Usage, Refused, TooLong, Unlawful}
 use Rattle.hs_cli.proofs.Clauses.{all_ends, wrote_done, wrote_usage, wrote_refused, wrote_unlawful, wrote_too_long, wrote_front, failed_reading, watch_reads, same_wrote, same_front, same_reading, same_untouched}
 use Rattle.hs_cli.proofs.Completion.{completed}
 use Rattle.hs_cli.proofs.Unwatching.{asked_to_watch, same_unwatched}

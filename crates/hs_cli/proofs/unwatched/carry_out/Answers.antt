@@ -2,8 +2,8 @@ use Rattle.std.proofs.Common.{List, ◌++◌, ℕ, inl, refl, sym, subst, ap₂}
 use Rattle.hs_records.specs.Views.{workload_of}
 use Rattle.hs_cli.specs.Answers.{IsAnswer}
 use Rattle.hs_cli.specs.Endings.{IsAbout, RefusesWorkload}
-use Rattle.hs_streams.specs.Refusals.{too_long_text}
-use Rattle.hs_streams.specs.declared.status.Status.TheVariants.{Refused, TooLong}
+use Rattle.hs_workload.specs.Refusals.{too_long_text}
+use Rattle.hs_workload.specs.declared.status.Status.TheVariants.{Refused, TooLong}
 use Rattle.hs_cli.proofs.EndingLemmas.{answered, finished}
 use Rattle.hs_cli.proofs.unwatched.carry_out.Goals as goal
 

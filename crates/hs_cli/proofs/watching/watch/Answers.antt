@@ -1,9 +1,9 @@
 use Rattle.std.proofs.Common.{List, [], ℕ, inl, refl, sym, subst}
 use Rattle.hs_records.specs.Views.{workload_of}
 use Rattle.hs_cli.specs.Endings.{Due, RefusesWorkload}
-use Rattle.hs_streams.specs.Refusals.{too_long_text}
+use Rattle.hs_workload.specs.Refusals.{too_long_text}
 use Rattle.hs_cli.specs.declared.command.Command.TheVariants.{Watch}
-use Rattle.hs_streams.specs.declared.status.Status.TheVariants.{Done, Refused, TooLong}
+use Rattle.hs_workload.specs.declared.status.Status.TheVariants.{Done, Refused, TooLong}
 use Rattle.hs_cli.proofs.EndingLemmas.{finished}
 use Rattle.hs_cli.proofs.watching.watch.Goals as goal
 

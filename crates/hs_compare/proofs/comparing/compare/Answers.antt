@@ -1,6 +1,6 @@
 use Rattle.std.proofs.Common.{◌≡◌, map, ap, ap₂, ◌∙◌}
 use Rattle.hs_compare.proofs.Prelude.{IfOk-weaker, compared_by, SumsToTail, workload_of, Comparison, comparison_by, coming_of, plain_comparison}
-use Rattle.hs_law_lockstep.specs.Lockstep.{lockstep}
+use Rattle.hs_law_run.specs.Lockstep.{lockstep}
 use Rattle.hs_compare.proofs.Claiming.{traces_in}
 use Rattle.hs_compare.proofs.Few.{records_fit, bytes_fit, ring_fits, named_once}
 use Rattle.hs_compare.proofs.Outcomed.{claims_are_named, compared_is, outcome_beside, sums_to_tail}

@@ -1,7 +1,7 @@
 use Rattle.std.proofs.Common.{◌≡◌, ◌∷◌, [], ◌++◌, Some, ap, ◌∙◌, arith}
 use Rattle.std.proofs.lemmas.Grind.{common_steps}
 use Rattle.hs_compare.proofs.Prelude.{unwrap_or, lookup, on_ok_map, queued}
-use Rattle.hs_lists.proofs.Options.{on_err_map}
+use Rattle.hs_base.proofs.Options.{on_err_map}
 use Rattle.hs_compare.proofs.Firsts.{cond_both}
 use Rattle.hs_compare.proofs.Queued.{is_key, changed}
 use Rattle.hs_compare.proofs.record_queue.add.Goals as goal

@@ -2,7 +2,7 @@ use Rattle.std.proofs.Common.{◌≡◌, List, length, map, sym, ap, subst, ◌�
 use Rattle.hs_compare.proofs.Prelude.{length-map, IfOk-weaker, row_is, Draw, client_at, pages_of, Operation, draws_at, operations_at, workload_of, operation_of, operations_of, Nodes, IsClientScript}
 use Rattle.hs_base.specs.Listing.{Listing}
 use Rattle.hs_records.specs.Journals.{journal_of}
-use Rattle.hs_law_sends.specs.Playable.{IsPlayable}
+use Rattle.hs_client.specs.Playable.{IsPlayable}
 use Rattle.hs_compare.proofs.Beginning.{place_low, draws_many, draws_each}
 use Rattle.hs_compare.proofs.scripts.place_script.Goals as goal
 

@@ -1,5 +1,5 @@
 use Rattle.std.proofs.Common.{◌+◌, drop, Option, sym, ap, ◌∙◌}
-use Rattle.hs_lists.proofs.Parts.{drop_next}
+use Rattle.hs_base.proofs.Parts.{drop_next}
 use Rattle.hs_base.specs.declared.ids.TraceId.{TraceId}
 use Rattle.hs_hub.specs.Ready.{or_else, first_ready}
 use Rattle.hs_hub.proofs.ready.ready_among.Goals as goal

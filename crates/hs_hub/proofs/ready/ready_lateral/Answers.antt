@@ -1,6 +1,6 @@
 use Rattle.std.proofs.Common.{rules, ◌≡◌, ◌<◌, ◌+◌, cond, true, false, length, drop, find, get_or, Some, sym, ap, ◌∙◌, arith}
 use Rattle.std.proofs.lemmas.Option.{slice_get-get_or, same_Some}
-use Rattle.hs_lists.proofs.Parts.{drop_next}
+use Rattle.hs_base.proofs.Parts.{drop_next}
 use Rattle.hs_hub.specs.Ready.{is_ready}
 use Rattle.hs_hub.proofs.ready.ready_lateral.Goals as goal
 

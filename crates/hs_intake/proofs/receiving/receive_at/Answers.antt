@@ -1,6 +1,6 @@
 use Rattle.std.proofs.Common.{get_or}
 use Rattle.std.proofs.lemmas.Option.{IfSome_then}
-use Rattle.hs_lists.proofs.Lent.{lent_from}
+use Rattle.hs_base.proofs.Lent.{lent_from}
 use Rattle.hs_live.proofs.Ports.{received_at}
 use Rattle.hs_intake.proofs.receiving.receive_at.Goals as goal
 

@@ -1,5 +1,5 @@
 use Rattle.std.proofs.Common.{◌+◌, ◌++◌, map, refl, sym, ap, ◌∙◌, arith}
-use Rattle.hs_lists.proofs.Parts.{drop_next}
+use Rattle.hs_base.proofs.Parts.{drop_next}
 use Rattle.hs_journal.specs.Statements.{draw_statement}
 use Rattle.hs_journal.specs.Grammar.{draw_statements, statements_text}
 use Rattle.hs_journal.proofs.Drafts.{draws_at}

@@ -1,6 +1,6 @@
 use Rattle.std.proofs.Common.{arith, ◌∙◌, sym, ap, subst, inl, inr, length, length-append}
 use lib.ListN.{get_elem?}
-use Rattle.hs_lists.proofs.Places.{elem_push_cases}
+use Rattle.hs_base.proofs.Places.{elem_push_cases}
 use Rattle.hs_link.specs.Ring.{put_of}
 use Rattle.hs_link.proofs.Lists.{beginning_short}
 use Rattle.hs_link.proofs.sender.put_or_keep.Goals as goal

@@ -1,5 +1,5 @@
 use Rattle.std.proofs.Common.{arith}
-use Rattle.hs_lists.proofs.Numbers.{nat_le_past}
+use Rattle.hs_base.proofs.Numbers.{nat_le_past}
 use Rattle.hs_node_client.proofs.Ends.{lacked, puts_flushed}
 use Rattle.hs_node_client.proofs.places.flush_for_trigger.Goals as goal
 

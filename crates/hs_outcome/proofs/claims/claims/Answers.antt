@@ -1,7 +1,7 @@
 use Rattle.std.proofs.Common.{[], arith}
 use Rattle.hs_outcome.proofs.Prelude.{all_claimed}
 use Rattle.hs_outcome.proofs.Claimed.{all_claimed_join, one_claimed}
-use Rattle.hs_lists.proofs.Loops.{loop_more}
+use Rattle.hs_base.proofs.Loops.{loop_more}
 use Rattle.hs_outcome.proofs.claims.claims.Goals as goal
 
 pub loop-book-preserved : goal.loop-book-preserved

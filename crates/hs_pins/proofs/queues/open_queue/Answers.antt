@@ -3,7 +3,7 @@ use Rattle.std.proofs.lemmas.Result.{IfOk-weaker}
 use Rattle.hs_pins.proofs.Prelude.{is_some, lookup, set_value, set_value_same, Queues, same_id}
 use Rattle.hs_pins.proofs.GroupLemmas.{nothing-lost}
 use Rattle.hs_pins.proofs.Opened.{set_set, lookup_set}
-use Rattle.hs_lists.proofs.Options.{on_ok_always}
+use Rattle.hs_base.proofs.Options.{on_ok_always}
 use Rattle.hs_pins.proofs.QueueLemmas.{total-opened}
 use Rattle.hs_pins.proofs.queues.open_queue.Goals as goal
 

@@ -1,6 +1,6 @@
 use Rattle.std.proofs.Common.{arith}
 use Rattle.hs_replay.proofs.Prelude.{agents_take, agents_give, Takes}
-use Rattle.hs_law_lockstep.specs.Reaching.{Gives}
+use Rattle.hs_law_run.specs.Reaching.{Gives}
 use Rattle.hs_replay.proofs.Others.{between_start, between_more, between_end}
 use Rattle.hs_replay.proofs.all.pass_all.Goals as goal
 

@@ -1,6 +1,6 @@
 use Rattle.std.proofs.Common.{cond, sym, ap, ◌∙◌}
 use Rattle.hs_replay.proofs.Prelude.{get_there, with_ask}
-use Rattle.hs_lists.proofs.Places.{set_same}
+use Rattle.hs_base.proofs.Places.{set_same}
 use Rattle.hs_replay.proofs.coordinator.ask_if.Goals as goal
 
 pub returns-else-contains : goal.returns-else-contains

@@ -1,6 +1,6 @@
 use Rattle.std.proofs.Common.{◌≡◌, ◌<◌, ◌+◌, [], ◌∷◌, ◌∙◌, refl, ap, sym, arith, length, map, List, subst, length-append}
 use Rattle.hs_replay.proofs.Prelude.{indexed, PlainReplayClient, Operation, PlainSettings, PlainWorkload, settings_of, operations_at, place_of, operation_of, IsNewNode, AreNew}
-use Rattle.hs_law_sends.specs.Playable.{IsPlayable}
+use Rattle.hs_client.specs.Playable.{IsPlayable}
 use Rattle.hs_records.specs.declared.setting.Setting.TheVariants as settings
 use Rattle.hs_replay.proofs.Begun.{one_more_new, player_made}
 use Rattle.hs_replay.proofs.Going.{place_there}

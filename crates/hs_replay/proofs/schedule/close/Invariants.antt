@@ -1,6 +1,6 @@
 use Rattle.std.proofs.Common.{◌-◌, ◌≤◌}
 use Rattle.hs_replay.proofs.Prelude.{HasClosing, behind_rounds, passed, workload_of, AllAt}
-use Rattle.hs_law_lockstep.specs.Lockstep.{closing_limit}
+use Rattle.hs_law_run.specs.Lockstep.{closing_limit}
 use Rattle.hs_replay.proofs.schedule.close.Given as goal
 
 abbrev pub invariant-passes : goal.invariant-passes

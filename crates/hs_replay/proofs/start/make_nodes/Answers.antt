@@ -1,5 +1,5 @@
 use Rattle.std.proofs.Common.{◌+◌, arith, subst, sym, List}
-use Rattle.hs_law_lockstep.specs.Reaching as reaching
+use Rattle.hs_law_run.specs.Reaching as reaching
 use Rattle.hs_replay.proofs.Prelude.{workload_of, AreMade, PlainReplayNode}
 use Rattle.hs_replay.proofs.Started.{one_more_made, none_made}
 use Rattle.hs_replay.proofs.start.make_nodes.Goals as goal

@@ -1,5 +1,5 @@
 use Rattle.std.proofs.Common.{arith}
-use Rattle.hs_lists.proofs.Loops.{loop_more, loop_all}
+use Rattle.hs_base.proofs.Loops.{loop_more, loop_all}
 use Rattle.hs_report.proofs.Loops.{record_lines, record_lines_join}
 use Rattle.hs_report.proofs.text.push_records.Goals as goal
 

@@ -1,8 +1,8 @@
 use Rattle.std.proofs.Common.{◌≡◌, false, [], sym, ◌∙◌, arith}
-use Rattle.hs_lists.proofs.Alls.{all_always}
-use Rattle.hs_lists.proofs.Filters.{filter_none}
+use Rattle.hs_base.proofs.Alls.{all_always}
+use Rattle.hs_base.proofs.Filters.{filter_none}
 use Rattle.hs_report.proofs.Prelude.{TraceId, filter, filter-append, has_entry}
-use Rattle.hs_lists.proofs.Loops.{loop_more_at}
+use Rattle.hs_base.proofs.Loops.{loop_more_at}
 use Rattle.hs_report.proofs.writing.reported_traces.Goals as goal
 
 pub loop-trace-preserved : goal.loop-trace-preserved

@@ -8,7 +8,7 @@ use Rattle.hs_workload.specs.declared.refusal.Reason.TheVariants.{Truncated}
 use Rattle.hs_workload.proofs.Seen.{workload_reader}
 use Rattle.hs_workload.proofs.Keeps.{keeps_fresh, sound}
 use Rattle.hs_workload.proofs.Whole.{first_fault-judged, made_reads}
-use Rattle.hs_workload.proofs.Reading.{IsAt, at_next, stopped}
+use Rattle.hs_workload.proofs.ReaderAnswers.{IsAt, at_next, stopped}
 use Rattle.hs_workload.proofs.reader.read_lines.Goals as goal
 
 pub loop-line-init : goal.loop-line-init

@@ -1,7 +1,7 @@
 use Rattle.std.proofs.Common.{◌≡◌, true, length}
 use Rattle.hs_workload.proofs.Prelude.{IsSound, draft_of}
 use Rattle.hs_text.specs.Tidy.{is_tidy}
-use Rattle.hs_workload.proofs.Reading.{IsAt}
+use Rattle.hs_workload.proofs.ReaderAnswers.{IsAt}
 use Rattle.hs_workload.proofs.reader.read_lines.Given as goal
 
 abbrev pub invariant-loop-line : goal.invariant-loop-line

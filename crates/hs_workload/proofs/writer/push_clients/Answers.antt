@@ -1,7 +1,7 @@
 use Rattle.std.proofs.Common.{◌+◌, ◌/◌, ◌%◌, ◌++◌, map, refl, sym, ap, ◌∙◌, arith}
 use Rattle.hs_workload.proofs.Prelude.{operation_of, operations_of, Start, Operate, client_statements, statements_text}
-use Rattle.hs_lists.proofs.Parts.{drop_next}
-use Rattle.hs_workload.proofs.Writing.{next_lines, no_line}
+use Rattle.hs_base.proofs.Parts.{drop_next}
+use Rattle.hs_workload.proofs.LinesWritten.{next_lines, no_line}
 use Rattle.hs_workload.proofs.writer.push_clients.Goals as goal
 
 pub loop-operations-preserved : goal.loop-operations-preserved

@@ -1,7 +1,7 @@
 use Rattle.std.proofs.Common.{◌++◌, length, map, ap, ◌∙◌, arith}
 use Rattle.hs_workload.proofs.Prelude.{workload_of, operations_of, Declare, auto_statements, client_statements, statements_text}
 use Rattle.std.proofs.lemmas.List.{length-map}
-use Rattle.hs_workload.proofs.Writing.{written, few_clients}
+use Rattle.hs_workload.proofs.LinesWritten.{written, few_clients}
 use Rattle.hs_records.specs.declared.setting.Setting.TheVariants as settings
 use Rattle.hs_workload.proofs.writer.write_workload.Goals as goal
 

@@ -1,5 +1,5 @@
 use Rattle.std.proofs.Common.{refl}
-use Rattle.hs_law_lockstep.specs.Lockstep.{lockstep}
+use Rattle.hs_law_run.specs.Lockstep.{lockstep}
 use Rattle.hs_records.specs.Views.{workload_of}
 use Rattle.replay.proofs.replaying.answer_for.Goals as goal
 

@@ -1,7 +1,7 @@
 use Rattle.std.proofs.Common.{List, ℕ, refl, sym, subst}
-use Rattle.hs_streams.specs.Input.{ReadWhole}
-use Rattle.hs_streams.specs.Refusals.{too_long_text}
-use Rattle.hs_streams.specs.declared.status.Status.TheVariants.{TooLong}
+use Rattle.hs_workload.specs.Input.{ReadWhole}
+use Rattle.hs_workload.specs.Refusals.{too_long_text}
+use Rattle.hs_workload.specs.declared.status.Status.TheVariants.{TooLong}
 use Rattle.replay.specs.Endings.{IsAnswer}
 use Rattle.replay.proofs.Finishing.{due_whole, finished}
 use Rattle.replay.proofs.replaying.call.Goals as goal

@@ -1,5 +1,5 @@
 use Rattle.std.proofs.Common.{◌≡◌, List, length, get_or, subst, sym, ap, ◌∙◌, arith}
-use Rattle.hs_lists.proofs.Lent.{lent_whole_is}
+use Rattle.hs_base.proofs.Lent.{lent_whole_is}
 use Rattle.hs_ring.specs.Parts.{Drawing}
 use Rattle.tests_threads.specs.Seats.{HaveSeats}
 use Rattle.tests_threads.proofs.rings.draw_each.Goals as goal

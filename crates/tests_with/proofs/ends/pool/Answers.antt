@@ -1,6 +1,6 @@
 use Rattle.std.proofs.Common.{◌≡◌, ℕ, List, [], ◌∷◌, length, sym, ap, ◌∙◌, subst, arith}
 use Rattle.std.proofs.lemmas.List.FromFn.{length-map-range_with_len}
-use Rattle.hs_lists.proofs.Parts.{last_of_one}
+use Rattle.hs_base.proofs.Parts.{last_of_one}
 use Rattle.hs_words.specs.Chunks.{Contents, clear_chunk, clear_chunks}
 use Rattle.hs_ring.specs.Parts.{Drawing}
 use Rattle.tests_with.proofs.ends.pool.Goals as goal

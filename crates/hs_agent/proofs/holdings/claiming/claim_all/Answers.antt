@@ -1,7 +1,7 @@
 use Rattle.std.proofs.Common.{◌≡◌, ◌+◌, ◌≤◌, add-one, List, [], ◌∷◌, length, get_or, take, drop, fold, sym, ap, subst, ◌∙◌, arith}
 use Rattle.std.proofs.lemmas.Option.{slice_get-get_or}
 use Rattle.hs_agent.proofs.Prelude.{TraceId, AgentState, claim_unclaimed, with_state}
-use Rattle.hs_lists.proofs.Parts.{take_whole}
+use Rattle.hs_base.proofs.Parts.{take_whole}
 use Rattle.hs_agent.specs.Asking.{IsClaiming}
 use Rattle.hs_agent.proofs.ClaimedAll.{fold-more}
 use Rattle.hs_agent.proofs.Needed.{none-left, next-left}

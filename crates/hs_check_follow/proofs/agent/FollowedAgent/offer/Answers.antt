@@ -1,5 +1,6 @@
 use Rattle.std.proofs.Common.{◌≡◌, List, [], Some, refl, sym, ap, subst, ◌∙◌}
-use Rattle.hs_check_follow.proofs.Prelude.{Follows, after_offer, offered_next, state_of, event_of, Given, Missed, Unread, Gave, Unleased, buffer_of, buffer_in, agent_run}
+use Rattle.hs_check_follow.proofs.Prelude.{Follows, after_offer, offered_next, state_of, Given, Missed, Unread, Gave, Unleased, buffer_of, buffer_in, agent_run}
+use Rattle.hs_law_journal.specs.Following.{event_of}
 use Rattle.std.specs.Prelude.{IfNone}
 use Rattle.hs_check_follow.proofs.Performing.{before, next, none_offered, offer_none, is_offered, was_offered, has_page, ready, back_is, answered, none_given, one_given, named_so}
 use Rattle.hs_check_follow.proofs.agent.FollowedAgent.offer.Goals as goal

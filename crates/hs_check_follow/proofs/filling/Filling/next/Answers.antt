@@ -1,6 +1,6 @@
 use Rattle.std.proofs.Common.{map, subst}
 use Rattle.hs_check_follow.proofs.Prelude.{buffer_of, buffer_in, operation_of, LeftAt}
-use Rattle.hs_lists.proofs.Parts.{map_option_append, map_rest}
+use Rattle.hs_base.proofs.Parts.{map_option_append, map_rest}
 use Rattle.hs_check_follow.proofs.Kept.{match_more, pops}
 use Rattle.hs_check_follow.proofs.filling.Filling.next.Goals as goal
 

@@ -3,7 +3,7 @@ use Rattle.hs_claimed.specs.declared.answers.Claimant.{Claimant}
 use Rattle.hs_claimed.specs.Claims.{PlainClaims, is_the, is_known, is_full_for}
 use Rattle.std.specs.Prelude.{nat_lt}
 use Rattle.std.proofs.lemmas.List.{length_push}
-use Rattle.hs_lists.proofs.Bools.{first_false}
+use Rattle.hs_base.proofs.Bools.{first_false}
 use Rattle.hs_claimed.specs.ClaimsLayout.{AreDistinct}
 use Rattle.hs_claimed.proofs.Groups.{push_distinct}
 use Rattle.hs_claimed.proofs.claims.ClaimedTraces.enter.Goals as goal

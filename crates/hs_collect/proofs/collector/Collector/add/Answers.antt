@@ -2,7 +2,7 @@ use Rattle.std.proofs.Common.{sym, ap, ◌∙◌, subst}
 use Rattle.hs_collect.proofs.Prelude.{AreCollected}
 use Rattle.indexmap.specs.IndexMap.{insert_entry}
 use Rattle.indexmap.proofs.CallerLemmas.{insert_entry-new}
-use Rattle.hs_lists.proofs.Options.{on_ok_map, on_err_map}
+use Rattle.hs_base.proofs.Options.{on_ok_map, on_err_map}
 use Rattle.hs_words.specs.Pages.{sheet_of}
 use Rattle.hs_collect.proofs.Seen.{is_trace}
 use Rattle.hs_collect.proofs.Added.{behind_found, fits_own, collected_found, kept_found, collected_new}

@@ -1,5 +1,5 @@
 use Rattle.std.proofs.Common.{◌≡◌, ◌≤◌, ◌∷◌, ◌++◌, [], arith, refl, ap, subst, ◌∙◌}
-use Rattle.hs_lists.proofs.Counts.{one_if, from_bool_one, one_few}
+use Rattle.hs_base.proofs.Counts.{one_if, from_bool_one, one_few}
 use Rattle.hs_coord.specs.Following.{message}
 use Rattle.hs_coord.specs.Kept.{PlainCoordinator}
 use Rattle.hs_coord.specs.Leading.{Leads}

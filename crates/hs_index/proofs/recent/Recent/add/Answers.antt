@@ -11,7 +11,7 @@ use Rattle.hs_index.specs.Touched.{Touched, listed}
 use Rattle.hs_index.proofs.Listed.{count-listed, find-missing}
 use Rattle.std.proofs.lemmas.List.{length-append}
 use Rattle.std.proofs.lemmas.Result.{on_ok_weaker, on_err_weaker}
-use Rattle.hs_lists.proofs.Options.{on_err_always}
+use Rattle.hs_base.proofs.Options.{on_err_always}
 use Rattle.hs_index.proofs.Touching.{noted-found, noted-missing, touch-missing, touch-found, length-touched, count-touched, count-with_chunk}
 use Rattle.hs_index.proofs.recent.Recent.add.Goals as goal
 

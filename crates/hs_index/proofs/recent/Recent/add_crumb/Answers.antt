@@ -3,7 +3,7 @@ use Rattle.std.specs.Prelude.{sum_by}
 use Rattle.std.proofs.lemmas.Result.{on_ok_weaker}
 use Rattle.std.specs.Map.{values_of, lookup, set_value}
 use Rattle.lru.specs.LruCache.{LruCache, promoted}
-use Rattle.hs_lists.proofs.Options.{on_err_always, on_ok_always}
+use Rattle.hs_base.proofs.Options.{on_err_always, on_ok_always}
 use Rattle.hs_base.specs.declared.ids.TraceId.{TraceId}
 use Rattle.hs_base.specs.Ids.{same_trace}
 use Rattle.hs_index.specs.Index.{PlainIndexedTrace, Indexed, is_of, noted_of, touch, with_crumb, chunk_count, count_chunks}

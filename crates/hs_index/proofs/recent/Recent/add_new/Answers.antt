@@ -1,6 +1,6 @@
 use Rattle.std.proofs.Common.{◌≡◌, [], ◌∷◌, ◌++◌, List, length, refl, sym, ap, ◌∙◌, arith}
-use Rattle.hs_lists.proofs.Options.{on_err_always}
-use Rattle.hs_lists.proofs.Parts.{last_of_one}
+use Rattle.hs_base.proofs.Options.{on_err_always}
+use Rattle.hs_base.proofs.Parts.{last_of_one}
 use Rattle.hs_words.specs.Buffers.{buffer_of}
 use Rattle.hs_index.specs.Index.{PlainIndexedTrace, with_chunk, chunk_count}
 use Rattle.hs_index.specs.Touched.{indexed}

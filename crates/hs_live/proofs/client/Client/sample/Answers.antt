@@ -1,7 +1,7 @@
 use Rattle.std.proofs.Common.{◌≡◌, List, map, get_or, sym, ap, ◌∙◌, subst}
 use Rattle.hs_live.proofs.Prelude.{append-nil, lent, lent_is, Sample, Watch, sent, Done, PlainClient, Does, live_of}
 use Rattle.hs_auto.specs.declared.sampled.Sampled.TheVariants.{Quiet, Fired}
-use Rattle.hs_law_sends.proofs.Sampling.{rules_set}
+use Rattle.hs_client.proofs.Sampling.{rules_set}
 use Rattle.hs_live.specs.Calls.{IsAutoOf}
 use Rattle.hs_live.proofs.Samples.{is_found, sample_done}
 use Rattle.hs_link.specs.Contents.{TakesPlaces}

@@ -1,7 +1,7 @@
 use Rattle.std.proofs.Common.{◌≡◌, true, ◌++◌, map, length, sym, ap, subst, ◌∙◌, arith}
 use Rattle.hs_pins.proofs.Prelude.{length-map, buffer_of, pin_of, comes_back, arrived, Remembers}
 use Rattle.hs_pins.specs.Abandoning.{drops}
-use Rattle.hs_lists.proofs.Options.{on_ok_always}
+use Rattle.hs_base.proofs.Options.{on_ok_always}
 use Rattle.std.proofs.lemmas.Result.{IfOk-weaker}
 use Rattle.hs_pins.proofs.Receiving.{received-back, goes_few, goes-back, goes-stays, came, goes_none, stays_so, still_marked, gave_way}
 use Rattle.hs_pins.proofs.Remembering.{queue_there, claim_is, back_is, arrived-back}

@@ -1,6 +1,6 @@
 use Rattle.std.proofs.Common.{◌≡◌, [], subst, sym, ◌∙◌}
 use Rattle.hs_replay.proofs.Prelude.{Input, ghosts, replay_node_in, PlainReplayNode, IsAmid}
-use Rattle.hs_lists.proofs.Parts.{nil_of_rest}
+use Rattle.hs_base.proofs.Parts.{nil_of_rest}
 use Rattle.hs_agent.specs.declared.input.Input.TheVariants as inputs
 use Rattle.hs_records.specs.declared.journal.Step.TheVariants as steps
 use Rattle.hs_replay.specs.declared.queue.Queue.TheVariants as queues

@@ -1,7 +1,7 @@
 use Rattle.std.proofs.Common.{◌≡◌, List, [], ◌∷◌, ◌++◌, length, map, get_or, sym, ap, ap₂, ◌∙◌, subst, arith}
 use Rattle.hs_replay_client.proofs.Prelude.{map-append, take_all, AllByRecursion, Watch, HasSampled, AutoRule, buffer_of, operation_of, new_core, Working, working_in}
 use Rattle.std.proofs.lemmas.List.{take_more}
-use Rattle.hs_lists.proofs.Alls.{all_push}
+use Rattle.hs_base.proofs.Alls.{all_push}
 use Rattle.hs_base.specs.declared.settings.AutoRule.TheVariants.{Exception}
 use Rattle.hs_records.specs.Plain.{settings_of}
 use Rattle.hs_replay_client.proofs.Making.{new_at}

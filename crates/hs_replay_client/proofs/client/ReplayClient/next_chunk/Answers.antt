@@ -1,6 +1,6 @@
 use Rattle.std.proofs.Common.{map, subst}
 use Rattle.hs_replay_client.proofs.Prelude.{buffer_of, PlainReplayClient, replay_client_in, TakesChunk}
-use Rattle.hs_lists.proofs.Parts.{map_option_append, map_rest}
+use Rattle.hs_base.proofs.Parts.{map_option_append, map_rest}
 use Rattle.hs_words.specs.Buffers.{buffer_in}
 use Rattle.hs_replay_client.proofs.Taking.{takes_chunk}
 use Rattle.hs_replay_client.proofs.client.ReplayClient.next_chunk.Goals as goal

@@ -1,7 +1,7 @@
 use Rattle.std.proofs.Common.{get_or, sym, ap, ◌∙◌}
 use Rattle.hs_replay_client.proofs.Prelude.{append-nil, fired_by, working_in}
 use Rattle.std.proofs.lemmas.Option.{get_or_from_slice_get}
-use Rattle.hs_lists.proofs.Lent.{lent, lent_is}
+use Rattle.hs_base.proofs.Lent.{lent, lent_is}
 use Rattle.hs_auto.specs.declared.sampled.Sampled.TheVariants.{Quiet, Fired}
 use Rattle.hs_replay_client.proofs.Samples.{is_found, sample_done}
 use Rattle.hs_replay_client.proofs.doing.Doing.sample.Goals as goal

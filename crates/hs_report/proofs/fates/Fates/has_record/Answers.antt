@@ -1,6 +1,6 @@
 use Rattle.std.proofs.Common.{not, eqb, length, ap, ◌∙◌}
 use Rattle.hs_report.proofs.Prelude.{is_of}
-use Rattle.hs_lists.proofs.Filters.{any_filtered}
+use Rattle.hs_base.proofs.Filters.{any_filtered}
 use Rattle.hs_report.proofs.fates.Fates.has_record.Goals as goal
 
 pub returns : goal.returns

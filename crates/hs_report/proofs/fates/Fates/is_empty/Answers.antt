@@ -2,7 +2,7 @@ use Rattle.std.proofs.Common.{◌≡◌, List, [], not, eqb, length, ap, sym, �
 use Rattle.std.proofs.lemmas.List.{nil_from_length}
 use Rattle.std.proofs.lemmas.Bool.{eqb-true}
 use Rattle.hs_report.proofs.Prelude.{filter, Entry, is_of}
-use Rattle.hs_lists.proofs.Filters.{any_filtered}
+use Rattle.hs_base.proofs.Filters.{any_filtered}
 use Rattle.hs_report.proofs.fates.Fates.is_empty.Goals as goal
 
 pub returns : goal.returns

@@ -1,6 +1,6 @@
 use Rattle.std.proofs.Common.{get_or, ap, length, sym, subst, arith}
 use Rattle.hs_run.proofs.Prelude.{lent_is, lent_from, client_of, PlainNodeActors, NodeActorsStand, operations_at, place_of, site_of, MeetsOne}
-use Rattle.hs_lists.proofs.Lent.{lent}
+use Rattle.hs_base.proofs.Lent.{lent}
 use Rattle.hs_run.proofs.FewTaken.{few_clients}
 use Rattle.hs_run.proofs.node_actors.NodeActors.meet_one.Goals as goal
 

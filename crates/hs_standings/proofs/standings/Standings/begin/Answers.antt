@@ -1,7 +1,7 @@
 use Rattle.std.proofs.Common.{◌≡◌, Some, sym, ap, ◌∙◌, arith}
 use Rattle.std.specs.Map.{set_value}
 use Rattle.std.proofs.lemmas.Map.Steps.{set_value_same}
-use Rattle.hs_lists.proofs.Options.{on_err_always}
+use Rattle.hs_base.proofs.Options.{on_err_always}
 use Rattle.hs_standings.specs.Standing.{Lives, Books, PlainStandings, same_id, lives_of, count_in}
 use Rattle.hs_standings.proofs.Counting.{count-set, latest-among}
 use Rattle.hs_standings.proofs.standings.Standings.begin.Goals as goal

@@ -1,8 +1,8 @@
 use Rattle.std.proofs.Common.{rules, Fits, w64, ◌≡◌, ◌+◌, [], length, Option, Some, unwrap_or, sym, ap, ◌∙◌, arith}
 use Rattle.std.specs.Map.{set_value}
 use Rattle.std.proofs.lemmas.Map.Steps.{set_value_same}
-use Rattle.hs_lists.proofs.Bools.{first_false}
-use Rattle.hs_lists.proofs.Options.{on_err_always}
+use Rattle.hs_base.proofs.Bools.{first_false}
+use Rattle.hs_base.proofs.Options.{on_err_always}
 use Rattle.hs_base.specs.Ids.{same_trace}
 use Rattle.hs_traces.specs.Parts.{Pages, has_key}
 use Rattle.hs_traces.specs.Traces.{Parts, PlainTraces, part_of, bytes_in, held_bytes, has_page_in}

@@ -1,0 +1,5 @@
+use Rattle.hs_client.proofs.Within.{first_triggers}
+use Rattle.hs_client.proofs.sending_laws.the_first_triggers_are_sent.Goals as goal
+
+pub returns : goal.returns
+returns c = first_triggers

@@ -1,5 +1,0 @@
-use Rattle.hs_law_lockstep.proofs.Fitting.{agents_give_so}
-use Rattle.hs_law_lockstep.proofs.laws.agents_give_so.Goals as goal
-
-pub returns : goal.returns
-returns c = agents_give_so c.known.ensures c.valid_workloads_run.ensures

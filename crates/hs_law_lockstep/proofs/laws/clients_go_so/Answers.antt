@@ -1,5 +1,0 @@
-use Rattle.hs_law_lockstep.proofs.Fitting.{clients_go_so}
-use Rattle.hs_law_lockstep.proofs.laws.clients_go_so.Goals as goal
-
-pub returns : goal.returns
-returns c = clients_go_so c.known.ensures c.valid_workloads_run.ensures

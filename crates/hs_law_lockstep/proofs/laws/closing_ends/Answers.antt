@@ -1,5 +1,0 @@
-use Rattle.hs_law_lockstep.proofs.Ending.{closing_ends}
-use Rattle.hs_law_lockstep.proofs.laws.closing_ends.Goals as goal
-
-pub returns : goal.returns
-returns c = closing_ends c.schedule_is_bare.ensures c.pieces_are_counted.ensures c.valid_workloads_run.ensures

@@ -1,5 +1,0 @@
-use Rattle.hs_law_lockstep.proofs.Hearing.{coordinator_hears_so}
-use Rattle.hs_law_lockstep.proofs.laws.coordinator_hears_so.Goals as goal
-
-pub returns : goal.returns
-returns c = coordinator_hears_so c.known.ensures

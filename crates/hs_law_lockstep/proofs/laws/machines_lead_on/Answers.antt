@@ -1,5 +1,0 @@
-use Rattle.hs_law_lockstep.proofs.Standing.{machines_lead_on}
-use Rattle.hs_law_lockstep.proofs.laws.machines_lead_on.Goals as goal
-
-pub returns : goal.returns
-returns c = machines_lead_on

@@ -1,5 +1,0 @@
-use Rattle.hs_law_lockstep.proofs.Ending.{rounds_end}
-use Rattle.hs_law_lockstep.proofs.laws.rounds_end.Goals as goal
-
-pub returns : goal.returns
-returns c = rounds_end c.known.ensures c.valid_workloads_run.ensures

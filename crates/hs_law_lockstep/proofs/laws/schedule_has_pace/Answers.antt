@@ -1,5 +1,0 @@
-use Rattle.hs_law_lockstep.proofs.Lawful.{schedule_has_pace}
-use Rattle.hs_law_lockstep.proofs.laws.schedule_has_pace.Goals as goal
-
-pub returns : goal.returns
-returns c = schedule_has_pace c.known.ensures c.the_first_operations_send.ensures c.the_first_chunks_are_sent.ensures c.doings_are_in_pace.ensures

@@ -1,5 +1,0 @@
-use Rattle.hs_law_lockstep.proofs.Valid.{valid_workloads_run}
-use Rattle.hs_law_lockstep.proofs.laws.valid_workloads_run.Goals as goal
-
-pub returns : goal.returns
-returns c = valid_workloads_run

@@ -1,5 +1,0 @@
-use Rattle.hs_law_sends.proofs.Within.{all_chunks, all_crumbs, all_triggers}
-use Rattle.hs_law_sends.proofs.laws.all_is_sent_in_the_end.Goals as goal
-
-pub returns : goal.returns
-returns c = record { chunks = all_chunks c.timed_pages_are_timely.ensures; crumbs = all_crumbs; triggers = all_triggers }

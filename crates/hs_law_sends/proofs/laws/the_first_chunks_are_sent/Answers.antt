@@ -1,5 +1,0 @@
-use Rattle.hs_law_sends.proofs.Within.{first_chunks}
-use Rattle.hs_law_sends.proofs.laws.the_first_chunks_are_sent.Goals as goal
-
-pub returns : goal.returns
-returns c = first_chunks c.pages_carry_the_records.ensures

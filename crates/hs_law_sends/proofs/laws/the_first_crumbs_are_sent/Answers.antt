@@ -1,5 +1,0 @@
-use Rattle.hs_law_sends.proofs.Within.{first_crumbs}
-use Rattle.hs_law_sends.proofs.laws.the_first_crumbs_are_sent.Goals as goal
-
-pub returns : goal.returns
-returns c = first_crumbs

@@ -1,5 +1,0 @@
-use Rattle.hs_law_sends.proofs.FirstOperations.{first_operations_send}
-use Rattle.hs_law_sends.proofs.laws.the_first_operations_send.Goals as goal
-
-pub returns : goal.returns
-returns c = first_operations_send c.pages_carry_the_records.ensures

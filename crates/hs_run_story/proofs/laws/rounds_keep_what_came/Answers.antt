@@ -1,5 +1,0 @@
-use Rattle.hs_run_story.proofs.Coming.{rounds_keep_what_came}
-use Rattle.hs_run_story.proofs.laws.rounds_keep_what_came.Goals as goal
-
-pub returns : goal.returns
-returns c = rounds_keep_what_came

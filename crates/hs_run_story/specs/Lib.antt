@@ -1,9 +1,0 @@
-pub mod RunStates
-pub mod Acting
-pub mod Meeting
-pub mod Moving
-pub mod Coming
-pub mod Spans
-pub mod Closing
-pub mod Laws
-pub mod Noting
