@@ -129,7 +129,7 @@ size_t LLVMFuzzerCustomMutator(uint8_t *bytes, size_t len, size_t most, unsigned
 size_t LLVMFuzzerCustomMutator(uint8_t *bytes, size_t len, size_t most, unsigned seed) {
     static const char *const entries[] = {"hind=1-00a3", "a=1", "k@v=x y", "hind=2-0001", " b=2 ", "", "long=vvvvvvvvvvvvvvvvvvvvvvvvvvvvvvvvvvvvvvvvvvvvvvvvvvvvvvvvvvvvvvvvvvvvvvvvvvvvvvvvvvvvvvvvvvvvvvvvvvvvvvvvvvvvvvvvvvvvvvvvvvvvvvvvvvvvvvv"};
     if (seed & 1 || most < 1500) return LLVMFuzzerMutate(bytes, len, most);
-    len = (size_t)sprintf((char *)bytes, "00-%032x-%016x-%02x\n", seed | 2, seed | 4, seed >> 3 & 255);
-    for (unsigned n = seed >> 5 & 31; n && len + 200 < 1500; n--) len += (size_t)sprintf((char *)bytes + len, "%s,", entries[(seed = seed * 1664525u + 1013904223u) >> 16 & 0xffff ? (seed >> 20) % 7 : 0]);
+    len = (size_t)snprintf((char *)bytes, most, "00-%032x-%016x-%02x\n", seed | 2, seed | 4, seed >> 3 & 255);
+    for (unsigned n = seed >> 5 & 31; n && len + 200 < 1500; n--) len += (size_t)snprintf((char *)bytes + len, most - len, "%s,", entries[(seed = seed * 1664525u + 1013904223u) >> 16 & 0xffff ? (seed >> 20) % 7 : 0]);
     return seed & 2 ? len : LLVMFuzzerMutate(bytes, len, most);
 }

@@ -1112,11 +1112,11 @@ static void settings_by_seed(void) {
         life.claims = 1 + below(60), life.pool = 100 + below(200);
     }
     may_go_blind = one_in(10);
-    sprintf(text,
-            "nodes %u\nclients %u\nbuffers %u\nsize %u\nthreshold %u\ntraces %u\npins %u\nbacklog %u\nclaims %u\nremember %u\n"
-            "triggerid 1 3 %u %u\ntriggerid 9 1 %u %u\ntriggerid 64 100 %u %u\nauto 0 exception 1\nauto 1 queue 9 %u %u %u\n",
-            life.nodes, life.clients, life.buffers, life.size, life.threshold, life.traces, life.pins, life.backlog, life.claims, life.remember, life.bursts[0], life.rates[0],
-            life.bursts[1], life.rates[1], life.bursts[2], life.rates[2], life.window, life.share, life.laterals);
+    snprintf(text, sizeof text,
+             "nodes %u\nclients %u\nbuffers %u\nsize %u\nthreshold %u\ntraces %u\npins %u\nbacklog %u\nclaims %u\nremember %u\n"
+             "triggerid 1 3 %u %u\ntriggerid 9 1 %u %u\ntriggerid 64 100 %u %u\nauto 0 exception 1\nauto 1 queue 9 %u %u %u\n",
+             life.nodes, life.clients, life.buffers, life.size, life.threshold, life.traces, life.pins, life.backlog, life.claims, life.remember, life.bursts[0], life.rates[0],
+             life.bursts[1], life.rates[1], life.bursts[2], life.rates[2], life.window, life.share, life.laterals);
 }
 
 static void forget_all(void) {
